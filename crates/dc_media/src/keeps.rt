@@ -1,0 +1,54 @@
+ghost use Rattle.std.specs.Prelude.{◌≡◌, ◌≢◌, ◌<◌, ◌^◌, List, ℕ, Option, length, IfSome, OnOk, OnErr, slice_index, replicate};
+ghost use Rattle.dc_media.specs.Causes.{IsCaused, IsMade};
+ghost use Rattle.dc_media.specs.Stores.{SetsWord};
+ghost use Rattle.dc_media.specs.Told.{TellsOn, IsSameStore};
+
+use crate::{DeviceFault, MakeFault, STORES};
+use std::alloc::Global;
+
+/// Stores of words, written through: what is stored stays, in the order of the calls.
+///
+/// Each process has the store of its number. A call touches that store and its counts alone.
+pub trait Keeps {
+    /// The words of a store, where they are told.
+    ghost told: { Self → ℕ → Option (List ℕ) };
+
+    /// How many words a store has, told or not.
+    ghost extent: { Self → ℕ → ℕ };
+
+    /// How many calls on a store were stopped.
+    ghost stops: { Self → ℕ → ℕ };
+
+    /// How many calls on a store failed.
+    ghost faults: { Self → ℕ → ℕ };
+
+    /// Makes a store of zeros.
+    fn format(&mut self, alloc: Global, p: u32, words: u32) -> Result<(), MakeFault>
+        requires { p < STORES }
+        ensures extent { OnOk result (extent self.new p ≡ words) }
+        ensures refused { OnErr result (extent self.new p ≡ extent self.old p) }
+        ensures zeros { OnOk result (IfSome (told self.new p) (λ ws. ws ≡ replicate words 0)) }
+        ensures tells { TellsOn (stops self.new p) (faults self.new p) (told self.old p) (told self.new p) }
+        ensures cause { IsMade (stops self.old p) (stops self.new p) (faults self.old p) (faults self.new p) result }
+        ensures others { (q : ℕ) → q ≢ p → IsSameStore told extent stops faults self.old self.new q };
+
+    /// The word at an index.
+    fn load(&self, p: u32, i: u32) -> u32
+        requires { i < extent self.now p }
+        ensures { IfSome (told self.now p) (λ ws. result ≡ slice_index ws i) };
+
+    /// Sets the word at an index. A refused call leaves it old or new.
+    fn store(&mut self, p: u32, i: u32, w: u32) -> Result<(), DeviceFault>
+        requires { i < extent self.old p }
+        ensures extent { extent self.new p ≡ extent self.old p }
+        ensures word { SetsWord i w result (told self.old p) (told self.new p) }
+        ensures tells { TellsOn (stops self.new p) (faults self.new p) (told self.old p) (told self.new p) }
+        ensures cause { IsCaused (stops self.old p) (stops self.new p) (faults self.old p) (faults self.new p) result }
+        ensures others { (q : ℕ) → q ≢ p → IsSameStore told extent stops faults self.old self.new q };
+
+    /// A told store has its extent.
+    ghost told_extent: { (s : Self) (p : ℕ) → IfSome (told s p) (λ ws. length ws ≡ extent s p) };
+
+    /// An index of a word fits 32 bits.
+    ghost extent_fits: { (s : Self) (p : ℕ) → extent s p < 2 ^ 32 };
+}

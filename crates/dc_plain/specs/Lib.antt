@@ -1,0 +1,11 @@
+pub mod Bits
+pub mod Machine
+pub mod Image
+pub mod World
+pub mod Guest
+pub mod Plain
+pub mod Lines
+pub mod Drawn
+pub mod Core
+pub mod Headline
+pub mod Led

@@ -1,0 +1,23 @@
+//! The failure-free world of the guests: what a machine does next, what a list of acts makes of the guests,
+//! which records are visible, and what one entry of a schedule may do to a run.
+#![tactic(auto)]
+
+mod act;
+mod entry;
+mod laws;
+mod line;
+mod machine;
+mod mark;
+#[cfg(test)]
+mod tests;
+mod visible;
+
+pub use act::{Act, Taken};
+pub use entry::Entry;
+pub use laws::{
+    files_hold_their_code, marks_lead_to_runs, reports_tell_runs, words_decode_by_the_table,
+};
+pub use line::{Line, line_of};
+pub use machine::{Call, Instr, Next};
+pub use mark::{Idle, Mark};
+pub use visible::{Body, Text, Visible};

@@ -1,0 +1,121 @@
+-- A run that has used up its schedule, or broken off, keeps the promise.
+use Rattle.std.proofs.Common.{◌≡◌, ◌≢◌, ◌∙◌, ◌≤◌, ℕ, zero, suc, true, false, List, [], ◌∷◌, ◌++◌, length, reverse, take, Option, Some, ap, sym, subst, refl, arith}
+use Rattle.std.proofs.lemmas.List.{append-nil, reverse-append, reverse-reverse, length-reverse}
+use Rattle.dc_media.proofs.Becoming.{Becomes-weaker}
+use Rattle.dc_plain.specs.Drawn.{Drawn}
+use Rattle.dc_plain.specs.Guest.{Guest, coming, event_of}
+use Rattle.dc_plain.specs.Headline.{RepeatsEqual}
+use Rattle.dc_plain.specs.Led.{IsLed}
+use Rattle.dc_plain.specs.Lines.{text_of, visible_line}
+use Rattle.dc_plain.specs.Machine.{Machine, next_of}
+use Rattle.dc_plain.specs.Plain.{World, run, thin, world_of}
+use Rattle.dc_plain.specs.World.{Local}
+use Rattle.dc_plain.specs.World.Event.{AtEnd}
+use Rattle.dc_plain.specs.declared.act.Taken.{Taken}
+use Rattle.dc_plain.specs.declared.entry.Entry.{Entry}
+use Rattle.dc_plain.specs.declared.machine.Call.TheVariants.{Exit, Output, BadArgument, Unknown}
+use Rattle.dc_plain.specs.declared.machine.Next.{Next}
+use Rattle.dc_plain.specs.declared.machine.Next.TheVariants.{Retire, Raise, Ask}
+use Rattle.dc_plain.specs.declared.mark.Mark.{Mark}
+use Rattle.dc_plain.specs.declared.mark.Mark.TheVariants as mark
+use Rattle.dc_plain.proofs.Leading.{leads_follow, leads_well, stands_last}
+use Rattle.dc_run.specs.Opening.{Setting}
+use Rattle.dc_run.specs.Running.{RunsAs, TornAs, IsRunning, IsTorn}
+use Rattle.dc_run.specs.declared.outcome.Outcome.{Outcome}
+use Rattle.dc_run.specs.declared.world.World.{World as World'}
+use Rattle.dc_run.specs.Headline.{guests, AllEnded, SomeRuns, IsEnding, IsHeadline}
+use Rattle.dc_run.specs.declared.verdict.Outlet.{Outlet}
+use Rattle.dc_run.specs.declared.verdict.Verdict.{Verdict}
+use Rattle.dc_run.specs.declared.verdict.Verdict.TheVariants.{Done, Unfinished, SinkFault}
+
+live_or_not : (g : Guest) → g.ended ≡ false → coming g ≢ AtEnd
+live_or_not g live at = goes_on (next_of g.machine) g.machine (rw live at at)
+  where
+    goes_on : (n : Next) (m : Machine) → event_of n m ≢ AtEnd
+    goes_on (Retire i) m e = cc
+    goes_on (Raise cause) m e = cc
+    goes_on (Ask (Exit code)) m e = cc
+    goes_on (Ask (Output from count)) m e = cc
+    goes_on (Ask BadArgument) m e = cc
+    goes_on (Ask Unknown) m e = cc
+
+-- the end of a run without a fault
+module _ (setting : Setting) (guest : Guest) (shown : ℕ) (acts : List Taken) (marks : List Mark) (lines : ℕ) (before after : Option (List ℕ))
+    (r : RunsAs (guests setting) setting.schedule guest shown acts marks lines before after) (used : length marks ≡ length setting.schedule) where
+  abbrev well : IsLed (guests setting) setting.schedule (reverse marks) r.core
+  well = leads_well (guests setting) setting.schedule (reverse marks) r.core r.led
+
+  abbrev world : World Guest
+  world = world_of (guests setting) r.core.acts
+
+  guest_there : (world.procs 0).machine ≡ guest
+  guest_there = ap (λ (l : Local Guest). l.machine) (sym (stands_last (guests setting) r.core 0 ((leads_follow (guests setting) setting.schedule (reverse marks) r.core r.led).at_end 0))) ∙ r.guest_is
+
+  all_ended : guest.ended ≡ true → AllEnded (guests setting) world
+  all_ended ended zero first = ap coming guest_there ∙ rw ended refl
+  all_ended ended (suc p) past = absurd (omega arith)
+
+  some_runs : guest.ended ≡ false → SomeRuns (guests setting) world
+  some_runs live = (0, omega arith, λ at. live_or_not guest live (sym (ap coming guest_there) ∙ at))
+
+  kept : (verdict : Verdict) → IsEnding (guests setting) setting.schedule verdict marks world [] → IsHeadline setting verdict acts marks lines before after
+  kept verdict ending = record {
+    world = world;
+    core = r.core;
+    whole = reverse r.core.lines;
+    torn = [];
+    acts_run = subst (λ (xs : List Taken). run (guests setting) xs ≡ Some world) r.acts_are well.acts_run;
+    acts_drawn = subst (Drawn 1 setting.schedule) r.acts_are well.acts_drawn;
+    lines_shown = record {
+      count = length-reverse r.core.lines ∙ r.count;
+      thinned = ap thin (append-nil (reverse r.core.lines)) ∙ well.lines_shown;
+      written = Becomes-weaker before after _ _ (λ x y wrote. (0, omega arith, wrote ∙ sym (append-nil (x ++ text_of (reverse r.core.lines))))) r.shows;
+    };
+    repeats_equal = subst (RepeatsEqual setting.schedule (reverse marks)) (sym (ap reverse (append-nil (reverse r.core.lines)) ∙ reverse-reverse r.core.lines)) well.repeats_equal;
+    core_led = record { led = r.led; acts_are = r.acts_are; lines_are = sym (append-nil (reverse r.core.lines)) };
+    ending = ending;
+  }
+
+  pub is_done : guest.ended ≡ true → IsHeadline setting Done acts marks lines before after
+  is_done ended = kept Done (used, refl, all_ended ended)
+
+  pub is_unfinished : guest.ended ≡ false → IsHeadline setting Unfinished acts marks lines before after
+  is_unfinished live = kept Unfinished (used, refl, some_runs live)
+
+-- a run whose line was cut off
+pub is_cut_off : (setting : Setting) (outlet : Outlet) (acts : List Taken) (marks : List Mark) (lines : ℕ) (before after : Option (List ℕ))
+    → TornAs (guests setting) setting.schedule acts marks lines before after → IsHeadline setting (SinkFault outlet) acts marks lines before after
+is_cut_off setting outlet acts marks lines before after t =
+    let well : IsLed (guests setting) setting.schedule (mark.Showed t.torn.k ∷ reverse marks) t.core = leads_well (guests setting) setting.schedule (mark.Showed t.torn.k ∷ reverse marks) t.core t.led in
+    let records : reverse t.core.lines ≡ reverse t.whole ++ t.torn ∷ [] = ap reverse t.lines_are ∙ reverse-append (t.torn ∷ []) t.whole in
+    let back : reverse (reverse t.whole ++ t.torn ∷ []) ≡ t.core.lines = sym (ap reverse records) ∙ reverse-reverse t.core.lines in
+    record {
+      world = world_of (guests setting) t.core.acts;
+      core = t.core;
+      whole = reverse t.whole;
+      torn = t.torn ∷ [];
+      acts_run = subst (λ (xs : List Taken). run (guests setting) xs ≡ Some (world_of (guests setting) t.core.acts)) t.acts_are well.acts_run;
+      acts_drawn = subst (Drawn 1 setting.schedule) t.acts_are well.acts_drawn;
+      lines_shown = record {
+        count = length-reverse t.whole ∙ t.count;
+        thinned = ap thin (sym records) ∙ well.lines_shown;
+        written = Becomes-weaker before after _ _ (λ x y wrote. (t.shows.0, subst (λ (text : List ℕ). t.shows.0 ≤ length text) (sym (append-nil (visible_line t.torn))) t.shows.1, wrote ∙ ap (λ text. x ++ text_of (reverse t.whole) ++ take t.shows.0 text) (sym (append-nil (visible_line t.torn))))) t.shows.2;
+      };
+      repeats_equal = subst (RepeatsEqual setting.schedule (mark.Showed t.torn.k ∷ reverse marks)) (sym back) well.repeats_equal;
+      core_led = record { led = t.led; acts_are = t.acts_are; lines_are = records };
+      ending = (t.early, refl);
+    }
+
+-- as the code says it: the outcome holds what the world had, and the schedule is the setting's
+module _ (setting : Setting) (schedule : List Entry) (is : schedule ≡ setting.schedule) (w : World') (o : Outcome) (before after : Option (List ℕ)) where
+  pub told_done : o ≡ record { verdict = Done; acts = w.acts; marks = w.marks; lines = w.lines } → IsRunning (guests setting) schedule w before after → length w.marks.items ≡ length schedule → w.guest.ended ≡ true
+      → IsHeadline setting o.verdict o.acts.items o.marks.items o.lines before after
+  told_done o_is r used ended = rw o_is (is_done setting w.guest w.shown w.acts.items w.marks.items w.lines before after (subst (λ (s : List Entry). IsRunning (guests setting) s w before after) is r) (used ∙ ap length is) ended)
+
+  pub told_unfinished : o ≡ record { verdict = Unfinished; acts = w.acts; marks = w.marks; lines = w.lines } → IsRunning (guests setting) schedule w before after → length w.marks.items ≡ length schedule → w.guest.ended ≡ false
+      → IsHeadline setting o.verdict o.acts.items o.marks.items o.lines before after
+  told_unfinished o_is r used live = rw o_is (is_unfinished setting w.guest w.shown w.acts.items w.marks.items w.lines before after (subst (λ (s : List Entry). IsRunning (guests setting) s w before after) is r) (used ∙ ap length is) live)
+
+  pub told_cut_off : (outlet : Outlet) → o ≡ record { verdict = SinkFault outlet; acts = w.acts; marks = w.marks; lines = w.lines } → IsTorn (guests setting) schedule w before after
+      → IsHeadline setting o.verdict o.acts.items o.marks.items o.lines before after
+  told_cut_off outlet o_is t = rw o_is (is_cut_off setting outlet w.acts.items w.marks.items w.lines before after (subst (λ (s : List Entry). IsTorn (guests setting) s w before after) is t))

@@ -1,0 +1,6 @@
+mod PlanTexts
+mod ScheduleTexts
+mod ImageTexts
+mod Turns
+mod Openings
+mod Headlines

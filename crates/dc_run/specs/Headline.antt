@@ -1,0 +1,80 @@
+-- What a call of the program promises of a run that was opened.
+use Rattle.std.specs.Prelude.{◌≡◌, ◌≢◌, ◌⊎◌, ◌<◌, ◌≤◌, ℕ, true, List, [], ◌∷◌, ◌++◌, length, reverse, take, Option, Some, Result, Ok, Err}
+use Rattle.dc_media.specs.Told.{Becomes}
+use Rattle.dc_plain.specs.Core.{Core, LeadsTo}
+use Rattle.dc_plain.specs.Drawn.{Drawn}
+use Rattle.dc_plain.specs.Guest.{Guest, guests_of}
+use Rattle.dc_plain.specs.Headline.{RepeatsEqual}
+use Rattle.dc_plain.specs.Lines.{text_of}
+use Rattle.dc_plain.specs.Plain.{World, run, reported, thin}
+use Rattle.dc_plain.specs.World.{Guests}
+use Rattle.dc_plain.specs.World.Event.{AtEnd}
+use Rattle.dc_plain.specs.declared.act.Taken.{Taken}
+use Rattle.dc_plain.specs.declared.entry.Entry.{Entry}
+use Rattle.dc_plain.specs.declared.mark.Mark.{Mark}
+use Rattle.dc_plain.specs.declared.mark.Mark.TheVariants as mark
+use Rattle.dc_plain.specs.declared.visible.Visible.{Visible}
+use Rattle.dc_run.specs.Opening.{Setting}
+use Rattle.dc_run.specs.Settings.{is_free, was_opened}
+use Rattle.dc_run.specs.declared.verdict.Verdict.{Verdict}
+use Rattle.dc_run.specs.declared.verdict.Verdict.TheVariants.{Done, Unfinished, SinkFault}
+
+-- a refusal is answered exactly where the told files give it first; a free verdict may take its place
+pub record IsExact (verdict refusal : Verdict) (told : Result Setting Verdict) : Type 0 where
+  pub only : verdict ≡ refusal → told ≡ Err refusal
+  pub where_told : told ≡ Err refusal → (verdict ≡ refusal) ⊎ (is_free verdict ≡ true)
+
+-- where nothing is refused a run is opened, but for a free verdict
+abbrev pub IsOpenedFor : Verdict → Result Setting Verdict → Type 0
+IsOpenedFor verdict (Ok setting) = (was_opened verdict ≡ true) ⊎ (is_free verdict ≡ true)
+IsOpenedFor verdict (Err refusal) = was_opened verdict ≢ true
+
+-- the one guest, without inputs
+abbrev pub guests : Setting → Guests Guest
+guests setting = guests_of (setting.image ∷ []) []
+
+-- the lines on the sink: whole ones, as many as were counted, then a front of the one that a fault cut off;
+-- dropping those whose number came before, they are the visible records
+pub record LinesShown (whole torn : List Visible) (lines : ℕ) (seen : List Visible) (before after : Option (List ℕ)) : Type 0 where
+  pub count : length whole ≡ lines
+  pub thinned : thin (whole ++ torn) ≡ seen
+  pub written : Becomes before after (λ x y. (n : ℕ) × (n ≤ length (text_of torn)) × (y ≡ x ++ text_of whole ++ take n (text_of torn)))
+
+-- the marks, the last first; the entry whose line was cut off counts as one more, that showed
+abbrev pub marked : List Visible → List Mark → List Mark
+marked [] marks = reverse marks
+marked (x ∷ torn) marks = mark.Showed x.k ∷ reverse marks
+
+-- the marks lead from the opened core to one of these acts and records
+pub record CoreLed (setting : Setting) (marks : List Mark) (core : Core) (acts : List Taken) (records : List Visible) : Type 0 where
+  pub led : LeadsTo (guests setting) setting.schedule marks core
+  pub acts_are : reported core.acts ≡ acts
+  pub lines_are : reverse core.lines ≡ records
+
+abbrev pub AllEnded : Guests Guest → World Guest → Type 0
+AllEnded G w = (p : ℕ) → p < G.count → G.next (w.procs p).machine ≡ AtEnd
+
+abbrev pub SomeRuns : Guests Guest → World Guest → Type 0
+SomeRuns G w = (p : ℕ) × (p < G.count) × (G.next (w.procs p).machine ≢ AtEnd)
+
+-- done exactly where the schedule is used up and every guest has ended, unfinished where one has not, else the sink failed at an entry
+abbrev pub IsEnding : Guests Guest → List Entry → Verdict → List Mark → World Guest → List Visible → Type 0
+IsEnding G schedule Done marks w torn = (length marks ≡ length schedule) × (torn ≡ []) × AllEnded G w
+IsEnding G schedule Unfinished marks w torn = (length marks ≡ length schedule) × (torn ≡ []) × SomeRuns G w
+IsEnding G schedule (SinkFault outlet) marks w torn = (length marks < length schedule) × (length torn ≡ 1)
+IsEnding G schedule _ marks w torn = ⊥
+
+-- The lines on the output, dropping a process's outputs whose number came before, are exactly the visible records of the failure-free
+-- run of the same guest whose acts are listed; each act was drawn at its turn of the schedule, in order; a repeat equals its first line
+-- and follows a recovery.
+pub record IsHeadline (setting : Setting) (verdict : Verdict) (acts : List Taken) (marks : List Mark) (lines : ℕ) (before after : Option (List ℕ)) : Type 0 where
+  pub world : World Guest
+  pub core : Core
+  pub whole : List Visible
+  pub torn : List Visible
+  pub acts_run : run (guests setting) acts ≡ Some world
+  pub acts_drawn : Drawn 1 setting.schedule acts
+  pub lines_shown : LinesShown whole torn lines world.seen before after
+  pub repeats_equal : RepeatsEqual setting.schedule (marked torn marks) (reverse (whole ++ torn))
+  pub core_led : CoreLed setting (marked torn marks) core acts (whole ++ torn)
+  pub ending : IsEnding (guests setting) setting.schedule verdict marks world torn

@@ -1,0 +1,10 @@
+pub mod Command
+pub mod Plans
+pub mod Schedules
+pub mod Guests
+pub mod Headline
+pub mod Outcomes
+pub mod Reserved
+pub mod Running
+pub mod Opening
+pub mod Settings

@@ -1,0 +1,72 @@
+-- What a run is opened with, by the told files, or the refusal that comes first.
+use Rattle.std.specs.Prelude.{◌≡◌, ℕ, List, Option, None, Some, IsSome, IsSomeAnd, Result, Ok, Err, String}
+use Rattle.std.specs.declared.alloc.Global.{Global}
+use Rattle.dc_plain.specs.Image.{Image, code_of, image_of}
+use Rattle.dc_plain.specs.declared.entry.Entry.{Entry}
+use Rattle.dc_run.specs.Command.{plan_asked}
+use Rattle.dc_run.specs.Plans.{Plan, plan_of}
+use Rattle.dc_run.specs.Schedules.{schedule_of}
+use Rattle.dc_run.specs.declared.verdict.ElfFault.TheVariants.{Headers}
+use Rattle.dc_run.specs.declared.verdict.LineFault.TheVariants.{Form}
+use Rattle.dc_run.specs.declared.verdict.PlanFault.TheVariants.{Text}
+use Rattle.dc_run.specs.declared.verdict.Verdict.{Verdict}
+use Rattle.dc_run.specs.declared.verdict.Verdict.TheVariants.{Usage, PlanRefused, GuestRefused, Missing, ScheduleRefused}
+use Rattle.dc_run.specs.declared.verdict.Which.{Which}
+use Rattle.dc_run.specs.declared.verdict.Which.TheVariants.{Plan as ThePlan, Guest, Schedule}
+
+-- the guest's image and the schedule
+pub record Setting : Type 0 where
+  pub image : Image
+  pub schedule : List Entry
+
+infixl 10 ◌>>=◌
+abbrev pub ◌>>=◌ : {A B : Type 0} → Result A Verdict → (A → Result B Verdict) → Result B Verdict
+(Ok x) >>= f = f x
+(Err v) >>= f = Err v
+
+-- what is there, or this refusal
+abbrev pub or_refused : {A : Type 0} → Verdict → Option A → Result A Verdict
+or_refused v None = Err v
+or_refused v (Some x) = Ok x
+
+-- told files: the bytes of each name
+abbrev pub Files : Type 0
+Files = List ℕ → Option (List ℕ)
+
+-- the file that a run wants there, or the refusal
+abbrev pub file_in : Files → Which → List ℕ → Result (List ℕ) Verdict
+file_in files which name = or_refused (Missing which) (files name)
+
+-- with the image, from the bytes of the schedule
+abbrev pub opening_at_end : List ℕ → List ℕ → Result Setting Verdict
+opening_at_end code text = or_refused (ScheduleRefused (record { line = 1; kind = Form })) (schedule_of text) >>= (λ schedule. Ok (record { image = image_of 65536 code; schedule = schedule }))
+
+-- with the plan's names, from the bytes of the guest
+abbrev pub opening_at_guest : Files → Plan → List ℕ → Result Setting Verdict
+opening_at_guest files plan file = or_refused (GuestRefused 0 Headers) (code_of file) >>= (λ code. file_in files Schedule plan.schedule >>= opening_at_end code)
+
+-- from the bytes of the plan
+abbrev pub opening_at_plan : Files → List ℕ → Result Setting Verdict
+opening_at_plan files text = or_refused (PlanRefused Text) (plan_of text) >>= (λ plan. file_in files (Guest 0) plan.guest >>= opening_at_guest files plan)
+
+-- the words, the plan, the guest, the schedule: the first that is refused decides
+abbrev pub opening_of : Files → List (String Global) → Result Setting Verdict
+opening_of files words = or_refused Usage (plan_asked words) >>= (λ name. file_in files ThePlan name >>= opening_at_plan files)
+
+-- Which files a run asks for: one only after those before it were there and were not refused.
+
+-- from the bytes of the guest
+abbrev pub AsksAtGuest : List ℕ → Which → Type 0
+AsksAtGuest file Schedule = IsSome (code_of file)
+AsksAtGuest file _ = ⊥
+
+-- from the bytes of the plan
+abbrev pub AsksAtPlan : Files → List ℕ → Which → Type 0
+AsksAtPlan files text ThePlan = ⊥
+AsksAtPlan files text (Guest p) = (p ≡ 0) × IsSome (plan_of text)
+AsksAtPlan files text Schedule = IsSomeAnd (plan_of text) (λ plan. IsSomeAnd (files plan.guest) (λ file. AsksAtGuest file Schedule))
+
+-- by the words
+abbrev pub Asks : Files → List (String Global) → Which → Type 0
+Asks files words ThePlan = IsSome (plan_asked words)
+Asks files words which = IsSomeAnd (plan_asked words) (λ name. IsSomeAnd (files name) (λ text. AsksAtPlan files text which))

@@ -1,0 +1,73 @@
+-- The status of a verdict, and the line that says it.
+use Rattle.std.specs.Prelude.{◌≡◌, ℕ, List, ◌++◌, ◌∷◌, [], codes, decimal, length}
+use Rattle.dc_run.specs.declared.outcome.Outcome.{Outcome}
+use Rattle.dc_run.specs.declared.verdict.ElfFault.{ElfFault}
+use Rattle.dc_run.specs.declared.verdict.ElfFault.TheVariants.{Headers}
+use Rattle.dc_run.specs.declared.verdict.LineFault.{LineFault}
+use Rattle.dc_run.specs.declared.verdict.LineFault.TheVariants.{Form}
+use Rattle.dc_run.specs.declared.verdict.Outlet.{Outlet}
+use Rattle.dc_run.specs.declared.verdict.Outlet.TheVariants.{Out}
+use Rattle.dc_run.specs.declared.verdict.PlanFault.{PlanFault}
+use Rattle.dc_run.specs.declared.verdict.PlanFault.TheVariants.{Text}
+use Rattle.dc_run.specs.declared.verdict.ScheduleFault.{ScheduleFault}
+use Rattle.dc_run.specs.declared.verdict.Verdict.{Verdict}
+use Rattle.dc_run.specs.declared.verdict.Verdict.TheVariants.{Done, Unfinished, Usage, PlanRefused, GuestRefused, Missing, LibraryFault, SinkFault, WantOfMemory, ScheduleRefused}
+use Rattle.dc_run.specs.declared.verdict.Which.{Which}
+use Rattle.dc_run.specs.declared.verdict.Which.TheVariants.{Plan, Guest, Schedule}
+
+abbrev pub status_of : Verdict → ℕ
+status_of Done = 0
+status_of Unfinished = 1
+status_of Usage = 2
+status_of (PlanRefused fault) = 3
+status_of (GuestRefused p fault) = 4
+status_of (Missing which) = 5
+status_of (LibraryFault which) = 6
+status_of (SinkFault outlet) = 8
+status_of WantOfMemory = 10
+status_of (ScheduleRefused fault) = 11
+
+abbrev pub which_text : Which → List ℕ
+which_text Plan = codes "plan"
+which_text (Guest p) = codes "guest " ++ decimal p
+which_text Schedule = codes "schedule"
+
+abbrev pub plan_fault_text : PlanFault → List ℕ
+plan_fault_text Text = codes "text"
+
+abbrev pub elf_fault_text : ElfFault → List ℕ
+elf_fault_text Headers = codes "headers"
+
+abbrev pub line_fault_text : LineFault → List ℕ
+line_fault_text Form = codes "form"
+
+abbrev pub schedule_fault_text : ScheduleFault → List ℕ
+schedule_fault_text fault = codes "schedule line " ++ decimal fault.line ++ codes " refused: " ++ line_fault_text fault.kind
+
+abbrev pub outlet_text : Outlet → List ℕ
+outlet_text Out = codes "out"
+
+abbrev pub counts_text : List ℕ → ℕ → ℕ → List ℕ
+counts_text name acts lines = name ++ decimal acts ++ codes " acts " ++ decimal lines ++ codes " lines"
+
+abbrev pub verdict_text : Verdict → ℕ → ℕ → List ℕ
+verdict_text Done acts lines = counts_text (codes "done ") acts lines
+verdict_text Unfinished acts lines = counts_text (codes "unfinished ") acts lines
+verdict_text Usage acts lines = codes "usage: dc run PLAN | dc check PLAN REPORT OUT | dc asm SOURCE"
+verdict_text (PlanRefused fault) acts lines = codes "plan refused: " ++ plan_fault_text fault
+verdict_text (GuestRefused p fault) acts lines = codes "guest " ++ decimal p ++ codes " refused: " ++ elf_fault_text fault
+verdict_text (Missing which) acts lines = codes "missing: " ++ which_text which
+verdict_text (LibraryFault which) acts lines = codes "library failed: " ++ which_text which
+verdict_text (SinkFault outlet) acts lines = codes "sink failed: " ++ outlet_text outlet
+verdict_text WantOfMemory acts lines = codes "out of memory"
+verdict_text (ScheduleRefused fault) acts lines = schedule_fault_text fault
+
+-- the line on standard error
+abbrev pub outcome_line : Outcome → List ℕ
+outcome_line o = codes "dc: " ++ verdict_text o.verdict (length o.acts.items) o.lines ++ 10 ∷ []
+
+-- nothing was run
+pub record IsNothing (o : Outcome) : Type 0 where
+  pub acts : o.acts.items ≡ []
+  pub marks : o.marks.items ≡ []
+  pub lines : o.lines ≡ 0

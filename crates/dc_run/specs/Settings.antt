@@ -1,0 +1,27 @@
+-- How the code's opening stands to the told files.
+use Rattle.std.specs.Prelude.{◌≡◌, ◌⊎◌, Bool, true, false, Result, Ok, Err}
+use Rattle.dc_run.specs.Opening.{Setting}
+use Rattle.dc_run.specs.declared.setting.Setting as code
+use Rattle.dc_run.specs.declared.verdict.Verdict.{Verdict}
+use Rattle.dc_run.specs.declared.verdict.Verdict.TheVariants.{Done, Unfinished, LibraryFault, SinkFault, WantOfMemory}
+
+-- a verdict that no told file decides: want of memory, and a fault of the library
+abbrev pub is_free : Verdict → Bool
+is_free WantOfMemory = true
+is_free (LibraryFault which) = true
+is_free _ = false
+
+-- the verdict of a run whose world was opened
+abbrev pub was_opened : Verdict → Bool
+was_opened Done = true
+was_opened Unfinished = true
+was_opened (SinkFault outlet) = true
+was_opened _ = false
+
+-- the same value or refusal as the told files give, where no free verdict takes its place
+abbrev pub Agrees : {A X : Type 0} → (X → A) → Result X Verdict → Result A Verdict → Type 0
+Agrees view (Ok x) told = told ≡ Ok (view x)
+Agrees view (Err v) told = (is_free v ≡ true) ⊎ (told ≡ Err v)
+
+abbrev pub setting_of : code.Setting → Setting
+setting_of s = record { image = record { memory = s.memory.items; entry = 1024 }; schedule = s.schedule.items }

@@ -1,0 +1,22 @@
+//! The program's call: a guest runs under a schedule, and what users see is what the guest shows when nothing fails.
+#![tactic(auto)]
+
+mod command;
+mod guest;
+mod image;
+mod opening;
+mod outcome;
+mod plan;
+mod program;
+mod reserved;
+mod schedule;
+mod setting;
+#[cfg(test)]
+mod tests;
+mod verdict;
+mod world;
+
+pub use outcome::Outcome;
+pub use program::dc;
+pub use reserved::Reserved;
+pub use verdict::{ElfFault, LineFault, Outlet, PlanFault, ScheduleFault, Verdict, Which};

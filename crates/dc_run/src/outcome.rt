@@ -1,0 +1,179 @@
+ghost use Rattle.std.specs.Prelude.{◌≡◌, ◌≤◌, ◌+◌, ◌++◌, length, codes};
+ghost use Rattle.dc_media.specs.Causes.{HasCause};
+ghost use Rattle.dc_media.specs.Sinks.{TakesWhole};
+ghost use Rattle.dc_media.specs.Told.{TellsOn};
+ghost use Rattle.dc_run.specs.Outcomes.{counts_text, elf_fault_text, line_fault_text, outcome_line, outlet_text, plan_fault_text, schedule_fault_text, status_of, verdict_text, which_text};
+
+use crate::reserved::Reserved;
+use crate::{ElfFault, LineFault, Outlet, PlanFault, ScheduleFault, Verdict, Which};
+use dc_media::{Sink, SinkFailed, write_whole};
+use dc_plain::{Line, Mark, Taken};
+
+/// What a call of the program came to, and what the run did up to then.
+#[derive(Drop)]
+pub struct Outcome {
+    pub verdict: Verdict,
+    /// The acts that count, in order.
+    pub acts: Reserved<Taken>,
+    /// The mark of each entry, in order. An entry at which the run ended has none.
+    pub marks: Reserved<Mark>,
+    /// How many whole lines were written, repeats counted.
+    pub lines: u32,
+}
+
+impl Outcome {
+    /// The status with which the program ends.
+    pub fn status(&self) -> u8
+        ensures { result ≡ status_of self.now.verdict }
+    {
+        match self.verdict {
+            Verdict::Done => 0,
+            Verdict::Unfinished => 1,
+            Verdict::Usage => 2,
+            Verdict::PlanRefused(_) => 3,
+            Verdict::GuestRefused(_, _) => 4,
+            Verdict::Missing(_) => 5,
+            Verdict::LibraryFault(_) => 6,
+            Verdict::SinkFault(_) => 8,
+            Verdict::WantOfMemory => 10,
+            Verdict::ScheduleRefused(_) => 11,
+        }
+    }
+
+    /// Writes the line that says the outcome: `dc: `, the verdict in words, and a line feed.
+    pub fn write_line<R: Sink>(&self, to: &mut R) -> Result<(), SinkFailed>
+        ensures held { TakesWhole (outcome_line self.now) result (R.held to.old) (R.held to.new) }
+        ensures tells { TellsOn 0 (R.faults to.new) (R.held to.old) (R.held to.new) }
+        ensures cause { HasCause (R.faults to.old) (R.faults to.new) result }
+    {
+        write_whole(to, self.line().as_slice())
+    }
+
+    fn line(&self) -> Line
+        ensures { result ≡ outcome_line self.now }
+    {
+        let mut line = Line::new();
+        line.push(b"dc: ");
+        self.push_verdict(&mut line);
+        line.push(b"\n");
+        line
+    }
+
+    /// The verdict in words.
+    fn push_verdict(&self, line: &mut Line)
+        requires { length line.old ≤ 4 }
+        ensures text { line.new ≡ line.old ++ verdict_text self.now.verdict (length self.now.acts.items) self.now.lines }
+        ensures length { length line.new ≤ length line.old + 90 }
+    {
+        match self.verdict {
+            Verdict::Done => self.push_counts(line, b"done "),
+            Verdict::Unfinished => self.push_counts(line, b"unfinished "),
+            Verdict::Usage => {
+                line.push(b"usage: dc run PLAN | dc check PLAN REPORT OUT | dc asm SOURCE");
+            }
+            Verdict::PlanRefused(fault) => push_both(line, b"plan refused: ", plan_fault(fault)),
+            Verdict::GuestRefused(p, fault) => {
+                line.push(b"guest ");
+                line.push_number(u64::from(p));
+                line.push(b" refused: ");
+                line.push(elf_fault(fault));
+            }
+            Verdict::Missing(which) => push_which(line, b"missing: ", which),
+            Verdict::LibraryFault(which) => push_which(line, b"library failed: ", which),
+            Verdict::SinkFault(outlet) => push_both(line, b"sink failed: ", outlet_name(outlet)),
+            Verdict::WantOfMemory => line.push(b"out of memory"),
+            Verdict::ScheduleRefused(fault) => push_schedule_fault(line, fault),
+        }
+    }
+
+    /// How many acts and lines there were, after a name.
+    fn push_counts(&self, line: &mut Line, name: &[u8])
+        requires line { length line.old ≤ 4 }
+        requires name { length name.now ≤ 11 }
+        ensures text { line.new ≡ line.old ++ counts_text name.now (length self.now.acts.items) self.now.lines }
+        ensures length { length line.new ≤ length line.old + 90 }
+    {
+        line.push(name);
+        line.push_number(self.acts.as_slice().len() as u64);
+        line.push(b" acts ");
+        line.push_number(u64::from(self.lines));
+        line.push(b" lines");
+    }
+}
+
+/// Two texts, one after the other.
+fn push_both(line: &mut Line, what: &[u8], name: &[u8])
+    requires line { length line.old ≤ 4 }
+    requires what { length what.now ≤ 16 }
+    requires name { length name.now ≤ 16 }
+    ensures text { line.new ≡ line.old ++ (what.now ++ name.now) }
+    ensures length { length line.new ≤ length line.old + 90 }
+{
+    line.push(what);
+    line.push(name);
+}
+
+fn push_schedule_fault(line: &mut Line, fault: ScheduleFault)
+    requires { length line.old ≤ 4 }
+    ensures text { line.new ≡ line.old ++ schedule_fault_text fault }
+    ensures length { length line.new ≤ length line.old + 90 }
+{
+    line.push(b"schedule line ");
+    line.push_number(u64::from(fault.line));
+    line.push(b" refused: ");
+    line.push(line_fault(fault.kind));
+}
+
+/// A file's name in the run, after what befell it.
+fn push_which(line: &mut Line, what: &[u8], which: Which)
+    requires line { length line.old ≤ 4 }
+    requires what { length what.now ≤ 16 }
+    ensures text { line.new ≡ line.old ++ what.now ++ which_text which }
+    ensures length { length line.new ≤ length line.old + 90 }
+{
+    line.push(what);
+    match which {
+        Which::Plan => line.push(b"plan"),
+        Which::Guest(p) => {
+            line.push(b"guest ");
+            line.push_number(u64::from(p));
+        }
+        Which::Schedule => line.push(b"schedule"),
+    }
+}
+
+fn plan_fault(fault: PlanFault) -> &'static [u8]
+    ensures text { result.now ≡ plan_fault_text fault }
+    ensures short { length result.now ≤ 16 }
+{
+    match fault {
+        PlanFault::Text => b"text",
+    }
+}
+
+fn elf_fault(fault: ElfFault) -> &'static [u8]
+    ensures text { result.now ≡ elf_fault_text fault }
+    ensures short { length result.now ≤ 16 }
+{
+    match fault {
+        ElfFault::Headers => b"headers",
+    }
+}
+
+fn line_fault(fault: LineFault) -> &'static [u8]
+    ensures text { result.now ≡ line_fault_text fault }
+    ensures short { length result.now ≤ 16 }
+{
+    match fault {
+        LineFault::Form => b"form",
+    }
+}
+
+fn outlet_name(outlet: Outlet) -> &'static [u8]
+    ensures text { result.now ≡ outlet_text outlet }
+    ensures short { length result.now ≤ 16 }
+{
+    match outlet {
+        Outlet::Out => b"out",
+    }
+}

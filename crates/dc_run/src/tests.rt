@@ -1,0 +1,708 @@
+//! What the program answers and shows, over files and sinks in memory.
+
+ghost use Rattle.std.specs.Prelude.{◌<◌, ◌≤◌, ◌^◌, ◌-◌, length, None};
+ghost use Rattle.std.proofs.Common.{lit<};
+
+use crate::{ElfFault, LineFault, Outcome, Outlet, PlanFault, ScheduleFault, Verdict, Which, dc};
+use dc_media::{DeviceFault, Disks, Keeps, MakeFault};
+use dc_memmedia::{MemLibrary, MemSink};
+use dc_plain::{Act, Idle, Mark, Taken};
+use std::alloc::{AllocError, Global};
+use std::process::Abort;
+use std::test::Fail;
+
+/// No stores: each call fails, and the counts of failures stand at their last value.
+#[derive(Drop)]
+struct NoKeeps;
+
+impl Keeps for NoKeeps {
+    ghost told = { λ s p. None };
+
+    ghost extent = { λ s p. 1 };
+
+    ghost stops = { λ s p. 0 };
+
+    ghost faults = { λ s p. 2 ^ 64 - 1 };
+
+    ghost told_extent = { λ s p. tt };
+
+    ghost extent_fits = { λ s p. lit< tt };
+
+    fn format(&mut self, _alloc: Global, _p: u32, _words: u32) -> Result<(), MakeFault> {
+        Err(MakeFault::Failed)
+    }
+
+    fn load(&self, _p: u32, _i: u32) -> u32 {
+        0
+    }
+
+    fn store(&mut self, _p: u32, _i: u32, _w: u32) -> Result<(), DeviceFault> {
+        Err(DeviceFault::Failed)
+    }
+}
+
+/// No disks: each call fails, and the counts of failures stand at their last value.
+#[derive(Drop)]
+struct NoDisks;
+
+impl Disks for NoDisks {
+    ghost told = { λ s p. None };
+
+    ghost extent = { λ s p. 0 };
+
+    ghost stops = { λ s p. 0 };
+
+    ghost faults = { λ s p. 2 ^ 64 - 1 };
+
+    ghost told_extent = { λ s p. tt };
+
+    ghost extent_fits = { λ s p. lit< tt };
+
+    fn format(&mut self, _alloc: Global, _p: u32, _bytes: u64) -> Result<(), MakeFault> {
+        Err(MakeFault::Failed)
+    }
+
+    fn size(&self, _p: u32) -> u64 {
+        0
+    }
+
+    fn read(&mut self, _p: u32, _at: u64, _to: &mut [u8]) -> Result<(), DeviceFault> {
+        Err(DeviceFault::Failed)
+    }
+
+    fn write(&mut self, _p: u32, _at: u64, _from: &[u8]) -> Result<(), DeviceFault> {
+        Err(DeviceFault::Failed)
+    }
+
+    fn sync(&mut self, _p: u32) -> Result<(), DeviceFault> {
+        Err(DeviceFault::Failed)
+    }
+}
+
+const PLAN: &str =
+    "protocol = \"cpvs\"\nmedium = \"rio\"\nmemory = 65536\nguests = [\"hi.elf\"]\nschedule = \"schedule\"\n";
+
+/// A guest's file: the guest shows `hi` and ends with code 0.
+const HI: [u8; 116] = [
+    0x7f, 0x45, 0x4c, 0x46, 0x01, 0x01, 0x01, 0x00, 0x00, 0x00, 0x00, 0x00, 0x00, 0x00, 0x00, 0x00,
+    0x02, 0x00, 0xf3, 0x00, 0x01, 0x00, 0x00, 0x00, 0x00, 0x04, 0x00, 0x00, 0x34, 0x00, 0x00, 0x00,
+    0x00, 0x00, 0x00, 0x00, 0x00, 0x00, 0x00, 0x00, 0x34, 0x00, 0x20, 0x00, 0x01, 0x00, 0x00, 0x00,
+    0x00, 0x00, 0x00, 0x00, 0x01, 0x00, 0x00, 0x00, 0x54, 0x00, 0x00, 0x00, 0x00, 0x04, 0x00, 0x00,
+    0x00, 0x04, 0x00, 0x00, 0x20, 0x00, 0x00, 0x00, 0x20, 0x00, 0x00, 0x00, 0x07, 0x00, 0x00, 0x00,
+    0x04, 0x00, 0x00, 0x00, 0x93, 0x08, 0x20, 0x00, 0x13, 0x05, 0xc0, 0x41, 0x93, 0x05, 0x20, 0x00,
+    0x73, 0x00, 0x00, 0x00, 0x93, 0x08, 0x10, 0x00, 0x13, 0x05, 0x00, 0x00, 0x73, 0x00, 0x00, 0x00,
+    0x68, 0x69, 0x00, 0x00,
+];
+
+const SEVEN_TURNS: &str = "0 0 0\n0 0 0\n0 0 0\n0 0 0\n0 0 0\n0 0 0\n0 0 0\n";
+
+/// What that guest shows.
+const HI_LINES: &str = "out 0 0 6869\nend 0 1 0\n";
+
+/// What its entries do, up to its end.
+const HI_MARKS: [Mark; 7] = [
+    Mark::Stepped,
+    Mark::Stepped,
+    Mark::Stepped,
+    Mark::Showed(0),
+    Mark::Stepped,
+    Mark::Stepped,
+    Mark::Showed(1),
+];
+
+const ECALL: u32 = 0x73;
+
+/// A call of the program: its words, its files, and where its devices fail.
+#[derive(Drop)]
+struct Case {
+    words: Vec<String>,
+    plan: Option<String>,
+    guest_name: String,
+    guest: Vec<u8>,
+    schedule: Option<String>,
+    /// Which fetches of the library fail, counted from 1.
+    failing_fetches: Vec<u64>,
+    /// How many bytes the sink takes.
+    room: usize,
+    /// Which calls of the sink fail, counted from 1.
+    failing_writes: Vec<u64>,
+}
+
+/// What a call answers: the verdict, the status and the line that says it.
+#[derive(Drop)]
+struct Answer {
+    verdict: Verdict,
+    status: u8,
+    line: &'static str,
+}
+
+const HI_DONE: Answer = Answer {
+    verdict: Verdict::Done,
+    status: 0,
+    line: "dc: done 7 acts 2 lines\n",
+};
+
+const NO_PLAN: Answer = Answer {
+    verdict: Verdict::PlanRefused(PlanFault::Text),
+    status: 3,
+    line: "dc: plan refused: text\n",
+};
+
+const NO_GUEST: Answer = Answer {
+    verdict: Verdict::GuestRefused(0, ElfFault::Headers),
+    status: 4,
+    line: "dc: guest 0 refused: headers\n",
+};
+
+const OUT_FAILED: Answer = Answer {
+    verdict: Verdict::SinkFault(Outlet::Out),
+    status: 8,
+    line: "dc: sink failed: out\n",
+};
+
+const NO_SCHEDULE: Answer = Answer {
+    verdict: Verdict::ScheduleRefused(ScheduleFault {
+        line: 1,
+        kind: LineFault::Form,
+    }),
+    status: 11,
+    line: "dc: schedule line 1 refused: form\n",
+};
+
+fn text(alloc: Global, text: &str) -> Result<Option<String>, AllocError> {
+    Ok(Some(String::from_str(alloc, text)?))
+}
+
+fn words_of(alloc: Global, words: &[&str]) -> Result<Vec<String>, AllocError> {
+    let mut list = Vec::new(alloc);
+    for word in words {
+        list.push(String::from_str(alloc, word)?)?;
+    }
+    Ok(list)
+}
+
+/// The guest that shows `hi`, with as many turns as it needs.
+fn hi(alloc: Global) -> Result<Case, AllocError> {
+    Ok(Case {
+        words: words_of(alloc, &["dc", "run", "plan"])?,
+        plan: text(alloc, PLAN)?,
+        guest_name: String::from_str(alloc, "hi.elf")?,
+        guest: HI.to_vec(alloc)?,
+        schedule: text(alloc, SEVEN_TURNS)?,
+        failing_fetches: Vec::new(alloc),
+        room: 2000,
+        failing_writes: Vec::new(alloc),
+    })
+}
+
+/// The outcome of a call, and its sink.
+fn call(alloc: Global, case: Case) -> Result<(Outcome, MemSink), AllocError> {
+    let Case {
+        words,
+        plan,
+        guest_name,
+        guest,
+        schedule,
+        failing_fetches,
+        room,
+        failing_writes,
+    } = case;
+    let mut lib = MemLibrary::new(alloc, failing_fetches);
+    if let Some(plan) = plan {
+        lib.add(String::from_str(alloc, "plan")?, plan.into_bytes())?;
+    }
+    lib.add(guest_name, guest)?;
+    if let Some(schedule) = schedule {
+        lib.add(String::from_str(alloc, "schedule")?, schedule.into_bytes())?;
+    }
+    let mut out = MemSink::new(alloc, room, failing_writes)?;
+    let mut report = MemSink::new(alloc, 0, Vec::new(alloc))?;
+    let outcome = dc(
+        alloc,
+        &words,
+        &mut lib,
+        &mut NoKeeps,
+        &mut NoDisks,
+        &mut out,
+        &mut report,
+    );
+    Ok((outcome, out))
+}
+
+/// The outcome of a call that answers so and shows these lines.
+fn comes_to(
+    rt: &(impl Abort + AllocGlobal),
+    what: &str,
+    case: Case,
+    answer: &Answer,
+    shown: &str,
+) -> Result<Outcome, Fail> {
+    let (outcome, out) = call(rt.alloc(), case)?;
+    assert_eq!(rt; outcome.verdict, answer.verdict, "{what}");
+    assert_eq!(rt; outcome.status(), answer.status, "{what}");
+    assert_eq!(rt; out.bytes(), shown.as_bytes(), "{what}");
+    let mut line = MemSink::new(rt.alloc(), 200, Vec::new(rt.alloc()))?;
+    outcome.write_line(&mut line)?;
+    assert_eq!(rt; line.bytes(), answer.line.as_bytes(), "{what}");
+    Ok(outcome)
+}
+
+/// A call that answers so, does no act and shows nothing.
+fn comes_to_nothing(
+    rt: &(impl Abort + AllocGlobal),
+    what: &str,
+    case: Case,
+    answer: &Answer,
+) -> Result<(), Fail> {
+    let outcome = comes_to(rt, what, case, answer, "")?;
+    assert!(rt; outcome.acts.as_slice().is_empty(), "{what}");
+    assert!(rt; outcome.marks.as_slice().is_empty(), "{what}");
+    assert_eq!(rt; outcome.lines, 0, "{what}");
+    Ok(())
+}
+
+/// A guest's file with this code.
+fn file_of(alloc: Global, words: &[u32]) -> Result<Vec<u8>, AllocError>
+    requires { length words.now ≤ 16001 }
+{
+    let count = (words.len() as u32 * 4).to_le_bytes();
+    let mut file = HI[..68].to_vec(alloc)?;
+    file.extend_from_slice(&count)?;
+    file.extend_from_slice(&count)?;
+    file.extend_from_slice(&HI[76..84])?;
+    for word in words {
+        file.extend_from_slice(&word.to_le_bytes())?;
+    }
+    Ok(file)
+}
+
+/// The word of an instruction that adds an immediate.
+fn addi(rd: u32, rs1: u32, imm: u32) -> u32 {
+    0x13 | rd << 7 | rs1 << 15 | imm << 20
+}
+
+/// The answer where a file is missing.
+fn missing(which: Which, line: &'static str) -> Answer {
+    Answer {
+        verdict: Verdict::Missing(which),
+        status: 5,
+        line,
+    }
+}
+
+fn plain(t: u32) -> Taken {
+    Taken {
+        t,
+        p: 0,
+        act: Act::Plain,
+    }
+}
+
+#[test]
+fn shows_an_output_and_the_end(rt: HostRuntime) -> Result<(), Fail> {
+    let case = hi(rt.alloc())?;
+    let outcome = comes_to(&rt, "seven turns", case, &HI_DONE, HI_LINES)?;
+    assert_eq!(rt; outcome.acts.as_slice().len(), 7);
+    for (t, taken) in (0..7).zip(outcome.acts.as_slice()) {
+        assert_eq!(rt; *taken, plain(t));
+    }
+    assert_eq!(rt; outcome.marks.as_slice(), HI_MARKS.as_slice());
+    assert_eq!(rt; outcome.lines, 2);
+    Ok(())
+}
+
+#[test]
+fn traps_at_a_word_that_codes_nothing(rt: HostRuntime) -> Result<(), Fail> {
+    let mut guest = HI;
+    guest[84..88].fill(0);
+    let mut case = hi(rt.alloc())?;
+    case.guest = guest.to_vec(rt.alloc())?;
+    case.schedule = text(rt.alloc(), "0 0 0\n")?;
+    let answer = Answer {
+        verdict: Verdict::Done,
+        status: 0,
+        line: "dc: done 1 acts 1 lines\n",
+    };
+    let outcome = comes_to(&rt, "one turn", case, &answer, "trap 0 0 2 00000400\n")?;
+    assert_eq!(rt; outcome.acts.as_slice(), [plain(0)].as_slice());
+    assert_eq!(rt; outcome.marks.as_slice(), [Mark::Showed(0)].as_slice());
+    assert_eq!(rt; outcome.lines, 1);
+    Ok(())
+}
+
+#[test]
+fn an_empty_schedule_ends_nothing(rt: HostRuntime) -> Result<(), Fail> {
+    let mut case = hi(rt.alloc())?;
+    case.schedule = text(rt.alloc(), "")?;
+    let answer = Answer {
+        verdict: Verdict::Unfinished,
+        status: 1,
+        line: "dc: unfinished 0 acts 0 lines\n",
+    };
+    comes_to_nothing(&rt, "no turn", case, &answer)
+}
+
+#[test]
+fn turns_past_the_end_are_idle(rt: HostRuntime) -> Result<(), Fail> {
+    let mut case = hi(rt.alloc())?;
+    case.schedule = Some("0 0 0\n".repeat(rt.alloc(), 10)?);
+    let outcome = comes_to(&rt, "ten turns", case, &HI_DONE, HI_LINES)?;
+    assert_eq!(rt; outcome.acts.as_slice().len(), 7);
+    assert_eq!(rt; outcome.marks.as_slice().len(), 10);
+    assert!(rt; outcome.marks.as_slice().starts_with(&HI_MARKS));
+    assert!(rt;
+        outcome
+            .marks
+            .as_slice()
+            .ends_with(&[Mark::Idle(Idle::Ended); 3])
+    );
+    Ok(())
+}
+
+#[test]
+fn other_words_are_not_a_command(rt: HostRuntime) -> Result<(), Fail> {
+    let answer = Answer {
+        verdict: Verdict::Usage,
+        status: 2,
+        line: "dc: usage: dc run PLAN | dc check PLAN REPORT OUT | dc asm SOURCE\n",
+    };
+    let commands = [
+        "",
+        "dc",
+        "dc run",
+        "dc run plan plan",
+        "dc check plan",
+        "dc run -x",
+        "dc Run plan",
+    ];
+    for command in commands {
+        let mut case = hi(rt.alloc())?;
+        case.words.clear();
+        for word in command.split_whitespace() {
+            case.words.push(String::from_str(rt.alloc(), word)?)?;
+        }
+        comes_to_nothing(&rt, command, case, &answer)?;
+    }
+    Ok(())
+}
+
+#[test]
+fn says_which_file_is_missing(rt: HostRuntime) -> Result<(), Fail> {
+    let mut case = hi(rt.alloc())?;
+    case.plan = None;
+    comes_to_nothing(
+        &rt,
+        "no plan",
+        case,
+        &missing(Which::Plan, "dc: missing: plan\n"),
+    )?;
+
+    let mut case = hi(rt.alloc())?;
+    case.plan = Some(PLAN.replace(rt.alloc(), "hi.elf", "none.elf")?);
+    comes_to_nothing(
+        &rt,
+        "no guest",
+        case,
+        &missing(Which::Guest(0), "dc: missing: guest 0\n"),
+    )?;
+
+    let mut case = hi(rt.alloc())?;
+    case.schedule = None;
+    comes_to_nothing(
+        &rt,
+        "no schedule",
+        case,
+        &missing(Which::Schedule, "dc: missing: schedule\n"),
+    )
+}
+
+#[test]
+fn says_what_was_refused_first(rt: HostRuntime) -> Result<(), Fail> {
+    let mut case = hi(rt.alloc())?;
+    case.plan = Some(PLAN.replace(rt.alloc(), "hi.elf", "none.elf")?);
+    case.schedule = None;
+    comes_to_nothing(
+        &rt,
+        "no guest and no schedule",
+        case,
+        &missing(Which::Guest(0), "dc: missing: guest 0\n"),
+    )?;
+
+    let mut case = hi(rt.alloc())?;
+    case.guest.clear();
+    case.schedule = None;
+    comes_to_nothing(&rt, "a bad guest and no schedule", case, &NO_GUEST)
+}
+
+#[test]
+fn says_at_which_file_the_library_failed(rt: HostRuntime) -> Result<(), Fail> {
+    let fetches = [
+        (1, Which::Plan, "dc: library failed: plan\n"),
+        (2, Which::Guest(0), "dc: library failed: guest 0\n"),
+        (3, Which::Schedule, "dc: library failed: schedule\n"),
+    ];
+    for (fetch, which, line) in fetches {
+        let mut case = hi(rt.alloc())?;
+        case.failing_fetches.push(fetch)?;
+        let answer = Answer {
+            verdict: Verdict::LibraryFault(which),
+            status: 6,
+            line,
+        };
+        comes_to_nothing(&rt, line, case, &answer)?;
+    }
+    Ok(())
+}
+
+#[test]
+fn a_failing_sink_ends_the_run_at_its_line(rt: HostRuntime) -> Result<(), Fail> {
+    // The call of the sink that fails, its room, what it shows, and how many marks and whole lines there are.
+    let sinks = [
+        ("first refused", 1, 2000, "", 3, 0),
+        ("first cut off", 0, 5, "out 0", 3, 0),
+        ("second refused", 2, 2000, "out 0 0 6869\n", 6, 1),
+        ("second cut off", 0, 22, "out 0 0 6869\nend 0 1 0", 6, 1),
+    ];
+    for (what, failing, room, shown, marks, lines) in sinks {
+        let mut case = hi(rt.alloc())?;
+        case.failing_writes.push(failing)?;
+        case.room = room;
+        let outcome = comes_to(&rt, what, case, &OUT_FAILED, shown)?;
+        assert_eq!(rt; outcome.marks.as_slice().len(), marks, "{what}");
+        assert!(rt; HI_MARKS.starts_with(outcome.marks.as_slice()), "{what}");
+        assert_eq!(rt; outcome.acts.as_slice().len(), marks + 1, "{what}");
+        assert_eq!(rt; outcome.lines, lines, "{what}");
+    }
+    Ok(())
+}
+
+#[test]
+fn refuses_a_text_that_is_no_plan(rt: HostRuntime) -> Result<(), Fail> {
+    let long = "a".repeat(rt.alloc(), 201)?;
+    let quoted = format!(in rt.alloc(); "\"{long}\"")?;
+    let edits = [
+        ("an empty text", PLAN, ""),
+        ("no last line feed", "e\"\n", "e\""),
+        ("carriage returns", "\n", "\r\n"),
+        ("a name of 201 letters", "hi.elf", long.as_str()),
+        (
+            "a schedule's name of 201 letters",
+            "\"schedule\"",
+            quoted.as_str(),
+        ),
+        ("a name with a slash", "hi.elf", "hi/elf"),
+        ("an empty name", "hi.elf", ""),
+        ("an empty schedule's name", "\"schedule\"", "\"\""),
+        ("another protocol", "cpvs", "none"),
+        ("another medium", "rio", "disk"),
+        ("another size", "65536", "65532"),
+        ("no guest", "\"hi.elf\"", ""),
+        ("two guests", "\"hi.elf\"", "\"hi.elf\", \"hi.elf\""),
+        ("a blank more", "memory =", "memory  ="),
+        ("a line more", "e\"\n", "e\"\n\n"),
+    ];
+    for (what, old, new) in edits {
+        let plan = PLAN.replace(rt.alloc(), old, new)?;
+        assert!(rt; plan.as_str() != PLAN, "{what}");
+        let mut case = hi(rt.alloc())?;
+        case.plan = Some(plan);
+        comes_to_nothing(&rt, what, case, &NO_PLAN)?;
+    }
+    Ok(())
+}
+
+#[test]
+fn takes_a_name_of_200_bytes(rt: HostRuntime) -> Result<(), Fail> {
+    let name = "Az09._-a".repeat(rt.alloc(), 25)?;
+    assert_eq!(rt; name.len(), 200);
+    let mut case = hi(rt.alloc())?;
+    case.plan = Some(PLAN.replace(rt.alloc(), "hi.elf", &name)?);
+    case.guest_name = name;
+    comes_to(&rt, "200 bytes", case, &HI_DONE, HI_LINES)?;
+    Ok(())
+}
+
+#[test]
+fn refuses_a_file_that_is_cut_off(rt: HostRuntime) -> Result<(), Fail> {
+    for end in 0..116usize {
+        let what = format!(in rt.alloc(); "{end} bytes")?;
+        let mut case = hi(rt.alloc())?;
+        case.guest.truncate(end);
+        comes_to_nothing(&rt, &what, case, &NO_GUEST)?;
+    }
+    Ok(())
+}
+
+#[test]
+fn refuses_a_file_with_other_headers(rt: HostRuntime) -> Result<(), Fail> {
+    for place in 0..84usize {
+        let what = format!(in rt.alloc(); "another byte at {place}")?;
+        let mut guest = HI;
+        guest[place] ^= 1;
+        let mut case = hi(rt.alloc())?;
+        case.guest = guest.to_vec(rt.alloc())?;
+        comes_to_nothing(&rt, &what, case, &NO_GUEST)?;
+    }
+    let mut case = hi(rt.alloc())?;
+    case.guest.extend_from_slice(&[0, 0, 0, 0])?;
+    comes_to_nothing(&rt, "a word more", case, &NO_GUEST)
+}
+
+#[test]
+fn a_guest_has_at_most_16_000_words(rt: HostRuntime) -> Result<(), Fail> {
+    let mut case = hi(rt.alloc())?;
+    case.guest = file_of(rt.alloc(), &vec![in rt.alloc(); 0; 16_000]?)?;
+    let (outcome, out) = call(rt.alloc(), case)?;
+    assert_eq!(rt; outcome.verdict, Verdict::Done);
+    assert_eq!(rt; out.bytes(), b"trap 0 0 2 00000400\n".as_slice());
+    let mut case = hi(rt.alloc())?;
+    case.guest = file_of(rt.alloc(), &vec![in rt.alloc(); 0; 16_001]?)?;
+    comes_to_nothing(&rt, "16,001 words", case, &NO_GUEST)
+}
+
+#[test]
+fn refuses_a_text_that_is_no_schedule(rt: HostRuntime) -> Result<(), Fail> {
+    let schedules = [
+        "0 0 0",
+        "0 0 0\r\n",
+        "0 0 1\n",
+        "0 1 0\n",
+        "1 0 0\n",
+        "0 0 00\n",
+        "0 0  0\n",
+        "\n",
+        "0 0 0\n\n0 0 0\n",
+        "0 0 0\n0 0 0",
+        "0 0 0\n0 0 1\n",
+    ];
+    for schedule in schedules {
+        let mut case = hi(rt.alloc())?;
+        case.schedule = text(rt.alloc(), schedule)?;
+        comes_to_nothing(&rt, schedule, case, &NO_SCHEDULE)?;
+    }
+    Ok(())
+}
+
+#[test]
+fn a_schedule_has_at_most_1_000_000_lines(rt: HostRuntime) -> Result<(), Fail> {
+    let mut case = hi(rt.alloc())?;
+    case.schedule = Some("0 0 0\n".repeat(rt.alloc(), 1_000_000)?);
+    let outcome = comes_to(&rt, "1,000,000 lines", case, &HI_DONE, HI_LINES)?;
+    assert_eq!(rt; outcome.marks.as_slice().len(), 1_000_000);
+    let mut case = hi(rt.alloc())?;
+    case.schedule = Some("0 0 0\n".repeat(rt.alloc(), 1_000_001)?);
+    comes_to_nothing(&rt, "1,000,001 lines", case, &NO_SCHEDULE)
+}
+
+/// A guest that sets three registers, calls, and ends with what x10 then holds, shows these lines.
+fn shows(
+    rt: &(impl Abort + AllocGlobal),
+    what: &str,
+    set: [u32; 3],
+    shown: &str,
+) -> Result<(), Fail> {
+    let [a, b, c] = set;
+    let mut case = hi(rt.alloc())?;
+    case.guest = file_of(rt.alloc(), &[a, b, c, ECALL, addi(17, 0, 1), ECALL])?;
+    let (outcome, out) = call(rt.alloc(), case)?;
+    assert_eq!(rt; out.bytes(), shown.as_bytes(), "{what}");
+    assert_eq!(rt; outcome.verdict, Verdict::Done, "{what}");
+    Ok(())
+}
+
+#[test]
+fn a_call_within_its_bounds_shows_bytes(rt: HostRuntime) -> Result<(), Fail> {
+    let zeros = "00".repeat(rt.alloc(), 256)?;
+    let most = format!(in rt.alloc(); "out 0 0 {zeros}\nend 0 1 256\n")?;
+    let calls = [
+        (
+            "256 bytes",
+            [addi(10, 0, 0), addi(11, 0, 256)],
+            most.as_str(),
+        ),
+        (
+            "no bytes",
+            [addi(10, 0, 0), addi(11, 0, 0)],
+            "out 0 0 -\nend 0 1 0\n",
+        ),
+        (
+            "its own code",
+            [addi(10, 0, 1024), addi(11, 0, 5)],
+            "out 0 0 9308200013\nend 0 1 5\n",
+        ),
+        (
+            "the last byte",
+            [addi(10, 2, 15), addi(11, 0, 1)],
+            "out 0 0 00\nend 0 1 1\n",
+        ),
+        (
+            "no bytes at the end",
+            [addi(10, 2, 16), addi(11, 0, 0)],
+            "out 0 0 -\nend 0 1 0\n",
+        ),
+    ];
+    for (what, [from, count], shown) in calls {
+        shows(&rt, what, [addi(17, 0, 2), from, count], shown)?;
+    }
+    Ok(())
+}
+
+#[test]
+fn a_call_past_its_bounds_is_answered(rt: HostRuntime) -> Result<(), Fail> {
+    let calls = [
+        ("257 bytes", [addi(10, 0, 0), addi(11, 0, 257)]),
+        ("past the end", [addi(10, 2, 15), addi(11, 0, 2)]),
+        ("no bytes past the end", [addi(10, 2, 17), addi(11, 0, 0)]),
+        ("past all addresses", [addi(10, 0, 0xfff), addi(11, 0, 2)]),
+    ];
+    for (what, [from, count]) in calls {
+        shows(
+            &rt,
+            what,
+            [addi(17, 0, 2), from, count],
+            "end 0 0 4294967293\n",
+        )?;
+    }
+    Ok(())
+}
+
+#[test]
+fn a_call_of_no_known_number_is_answered(rt: HostRuntime) -> Result<(), Fail> {
+    for number in [0, 3, 9] {
+        let what = format!(in rt.alloc(); "call {number}")?;
+        let set = [addi(17, 0, number), addi(10, 0, 0), addi(11, 0, 0)];
+        shows(&rt, &what, set, "end 0 0 4294967287\n")?;
+    }
+    Ok(())
+}
+
+#[test]
+fn sums_are_of_signed_immediates_and_words(rt: HostRuntime) -> Result<(), Fail> {
+    let sums = [
+        (
+            "the least immediate",
+            [addi(10, 0, 0x800), addi(11, 0, 0)],
+            "end 0 0 4294965248\n",
+        ),
+        (
+            "the greatest immediate",
+            [addi(10, 0, 0x7ff), addi(11, 0, 0)],
+            "end 0 0 2047\n",
+        ),
+        (
+            "past the last word",
+            [addi(10, 0, 0xfff), addi(10, 10, 3)],
+            "end 0 0 2\n",
+        ),
+        ("x0 stays 0", [addi(0, 0, 5), addi(10, 0, 0)], "end 0 0 0\n"),
+        (
+            "the stack pointer",
+            [addi(10, 2, 0), addi(11, 0, 0)],
+            "end 0 0 65520\n",
+        ),
+    ];
+    for (what, [first, second], shown) in sums {
+        shows(&rt, what, [first, second, addi(17, 0, 1)], shown)?;
+    }
+    Ok(())
+}

@@ -1,0 +1,144 @@
+ghost use Rattle.std.specs.Prelude.{◌≡◌, ◌≤◌, ◌<◌, ◌+◌, ◌∷◌, [], ℕ, All, List, Option, length, IfOk, OnOk, OnErr};
+ghost use Rattle.dc_media.specs.Causes.{HasCause};
+ghost use Rattle.dc_media.specs.Sinks.{TakesWhole};
+ghost use Rattle.dc_media.specs.Told.{TellsOn};
+ghost use Rattle.dc_plain.specs.Lines.{visible_line};
+ghost use Rattle.dc_run.specs.Running.{process_of, GoesOn, BreaksOff, HasRoom, IsRunning, RunsOn, RunsInto};
+ghost use Rattle.dc_plain.specs.Guest.{guests_of};
+ghost use Rattle.dc_plain.specs.declared.entry.Entry.{Entry as Entries};
+
+use crate::Verdict;
+use crate::guest::Guest;
+use crate::outcome::Outcome;
+use crate::reserved::Reserved;
+use dc_media::{Sink, SinkFailed, write_whole};
+use dc_plain::{Act, Entry, Idle, Mark, Taken, Visible, line_of};
+use std::alloc::{AllocError, Global};
+
+/// The guest of a run, with what it did so far.
+#[derive(Drop)]
+pub struct World {
+    pub guest: Guest,
+    /// How many records it has shown.
+    pub shown: u32,
+    pub acts: Reserved<Taken>,
+    pub marks: Reserved<Mark>,
+    /// How many whole lines were written.
+    pub lines: u32,
+}
+
+/// The process whose turn an entry is.
+fn process(entry: &Entry) -> u32
+    ensures { result ≡ process_of entry.now }
+{
+    match *entry {
+        Entry::Turn { p, .. } => p,
+    }
+}
+
+/// Writes the line of a visible record.
+fn show<O: Sink>(visible: &Visible, out: &mut O) -> Result<(), SinkFailed>
+    ensures held { TakesWhole (visible_line visible.now) result (O.held out.old) (O.held out.new) }
+    ensures tells { TellsOn 0 (O.faults out.new) (O.held out.old) (O.held out.new) }
+    ensures cause { HasCause (O.faults out.old) (O.faults out.new) result }
+{
+    write_whole(out, line_of(visible).as_slice())
+}
+
+impl World {
+    /// A guest that begins with this memory, with room for so many entries.
+    pub fn open(alloc: Global, memory: Vec<u8>, entries: usize) -> Result<World, AllocError>
+        requires long { length memory.items ≡ 65536 }
+        requires few { entries ≤ 1000000 }
+        ensures begins { IfOk result (λ w. (inputs : List (List (List ℕ))) (schedule : List Entries) (held : Option (List ℕ)) →
+            IsRunning (guests_of (record { memory = memory.items; entry = 1024 } ∷ []) inputs) schedule w held held) }
+        ensures unmarked { IfOk result (λ w. length w.marks.items ≡ 0) }
+        ensures room { IfOk result (λ w. HasRoom w entries) }
+    {
+        let mut acts = Reserved::new(alloc);
+        acts.reserve(entries)?;
+        let mut marks = Reserved::new(alloc);
+        marks.reserve(entries)?;
+        Ok(World {
+            guest: Guest::new(memory),
+            shown: 0,
+            acts,
+            marks,
+            lines: 0,
+        })
+    }
+
+    /// One entry. After a fault of the sink the act stands and the entry has no mark.
+    pub fn turn<O: Sink>(&mut self, entry: &Entry, out: &mut O) -> Result<(), SinkFailed>
+        requires process { process_of entry.now ≡ 0 }
+        requires room { HasRoom self.old 1 }
+        ensures goes_on { OnOk result (GoesOn self.old self.new entry.now (O.held out.old) (O.held out.new)) }
+        ensures breaks_off { OnErr result (BreaksOff self.old self.new entry.now (O.held out.old) (O.held out.new)) }
+        ensures room { OnOk result ((left : ℕ) → HasRoom self.old (left + 1) → HasRoom self.new left) }
+        ensures marks { OnOk result (length self.new.marks.items ≡ length self.old.marks.items + 1) }
+        ensures tells { TellsOn 0 (O.faults out.new) (O.held out.old) (O.held out.new) }
+        ensures cause { HasCause (O.faults out.old) (O.faults out.new) result }
+    {
+        if self.guest.has_ended() {
+            self.marks.push(Mark::Idle(Idle::Ended));
+            return Ok(());
+        }
+        let next = self.guest.next();
+        let body = self.guest.body(&next);
+        let t = self.marks.as_slice().len() as u32;
+        let p = process(entry);
+        self.acts.push(Taken {
+            t,
+            p,
+            act: Act::Plain,
+        });
+        self.guest.take(&next);
+        match body {
+            None => {
+                self.marks.push(Mark::Stepped);
+                Ok(())
+            }
+            Some(body) => {
+                let visible = Visible {
+                    p,
+                    k: self.shown,
+                    body,
+                };
+                self.shown += 1;
+                show(&visible, out)?;
+                self.lines += 1;
+                self.marks.push(Mark::Showed(visible.k));
+                Ok(())
+            }
+        }
+    }
+
+    /// The whole schedule, entry by entry, up to a fault of the sink.
+    pub fn run<O: Sink>(&mut self, schedule: &[Entry], out: &mut O) -> Result<(), SinkFailed>
+        requires begun { length self.old.marks.items ≡ 0 }
+        requires turns { All (λ entry. process_of entry ≡ 0) schedule.now }
+        requires room { HasRoom self.old (length schedule.now) }
+        ensures runs_on { OnOk result (RunsOn self.old self.new schedule.now (O.held out.old) (O.held out.new)) }
+        ensures runs_into { OnErr result (RunsInto self.old self.new schedule.now (O.held out.old) (O.held out.new)) }
+        ensures used { OnOk result (length self.new.marks.items ≡ length schedule.now) }
+        ensures tells { TellsOn 0 (O.faults out.new) (O.held out.old) (O.held out.new) }
+        ensures cause { HasCause (O.faults out.old) (O.faults out.new) result }
+    {
+        for entry in schedule {
+            self.turn(entry, out)?;
+        }
+        Ok(())
+    }
+
+    /// The outcome of a run that came to this verdict.
+    pub fn outcome(self, verdict: Verdict) -> Outcome
+        ensures { result ≡ record { verdict = verdict; acts = self.acts; marks = self.marks; lines = self.lines } }
+    {
+        Outcome {
+            verdict,
+            acts: self.acts,
+            marks: self.marks,
+            lines: self.lines,
+        }
+    }
+}
