@@ -1,6 +1,6 @@
 -- The guests of this program: machines that run or have ended.
 use Rattle.std.specs.Prelude.{ℕ, ◌-◌, ◌^◌, Bool, true, false, List, [], length, take, drop, replicate, Option, None, Some, if◌then◌else◌, slice_get, slice_set, unwrap_or}
-use Rattle.dc_plain.specs.Image.{Image}
+use Rattle.dc_elf.specs.Images.{Image}
 use Rattle.dc_plain.specs.Machine.{Machine, meaning, next_of, answered}
 use Rattle.dc_plain.specs.World.{Event, Answer, Guests}
 use Rattle.dc_plain.specs.World.Event.{AtEnd, AtInternal, AtVisible}

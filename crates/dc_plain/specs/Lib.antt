@@ -1,6 +1,5 @@
 pub mod Bits
 pub mod Machine
-pub mod Image
 pub mod World
 pub mod Guest
 pub mod Plain

@@ -1,9 +1,9 @@
 //! Laws of the definitions, each the contract of a function that does nothing.
 
-ghost use Rattle.std.specs.Prelude.{◌≡◌, ◌↔◌, ℕ, List, Some, IsTrue};
+ghost use Rattle.std.specs.Prelude.{◌≡◌, ◌↔◌, ℕ, List, Some};
 ghost use Rattle.dc_plain.specs.Core.{Core, LeadsTo};
 ghost use Rattle.dc_plain.specs.Guest.{guests_of};
-ghost use Rattle.dc_plain.specs.Image.{Image, code_of, file_of, is_code};
+ghost use Rattle.dc_elf.specs.Images.{Image};
 ghost use Rattle.dc_plain.specs.Led.{IsLed};
 ghost use Rattle.dc_plain.specs.Machine.{Codes, decoded};
 ghost use Rattle.dc_plain.specs.Plain.{run, reported, world_of};
@@ -14,11 +14,6 @@ use crate::{Entry, Instr, Mark};
 /// A word is decoded to exactly the instruction that the table says it codes.
 pub fn words_decode_by_the_table()
     ensures { (i : Instr) (w : ℕ) → (decoded w ≡ Some i) ↔ Codes i w }
-{}
-
-/// A guest's file is the one of its code, and of no other.
-pub fn files_hold_their_code()
-    ensures { (file code : List ℕ) → (code_of file ≡ Some code) ↔ ((file ≡ file_of code) × IsTrue (is_code code)) }
 {}
 
 /// A run needs no more than its report: what was told is found again, and each process is the fold of its own acts.

@@ -14,9 +14,7 @@ mod visible;
 
 pub use act::{Act, Taken};
 pub use entry::Entry;
-pub use laws::{
-    files_hold_their_code, marks_lead_to_runs, reports_tell_runs, words_decode_by_the_table,
-};
+pub use laws::{marks_lead_to_runs, reports_tell_runs, words_decode_by_the_table};
 pub use line::{Line, line_of};
 pub use machine::{Call, Instr, Next};
 pub use mark::{Idle, Mark};

@@ -1,6 +1,5 @@
 mod PlanTexts
 mod ScheduleTexts
-mod ImageTexts
 mod Turns
 mod Openings
 mod Headlines

@@ -1,91 +1,228 @@
--- A schedule has one text, and a text has at most one schedule.
-use Rattle.std.proofs.Common.{◌≡◌, ◌∙◌, ◌*◌, ◌/◌, ◌<◌, ◌==◌, ◌&&◌, ℕ, zero, suc, Bool, true, false, List, [], ◌∷◌, ◌++◌, length, take, drop, None, Some, ap, sym, subst, refl, arith, bytes_eq, if◌then◌else◌, nat_le, replicate, ⊎_elim, is_some}
-use Rattle.std.proofs.lemmas.Bool.{le-leb, leb-true, cases_Bool, true≢false, ne_eqb}
-use Rattle.std.proofs.lemmas.List.{take-append-drop, length-replicate}
-use Rattle.std.proofs.lemmas.Fmt.{decimal_digit}
-use Rattle.std.proofs.lemmas.Slice.Eq.{bytes_eq-Decides}
+-- Lines, fields and numbers of a schedule's text.
+use Rattle.std.proofs.Common.{◌≡◌, ◌∙◌, ◌+◌, ◌-◌, ◌^◌, ◌==◌, ◌<◌, ◌≤◌, ◌&&◌, ℕ, suc, Bool, true, false, List, [], ◌∷◌, ◌++◌, length, take, drop, None, Some, Result, Ok, Err, ap, sym, subst, refl, arith, if◌then◌else◌, nat_lt, nat_le, ⊎_elim, cond, length-drop, add-one}
+use Rattle.std.specs.List.{position, position_or_len}
+use Rattle.std.specs.Result.{is_ok, is_err}
+use Rattle.std.proofs.lemmas.Bool.{cases_Bool, leb-true, lt-ltb, le-leb, le-ltb, ltb-true, true≢false, cases_lt}
+use Rattle.std.proofs.lemmas.List.{take_all, append_assoc}
+use Rattle.dc_words.specs.Numbers.{is_number, number_of}
+use Rattle.dc_words.specs.declared.numbers.NumberFault.{NumberFault}
+use Rattle.dc_words.specs.declared.numbers.NumberFault.TheVariants.{NotNumber, Range}
 use Rattle.dc_plain.specs.declared.entry.Entry.{Entry}
-use Rattle.dc_run.specs.Schedules.{entry_line, schedule_text, turn, turns_in, is_turns, schedule_of, IsSchedule}
+use Rattle.dc_plain.specs.declared.entry.Entry.TheVariants.{Turn}
+use Rattle.dc_run.specs.Schedules.{in_front, lines_of, fields_of, value, is_below, turn_of, entry_by, entry_of, schedule_from, prefixed, with_front, clock_of, process_of}
+use Rattle.dc_run.specs.declared.verdict.ScheduleFault.{ScheduleFault}
+use Rattle.dc_run.specs.declared.verdict.LineFault.{LineFault}
+use Rattle.dc_run.specs.declared.verdict.LineFault.TheVariants.{Form, Process, ClockFell, TooMany}
 
--- the lines of turns, written out
-abbrev lines : ℕ → List ℕ
-lines zero = []
-lines (suc n) = 48 ∷ 32 ∷ 48 ∷ 32 ∷ 48 ∷ 10 ∷ lines n
+-- how far it is to the next such byte
+abbrev pub far : ℕ → List ℕ → ℕ
+far stop text = position_or_len (λ c. c == stop) text
 
-turn_line : entry_line turn ≡ 48 ∷ 32 ∷ 48 ∷ 32 ∷ 48 ∷ 10 ∷ []
-turn_line = rw (decimal_digit 0 (omega arith)) refl
+placed : (n k i : ℕ) → cond (nat_lt k n) (Some k) None ≡ Some i → (i ≡ k) × (k < n)
+placed n k i e = ⊎_elim
+    (λ (h : k < n). let f : Some k ≡ Some i = sym (rw (lt-ltb k n h) refl) ∙ e in (cc, h))
+    (λ (h : n ≤ k). let f : None ≡ Some i = sym (rw (le-ltb k n h) refl) ∙ e in absurd (let never : ⊥ = cc in never))
+    (cases_lt k n)
 
-text_is_lines : (n : ℕ) → schedule_text (replicate n turn) ≡ lines n
-text_is_lines zero = refl
-text_is_lines (suc n) = rw (turn_line, text_is_lines n) refl
+unplaced : (n k : ℕ) → cond (nat_lt k n) (Some k) None ≡ None → n ≤ k
+unplaced n k e = ⊎_elim
+    (λ (h : k < n). let f : Some k ≡ None = sym (rw (lt-ltb k n h) refl) ∙ e in absurd (let never : ⊥ = cc in never))
+    (λ (h : n ≤ k). h)
+    (cases_lt k n)
 
-lines_length : (n : ℕ) → length (lines n) ≡ 6 * n
-lines_length zero = refl
-lines_length (suc n) = omega (arith, lines_length n)
+far_on : (stop c : ℕ) (text : List ℕ) → (c == stop) ≡ false → far stop (c ∷ text) ≡ suc (far stop text)
+far_on stop c text e = rw e (omega arith)
 
-tests_lines : (text : List ℕ) → is_turns text ≡ bytes_eq text (lines (length text / 6))
-tests_lines text = ap (bytes_eq text) (text_is_lines (length text / 6))
+far_here : (stop c : ℕ) (text : List ℕ) → (c == stop) ≡ true → far stop (c ∷ text) ≡ 0
+far_here stop c text e = rw e refl
 
--- a line more in front
-line_more : (rest : List ℕ) → is_turns (48 ∷ 32 ∷ 48 ∷ 32 ∷ 48 ∷ 10 ∷ rest) ≡ is_turns rest
-line_more rest = let text : List ℕ = 48 ∷ 32 ∷ 48 ∷ 32 ∷ 48 ∷ 10 ∷ rest in let e : length text / 6 ≡ suc (length rest / 6) = omega arith in
-    tests_lines text ∙ ap (λ n. bytes_eq text (lines n)) e ∙ sym (tests_lines rest)
+-- a line that ends
+lines_split : (text : List ℕ) → far 10 text < length text → lines_of text ≡ take (far 10 text) text ∷ lines_of (drop (suc (far 10 text)) text)
+lines_split [] within = absurd (omega arith)
+lines_split (c ∷ text) within = ⊎_elim
+    (λ yes. rw (far_here 10 c text yes, yes) refl)
+    (λ no. let on = far_on 10 c text no in rw (on, no) (ap (in_front c) (lines_split text (omega (arith, on, within)))))
+    (cases_Bool (c == 10))
 
--- a text that does not begin with a line
-other_front : (n : ℕ) (rest : List ℕ) → bytes_eq (take 6 rest) (48 ∷ 32 ∷ 48 ∷ 32 ∷ 48 ∷ 10 ∷ []) ≡ false → 0 < length rest → bytes_eq rest (lines n) ≡ false
-other_front n [] other some = absurd (omega arith)
-other_front zero (c ∷ rest) other some = refl
-other_front (suc n) (c ∷ rest) other some = ⊎_elim
-    (λ same. absurd (true≢false (sym (ap (λ xs. bytes_eq (take 6 xs) (48 ∷ 32 ∷ 48 ∷ 32 ∷ 48 ∷ 10 ∷ [])) ((bytes_eq-Decides (c ∷ rest) (lines (suc n))).0 same)) ∙ other)))
-    (λ differs. differs)
-    (cases_Bool (bytes_eq (c ∷ rest) (lines (suc n))))
+-- a line without its line feed
+lines_whole : (text : List ℕ) → length text ≤ far 10 text → 0 < length text → lines_of text ≡ text ∷ []
+lines_whole [] past some = absurd (omega arith)
+lines_whole (c ∷ []) past some = ⊎_elim (λ yes. absurd (omega (arith, far_here 10 c [] yes, past))) (λ no. rw no refl) (cases_Bool (c == 10))
+lines_whole (c ∷ d ∷ text) past some = ⊎_elim
+    (λ yes. absurd (omega (arith, far_here 10 c (d ∷ text) yes, past)))
+    (λ no. rw no (ap (in_front c) (lines_whole (d ∷ text) (omega (arith, far_on 10 c (d ∷ text) no, past)) (omega arith))))
+    (cases_Bool (c == 10))
 
-pub no_line : (rest : List ℕ) → bytes_eq (take 6 rest) (48 ∷ 32 ∷ 48 ∷ 32 ∷ 48 ∷ 10 ∷ []) ≡ false → 0 < length rest → is_turns rest ≡ false
-no_line rest other some = tests_lines rest ∙ other_front (length rest / 6) rest other some
+fields_split : (text : List ℕ) → far 32 text < length text → fields_of text ≡ take (far 32 text) text ∷ fields_of (drop (suc (far 32 text)) text)
+fields_split [] within = absurd (omega arith)
+fields_split (c ∷ text) within = ⊎_elim
+    (λ yes. rw (far_here 32 c text yes, yes) refl)
+    (λ no. let on = far_on 32 c text no in rw (on, no) (ap (in_front c) (fields_split text (omega (arith, on, within)))))
+    (cases_Bool (c == 32))
 
--- where no line is left in front, nothing is left or the text is not of lines
-pub at_stop : (rest : List ℕ) → bytes_eq (take 6 rest) (48 ∷ 32 ∷ 48 ∷ 32 ∷ 48 ∷ 10 ∷ []) ≡ false → (length rest == 0) ≡ is_turns rest
-at_stop [] other = refl
-at_stop (c ∷ rest) other = ne_eqb (suc (length rest)) 0 (omega arith) ∙ sym (no_line (c ∷ rest) other (omega arith))
+fields_whole : (text : List ℕ) → length text ≤ far 32 text → fields_of text ≡ text ∷ []
+fields_whole [] past = refl
+fields_whole (c ∷ text) past = ⊎_elim
+    (λ yes. absurd (omega (arith, far_here 32 c text yes, past)))
+    (λ no. rw no (ap (in_front c) (fields_whole text (omega (arith, far_on 32 c text no, past)))))
+    (cases_Bool (c == 32))
 
-pub line_off : (text rest : List ℕ) → bytes_eq (take 6 text) (48 ∷ 32 ∷ 48 ∷ 32 ∷ 48 ∷ 10 ∷ []) ≡ true → rest ≡ drop 6 text → is_turns rest ≡ is_turns text
-line_off text rest front is =
-    let same : take 6 text ≡ 48 ∷ 32 ∷ 48 ∷ 32 ∷ 48 ∷ 10 ∷ [] = (bytes_eq-Decides (take 6 text) (48 ∷ 32 ∷ 48 ∷ 32 ∷ 48 ∷ 10 ∷ [])).0 front in
-    let whole : 48 ∷ 32 ∷ 48 ∷ 32 ∷ 48 ∷ 10 ∷ rest ≡ text = ap (λ xs. 48 ∷ 32 ∷ 48 ∷ 32 ∷ 48 ∷ 10 ∷ xs) is ∙ ap (λ xs. xs ++ drop 6 text) (sym same) ∙ take-append-drop 6 text in
-    sym (line_more rest) ∙ ap is_turns whole
+-- what `&text[i + 1..]` is
+rest_is : (text : List ℕ) (i : ℕ) → take (length text - (i + 1)) (drop (i + 1) text) ≡ drop (suc i) text
+rest_is text i = take_all (length text - (i + 1)) (drop (i + 1) text) (omega (arith, length-drop (i + 1) text)) ∙ ap (λ n. drop n text) (add-one i)
 
--- between a text and its schedule
-tested : (a b : Bool) (rest entries : List Entry) → (if a && b then Some rest else None) ≡ Some entries → (a ≡ true) × (b ≡ true) × (rest ≡ entries)
-tested true true rest entries e = (refl, refl, cc)
-tested true false rest entries e = absurd (let never : ⊥ = cc in never)
-tested false b rest entries e = absurd (let never : ⊥ = cc in never)
+-- by what `position` says
+pub line_ends : (text : List ℕ) (i : ℕ) → position (λ c. c == 10) text ≡ Some i → lines_of text ≡ take i text ∷ lines_of (take (length text - (i + 1)) (drop (i + 1) text))
+line_ends text i e = let at = placed (length text) (far 10 text) i e in
+    lines_split text at.1 ∙ ap (λ k. take k text ∷ lines_of (drop (suc k) text)) (sym at.0) ∙ ap (λ rest. take i text ∷ lines_of rest) (sym (rest_is text i))
 
-pub schedule_is : (text : List ℕ) (entries : List Entry) → schedule_of text ≡ Some entries → IsSchedule text entries
-schedule_is text entries e =
-    let parts = tested (nat_le (length text / 6) 1000000) (is_turns text) (turns_in text) entries e in
-    subst (IsSchedule text) parts.2 (record {
-      text_is = (bytes_eq-Decides text (schedule_text (turns_in text))).0 parts.1;
-      turns = ap (λ n. replicate n turn) (sym (length-replicate (length text / 6) turn));
-      few = rw (length-replicate (length text / 6) turn) (leb-true (length text / 6) 1000000 parts.0);
-    })
+pub line_is_last : (text : List ℕ) → position (λ c. c == 10) text ≡ None → 0 < length text → lines_of text ≡ text ∷ lines_of (take (length text - length text) (drop (length text) text))
+line_is_last text e some = lines_whole text (unplaced (length text) (far 10 text) e) some ∙ ap (λ rest. text ∷ lines_of rest) (sym (ap (λ n. take n (drop (length text) text)) none))
+  where
+    none : length text - length text ≡ 0
+    none = omega arith
 
-passed : (a b : Bool) (rest : List Entry) → a ≡ true → b ≡ true → (if a && b then Some rest else None) ≡ Some rest
-passed a b rest e f = rw (e, f) refl
+pub field_ends : (text : List ℕ) (i : ℕ) → position (λ c. c == 32) text ≡ Some i → fields_of text ≡ take i text ∷ fields_of (take (length text - (i + 1)) (drop (i + 1) text))
+field_ends text i e = let at = placed (length text) (far 32 text) i e in
+    fields_split text at.1 ∙ ap (λ k. take k text ∷ fields_of (drop (suc k) text)) (sym at.0) ∙ ap (λ rest. take i text ∷ fields_of rest) (sym (rest_is text i))
 
-pub schedule_from : (text : List ℕ) (entries : List Entry) → IsSchedule text entries → schedule_of text ≡ Some entries
-schedule_from text entries is =
-    let count = length entries in
-    let long : length text ≡ 6 * count = ap length is.text_is ∙ ap (λ xs. length (schedule_text xs)) is.turns ∙ ap length (text_is_lines count) ∙ lines_length count in
-    let six : length text / 6 ≡ count = omega (arith, long) in
-    let same : turns_in text ≡ entries = ap (λ n. replicate n turn) six ∙ sym is.turns in
-    let matches : is_turns text ≡ true = (bytes_eq-Decides text (schedule_text (turns_in text))).1 (is.text_is ∙ ap schedule_text (sym same)) in
-    let few : nat_le (length text / 6) 1000000 ≡ true = rw six (le-leb count 1000000 is.few) in
-    passed (nat_le (length text / 6) 1000000) (is_turns text) (turns_in text) few matches ∙ ap (λ xs. Some xs) same
+pub field_is_last : (text : List ℕ) → position (λ c. c == 32) text ≡ None → fields_of text ≡ text ∷ []
+field_is_last text e = fields_whole text (unplaced (length text) (far 32 text) e)
 
-some_of : (b : Bool) (entries : List Entry) → is_some (if b then Some entries else None) ≡ true → (if b then Some entries else None) ≡ Some entries
-some_of true entries e = refl
-some_of false entries e = absurd (let never : ⊥ = cc in never)
+-- what reading a number says
+picked : (f r : Bool) (v n : ℕ) → ◌≡◌ {A = Result ℕ NumberFault} (Ok n) (if f then (if r then Ok v else Err Range) else Err NotNumber) → (f ≡ true) × (r ≡ true) × (v ≡ n)
+picked true true v n e = (refl, refl, cc)
+picked true false v n e = absurd (let never : ⊥ = cc in never)
+picked false r v n e = absurd (let never : ⊥ = cc in never)
 
--- a schedule that is there
-pub schedule_there : (text : List ℕ) → is_some (schedule_of text) ≡ true → schedule_of text ≡ Some (turns_in text)
-schedule_there text e = some_of (nat_le (length text / 6) 1000000 && is_turns text) (turns_in text) e
+not_number : (f r : Bool) (v : ℕ) → ◌≡◌ {A = Result ℕ NumberFault} (Err NotNumber) (if f then (if r then Ok v else Err Range) else Err NotNumber) → f ≡ false
+not_number true true v e = absurd (let never : ⊥ = cc in never)
+not_number true false v e = absurd (let never : ⊥ = cc in never)
+not_number false r v e = refl
+
+over_range : (f r : Bool) (v : ℕ) → ◌≡◌ {A = Result ℕ NumberFault} (Err Range) (if f then (if r then Ok v else Err Range) else Err NotNumber) → (f ≡ true) × (r ≡ false)
+over_range true true v e = absurd (let never : ⊥ = cc in never)
+over_range true false v e = (refl, refl)
+over_range false r v e = absurd (let never : ⊥ = cc in never)
+
+below_true : (v max bound : ℕ) → bound ≡ suc max → nat_le v max ≡ true → nat_lt v bound ≡ true
+below_true v max bound e h = lt-ltb v bound (omega (arith, leb-true v max h, e))
+
+below_false : (v max bound : ℕ) → bound ≡ suc max → nat_le v max ≡ false → nat_lt v bound ≡ false
+below_false v max bound e h = ⊎_elim
+    (λ (k : max < v). le-ltb v bound (omega (arith, k, e)))
+    (λ (k : v ≤ max). absurd (true≢false (sym (le-leb v max k) ∙ h)))
+    (cases_lt max v)
+
+-- numbers up to a greatest one, as numbers below the next
+below_is : (text : List ℕ) (max bound n : ℕ) → bound ≡ suc max → Ok n ≡ number_of max text → (is_number text ≡ true) × (nat_lt (value text) bound ≡ true) × (value text ≡ n)
+below_is text max bound n e found = let parts = picked (is_number text) (nat_le (value text) max) (value text) n found in
+    (parts.0, below_true (value text) max bound e parts.1, parts.2)
+
+is_below_is : (text : List ℕ) (max bound n : ℕ) → bound ≡ suc max → Ok n ≡ number_of max text → is_below bound text ≡ true
+is_below_is text max bound n e found = let parts = below_is text max bound n e found in rw (parts.0, parts.1) refl
+
+below_not : (text : List ℕ) (max bound : ℕ) (fault : NumberFault) → bound ≡ suc max → Err fault ≡ number_of max text → is_below bound text ≡ false
+below_not text max bound NotNumber e found = rw (not_number (is_number text) (nat_le (value text) max) (value text) found) refl
+below_not text max bound Range e found = let parts = over_range (is_number text) (nat_le (value text) max) (value text) found in
+    rw (parts.0, below_false (value text) max bound e parts.1) refl
+
+and_off : (b : Bool) → (b && false) ≡ false
+and_off true = refl
+and_off false = refl
+
+-- the turn of three fields, by what was read of each
+module _ (n last : ℕ) (p word clock : List ℕ) where
+  pub bad_word : (fault : NumberFault) → Err fault ≡ number_of (2 ^ 32 - 1) word → Err Form ≡ turn_of n last p word clock
+  bad_word fault e = rw (below_not word (2 ^ 32 - 1) (2 ^ 32) fault refl e, and_off (is_number p)) refl
+
+  pub bad_clock : (fault : NumberFault) → Err fault ≡ number_of (2 ^ 64 - 1) clock → Err Form ≡ turn_of n last p word clock
+  bad_clock fault e = rw (below_not clock (2 ^ 64 - 1) (2 ^ 64) fault refl e, and_off (is_below (2 ^ 32) word), and_off (is_number p)) refl
+
+  pub bad_number : Err NotNumber ≡ number_of (n - 1) p → Err Form ≡ turn_of n last p word clock
+  bad_number e = rw (not_number (is_number p) (nat_le (value p) (n - 1)) (value p) e) refl
+
+  module _ (w k : ℕ) (some : 0 < n) (word_is : Ok w ≡ number_of (2 ^ 32 - 1) word) (clock_is : Ok k ≡ number_of (2 ^ 64 - 1) clock) where
+    pub no_process : Err Range ≡ number_of (n - 1) p → Err Process ≡ turn_of n last p word clock
+    no_process e = let parts = over_range (is_number p) (nat_le (value p) (n - 1)) (value p) e in
+        rw (parts.0, is_below_is word (2 ^ 32 - 1) (2 ^ 32) w refl word_is, is_below_is clock (2 ^ 64 - 1) (2 ^ 64) k refl clock_is, below_false (value p) (n - 1) n (omega (arith, some)) parts.1) refl
+
+    at_process : (q : ℕ) → Ok q ≡ number_of (n - 1) p → turn_of n last p word clock ≡ (if nat_lt (value clock) last then Err ClockFell else Ok (Turn (value p) (value word) (value clock)))
+    at_process q e = let parts = below_is p (n - 1) n q (omega (arith, some)) e in
+        rw (parts.0, is_below_is word (2 ^ 32 - 1) (2 ^ 32) w refl word_is, is_below_is clock (2 ^ 64 - 1) (2 ^ 64) k refl clock_is, parts.1) refl
+
+    clock_value : value clock ≡ k
+    clock_value = (below_is clock (2 ^ 64 - 1) (2 ^ 64) k refl clock_is).2
+
+    pub fallen : (q : ℕ) → Ok q ≡ number_of (n - 1) p → k < last → Err ClockFell ≡ turn_of n last p word clock
+    fallen q e low = sym (at_process q e ∙ rw (lt-ltb (value clock) last (omega (arith, clock_value, low))) refl)
+
+    pub good_turn : (q : ℕ) → Ok q ≡ number_of (n - 1) p → last ≤ k → Ok (Turn q w k) ≡ turn_of n last p word clock
+    good_turn q e high = sym (at_process q e ∙ rw (le-ltb (value clock) last (omega (arith, clock_value, high)), (below_is p (n - 1) n q (omega (arith, some)) e).2, (below_is word (2 ^ 32 - 1) (2 ^ 32) w refl word_is).2, clock_value) refl)
+
+-- a line with more than three fields
+four_fields : (n last : ℕ) (p word clock : List ℕ) (more : List (List ℕ)) → 0 < length more → Err Form ≡ entry_by n last (p ∷ word ∷ clock ∷ more)
+four_fields n last p word clock [] some = absurd (omega arith)
+four_fields n last p word clock (x ∷ more) some = refl
+
+front_some : (c : ℕ) (parts : List (List ℕ)) → 0 < length (in_front c parts)
+front_some c [] = omega arith
+front_some c (part ∷ parts) = omega arith
+
+fields_some : (text : List ℕ) → 0 < length (fields_of text)
+fields_some [] = omega arith
+fields_some (c ∷ text) = ⊎_elim (λ yes. rw yes (omega arith)) (λ no. rw no (front_some c (fields_of text))) (cases_Bool (c == 32))
+
+pub too_many_fields : (n last : ℕ) (line p rest word clock a b : List ℕ) → fields_of line ≡ p ∷ fields_of rest → fields_of rest ≡ word ∷ fields_of clock → fields_of clock ≡ a ∷ fields_of b → Err Form ≡ entry_of n last line
+too_many_fields n last line p rest word clock a b e f g = four_fields n last p word a (fields_of b) (fields_some b) ∙ sym (ap (entry_by n last) (e ∙ ap (λ xs. p ∷ xs) (f ∙ ap (λ xs. word ∷ xs) g)))
+
+pub three_fields : (n last : ℕ) (line p rest word clock : List ℕ) → fields_of line ≡ p ∷ fields_of rest → fields_of rest ≡ word ∷ fields_of clock → fields_of clock ≡ clock ∷ [] → turn_of n last p word clock ≡ entry_of n last line
+three_fields n last line p rest word clock e f g = sym (ap (entry_by n last) (e ∙ ap (λ xs. p ∷ xs) (f ∙ ap (λ xs. word ∷ xs) g)))
+
+-- the process of a good turn
+good_parts : (f b k : Bool) (turn made : Entry) → ◌≡◌ {A = Result Entry LineFault} (Ok turn) (if f then (if b then (if k then Err ClockFell else Ok made) else Err Process) else Err Form) → (b ≡ true) × (turn ≡ made)
+good_parts true true true turn made e = absurd (let never : ⊥ = cc in never)
+good_parts true true false turn made e = (refl, cc)
+good_parts true false k turn made e = absurd (let never : ⊥ = cc in never)
+good_parts false b k turn made e = absurd (let never : ⊥ = cc in never)
+
+turn_below : (n last : ℕ) (p word clock : List ℕ) (turn : Entry) → Ok turn ≡ turn_of n last p word clock → process_of turn < n
+turn_below n last p word clock turn e = let parts = good_parts (is_number p && (is_below (2 ^ 32) word && is_below (2 ^ 64) clock)) (nat_lt (value p) n) (nat_lt (value clock) last) turn (Turn (value p) (value word) (value clock)) e in
+    subst (λ (t : Entry). process_of t < n) (sym parts.1) (ltb-true (value p) n parts.0)
+
+fields_below : (n last : ℕ) (fields : List (List ℕ)) (turn : Entry) → Ok turn ≡ entry_by n last fields → process_of turn < n
+fields_below n last [] turn e = absurd (let never : ⊥ = cc in never)
+fields_below n last (p ∷ []) turn e = absurd (let never : ⊥ = cc in never)
+fields_below n last (p ∷ word ∷ []) turn e = absurd (let never : ⊥ = cc in never)
+fields_below n last (p ∷ word ∷ clock ∷ []) turn e = turn_below n last p word clock turn e
+fields_below n last (p ∷ word ∷ clock ∷ more ∷ fields) turn e = absurd (let never : ⊥ = cc in never)
+
+pub process_below : (n last : ℕ) (line : List ℕ) (turn : Entry) → Ok turn ≡ entry_of n last line → process_of turn < n
+process_below n last line turn e = fields_below n last (fields_of line) turn e
+
+-- a line after the last one that is read
+one_more : (n number last : ℕ) (lines : List (List ℕ)) → 0 < length lines → 1000000 < number → schedule_from n number last lines ≡ Err (record { line = number; kind = TooMany })
+one_more n number last [] some high = absurd (omega arith)
+one_more n number last (line ∷ lines) some high = rw (lt-ltb 1000000 number high) refl
+
+lines_some : (text : List ℕ) → 0 < length text → 0 < length (lines_of text)
+lines_some [] some = absurd (omega arith)
+lines_some (c ∷ text) some = ⊎_elim (λ yes. rw yes (omega arith)) (λ no. rw no (front_some c (lines_of text))) (cases_Bool (c == 10))
+
+pub too_many_lines : (n number last : ℕ) (rest : List ℕ) (front : List Entry) (told : Result (List Entry) ScheduleFault) → told ≡ prefixed front (schedule_from n number last (lines_of rest)) → 0 < length rest → 1000000 < number → told ≡ Err (record { line = number; kind = TooMany })
+too_many_lines n number last rest front told e some high = e ∙ ap (prefixed front) (one_more n number last (lines_of rest) (lines_some rest some) high)
+
+-- an entry goes over to the front
+moved : (front : List Entry) (turn : Entry) (rest : Result (List Entry) ScheduleFault) → prefixed front (with_front turn rest) ≡ prefixed (front ++ turn ∷ []) rest
+moved front turn (Ok entries) = ap (λ (xs : List Entry). Ok xs) (sym (append_assoc front (turn ∷ []) entries))
+moved front turn (Err fault) = refl
+
+pub line_read : (n number last : ℕ) (line rest after : List ℕ) (front : List Entry) (turn : Entry) (told : Result (List Entry) ScheduleFault) → told ≡ prefixed front (schedule_from n number last (lines_of rest)) → lines_of rest ≡ line ∷ lines_of after → number ≤ 1000000 → Ok turn ≡ entry_of n last line → told ≡ prefixed (front ++ turn ∷ []) (schedule_from n (number + 1) (clock_of turn) (lines_of after))
+line_read n number last line rest after front turn told e lines few good = e ∙ ap (λ xs. prefixed front (schedule_from n number last xs)) lines
+    ∙ rw (le-ltb 1000000 number few, sym good) (moved front turn (schedule_from n (suc number) (clock_of turn) (lines_of after)))
+    ∙ ap (λ k. prefixed (front ++ turn ∷ []) (schedule_from n k (clock_of turn) (lines_of after))) (sym (add-one number))
+
+-- where nothing was refused
+pub kept : {T E X : Type 0} (xs ys : List X) (r : Result T E) → false ≡ is_err r → (if is_ok r then xs else ys) ≡ xs
+kept xs ys (Ok v) e = refl
+kept xs ys (Err v) e = absurd (let never : ⊥ = cc in never)

@@ -6,7 +6,7 @@ use Rattle.dc_media.specs.Told.{Becomes}
 use Rattle.dc_media.proofs.Becoming.{Becomes-then}
 use Rattle.dc_plain.specs.Core.{Core, opened_core, LeadsTo, Turned, stands, coming_at, drawn, drawn_answer, after_event, after_turn}
 use Rattle.dc_plain.specs.Guest.{Guest, guests_of, started, coming, after_next, event_of}
-use Rattle.dc_plain.specs.Image.{Image}
+use Rattle.dc_elf.specs.Images.{Image}
 use Rattle.dc_plain.specs.Lines.{text_of, visible_line}
 use Rattle.dc_plain.specs.Machine.{next_of}
 use Rattle.dc_plain.specs.Plain.{reported}
@@ -24,7 +24,8 @@ use Rattle.dc_plain.specs.declared.mark.Mark.TheVariants as mark
 use Rattle.dc_plain.specs.declared.visible.Body.{Body}
 use Rattle.dc_plain.specs.declared.visible.Visible.{Visible}
 use Rattle.dc_plain.proofs.Leading.{leads_follow, stands_event}
-use Rattle.dc_run.specs.Running.{process_of, RunsAs, TornAs}
+use Rattle.dc_run.specs.Running.{RunsAs, TornAs}
+use Rattle.dc_run.specs.Schedules.{process_of}
 
 reverse_end : {A : Type 0} (m : A) (ms : List A) → reverse (ms ++ m ∷ []) ≡ m ∷ reverse ms
 reverse_end m ms = reverse-append ms (m ∷ [])
@@ -207,10 +208,10 @@ nothing_written None = tt
 nothing_written (Some x) = sym (append-nil x)
 
 -- a run at its beginning
-pub begins : (memory : List ℕ) (inputs : List (List (List ℕ))) (schedule : List Entry) (held : Option (List ℕ)) (guest : Guest) (acts : List Taken) (marks : List Mark)
-    → guest ≡ started 0 1 (Some (record { memory = memory; entry = 1024 })) → acts ≡ [] → marks ≡ []
-    → RunsAs (guests_of (record { memory = memory; entry = 1024 } ∷ []) inputs) schedule guest 0 acts marks 0 held held
-begins memory inputs schedule held guest acts marks guest_is acts_are marks_are = rw (guest_is, acts_are, marks_are) (record {
+pub begins : (memory : List ℕ) (entry : ℕ) (inputs : List (List (List ℕ))) (schedule : List Entry) (held : Option (List ℕ)) (guest : Guest) (acts : List Taken) (marks : List Mark)
+    → guest ≡ started 0 1 (Some (record { memory = memory; entry = entry })) → acts ≡ [] → marks ≡ []
+    → RunsAs (guests_of (record { memory = memory; entry = entry } ∷ []) inputs) schedule guest 0 acts marks 0 held held
+begins memory entry inputs schedule held guest acts marks guest_is acts_are marks_are = rw (guest_is, acts_are, marks_are) (record {
   core = opened_core;
   led = refl;
   guest_is = refl;

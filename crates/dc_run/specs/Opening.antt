@@ -1,14 +1,15 @@
 -- What a run is opened with, by the told files, or the refusal that comes first.
 use Rattle.std.specs.Prelude.{◌≡◌, ℕ, List, Option, None, Some, IsSome, IsSomeAnd, Result, Ok, Err, String}
 use Rattle.std.specs.declared.alloc.Global.{Global}
-use Rattle.dc_plain.specs.Image.{Image, code_of, image_of}
+use Rattle.dc_elf.specs.Files.{fault_of}
+use Rattle.dc_elf.specs.Images.{Image, image_of}
+use Rattle.dc_elf.specs.declared.faults.ElfFault.{ElfFault}
 use Rattle.dc_plain.specs.declared.entry.Entry.{Entry}
 use Rattle.dc_run.specs.Command.{plan_asked}
 use Rattle.dc_run.specs.Plans.{Plan, plan_of}
 use Rattle.dc_run.specs.Schedules.{schedule_of}
-use Rattle.dc_run.specs.declared.verdict.ElfFault.TheVariants.{Headers}
-use Rattle.dc_run.specs.declared.verdict.LineFault.TheVariants.{Form}
 use Rattle.dc_run.specs.declared.verdict.PlanFault.TheVariants.{Text}
+use Rattle.dc_run.specs.declared.verdict.ScheduleFault.{ScheduleFault}
 use Rattle.dc_run.specs.declared.verdict.Verdict.{Verdict}
 use Rattle.dc_run.specs.declared.verdict.Verdict.TheVariants.{Usage, PlanRefused, GuestRefused, Missing, ScheduleRefused}
 use Rattle.dc_run.specs.declared.verdict.Which.{Which}
@@ -37,13 +38,27 @@ Files = List ℕ → Option (List ℕ)
 abbrev pub file_in : Files → Which → List ℕ → Result (List ℕ) Verdict
 file_in files which name = or_refused (Missing which) (files name)
 
+-- the image, or the fault of the guest's file
+abbrev pub image_or_fault : Option ElfFault → Image → Result Image Verdict
+image_or_fault None image = Ok image
+image_or_fault (Some fault) image = Err (GuestRefused 0 fault)
+
+-- the image of the guest's file in 65,536 bytes of memory
+abbrev pub guest_in : List ℕ → Result Image Verdict
+guest_in file = image_or_fault (fault_of file 65536) (image_of 65536 file)
+
+-- the schedule, or the fault of its first faulty line
+abbrev pub schedule_in : Result (List Entry) ScheduleFault → Result (List Entry) Verdict
+schedule_in (Ok schedule) = Ok schedule
+schedule_in (Err fault) = Err (ScheduleRefused fault)
+
 -- with the image, from the bytes of the schedule
-abbrev pub opening_at_end : List ℕ → List ℕ → Result Setting Verdict
-opening_at_end code text = or_refused (ScheduleRefused (record { line = 1; kind = Form })) (schedule_of text) >>= (λ schedule. Ok (record { image = image_of 65536 code; schedule = schedule }))
+abbrev pub opening_at_end : Image → List ℕ → Result Setting Verdict
+opening_at_end image text = schedule_in (schedule_of 1 text) >>= (λ schedule. Ok (record { image = image; schedule = schedule }))
 
 -- with the plan's names, from the bytes of the guest
 abbrev pub opening_at_guest : Files → Plan → List ℕ → Result Setting Verdict
-opening_at_guest files plan file = or_refused (GuestRefused 0 Headers) (code_of file) >>= (λ code. file_in files Schedule plan.schedule >>= opening_at_end code)
+opening_at_guest files plan file = guest_in file >>= (λ image. file_in files Schedule plan.schedule >>= opening_at_end image)
 
 -- from the bytes of the plan
 abbrev pub opening_at_plan : Files → List ℕ → Result Setting Verdict
@@ -57,7 +72,7 @@ opening_of files words = or_refused Usage (plan_asked words) >>= (λ name. file_
 
 -- from the bytes of the guest
 abbrev pub AsksAtGuest : List ℕ → Which → Type 0
-AsksAtGuest file Schedule = IsSome (code_of file)
+AsksAtGuest file Schedule = fault_of file 65536 ≡ None
 AsksAtGuest file _ = ⊥
 
 -- from the bytes of the plan

@@ -1,10 +1,10 @@
 -- The status of a verdict, and the line that says it.
 use Rattle.std.specs.Prelude.{◌≡◌, ℕ, List, ◌++◌, ◌∷◌, [], codes, decimal, length}
 use Rattle.dc_run.specs.declared.outcome.Outcome.{Outcome}
-use Rattle.dc_run.specs.declared.verdict.ElfFault.{ElfFault}
-use Rattle.dc_run.specs.declared.verdict.ElfFault.TheVariants.{Headers}
+use Rattle.dc_elf.specs.declared.faults.ElfFault.{ElfFault}
+use Rattle.dc_elf.specs.declared.faults.ElfFault.TheVariants as elf
 use Rattle.dc_run.specs.declared.verdict.LineFault.{LineFault}
-use Rattle.dc_run.specs.declared.verdict.LineFault.TheVariants.{Form}
+use Rattle.dc_run.specs.declared.verdict.LineFault.TheVariants.{Form, Process, ClockFell, TooMany}
 use Rattle.dc_run.specs.declared.verdict.Outlet.{Outlet}
 use Rattle.dc_run.specs.declared.verdict.Outlet.TheVariants.{Out}
 use Rattle.dc_run.specs.declared.verdict.PlanFault.{PlanFault}
@@ -36,10 +36,25 @@ abbrev pub plan_fault_text : PlanFault → List ℕ
 plan_fault_text Text = codes "text"
 
 abbrev pub elf_fault_text : ElfFault → List ℕ
-elf_fault_text Headers = codes "headers"
+elf_fault_text elf.Short = codes "short"
+elf_fault_text elf.Magic = codes "magic"
+elf_fault_text elf.Class = codes "class"
+elf_fault_text elf.Order = codes "order"
+elf_fault_text elf.FileType = codes "file type"
+elf_fault_text elf.Machine = codes "machine"
+elf_fault_text elf.Flags = codes "flags"
+elf_fault_text elf.Headers = codes "headers"
+elf_fault_text (elf.Segment i) = codes "segment " ++ decimal i
+elf_fault_text elf.Entry = codes "entry"
+
+abbrev pub guest_fault_text : ℕ → ElfFault → List ℕ
+guest_fault_text p fault = codes "guest " ++ decimal p ++ codes " refused: " ++ elf_fault_text fault
 
 abbrev pub line_fault_text : LineFault → List ℕ
 line_fault_text Form = codes "form"
+line_fault_text Process = codes "process"
+line_fault_text ClockFell = codes "clock fell"
+line_fault_text TooMany = codes "too many"
 
 abbrev pub schedule_fault_text : ScheduleFault → List ℕ
 schedule_fault_text fault = codes "schedule line " ++ decimal fault.line ++ codes " refused: " ++ line_fault_text fault.kind
@@ -55,7 +70,7 @@ verdict_text Done acts lines = counts_text (codes "done ") acts lines
 verdict_text Unfinished acts lines = counts_text (codes "unfinished ") acts lines
 verdict_text Usage acts lines = codes "usage: dc run PLAN | dc check PLAN REPORT OUT | dc asm SOURCE"
 verdict_text (PlanRefused fault) acts lines = codes "plan refused: " ++ plan_fault_text fault
-verdict_text (GuestRefused p fault) acts lines = codes "guest " ++ decimal p ++ codes " refused: " ++ elf_fault_text fault
+verdict_text (GuestRefused p fault) acts lines = guest_fault_text p fault
 verdict_text (Missing which) acts lines = codes "missing: " ++ which_text which
 verdict_text (LibraryFault which) acts lines = codes "library failed: " ++ which_text which
 verdict_text (SinkFault outlet) acts lines = codes "sink failed: " ++ outlet_text outlet

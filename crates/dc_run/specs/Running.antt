@@ -3,21 +3,16 @@ use Rattle.std.specs.Prelude.{◌≡◌, ◌+◌, ◌<◌, ◌≤◌, ◌^◌, �
 use Rattle.dc_media.specs.Told.{Becomes}
 use Rattle.dc_plain.specs.Core.{Core, LeadsTo, stands}
 use Rattle.dc_plain.specs.Guest.{Guest, guests_of}
-use Rattle.dc_plain.specs.Image.{Image}
+use Rattle.dc_elf.specs.Images.{Image}
 use Rattle.dc_plain.specs.Lines.{text_of, visible_line}
 use Rattle.dc_plain.specs.Plain.{reported}
 use Rattle.dc_plain.specs.World.{Guests}
 use Rattle.dc_plain.specs.declared.act.Taken.{Taken}
 use Rattle.dc_plain.specs.declared.entry.Entry.{Entry}
-use Rattle.dc_plain.specs.declared.entry.Entry.TheVariants.{Turn}
 use Rattle.dc_plain.specs.declared.mark.Mark.{Mark}
 use Rattle.dc_plain.specs.declared.mark.Mark.TheVariants as mark
 use Rattle.dc_plain.specs.declared.visible.Visible.{Visible}
 use Rattle.dc_run.specs.declared.world.World.{World}
-
--- the process whose turn an entry is
-abbrev pub process_of : Entry → ℕ
-process_of (Turn p word clock) = p
 
 -- the marks lead to a core whose guest, acts and lines are these, and its lines stand on the sink
 pub record RunsAs (G : Guests Guest) (schedule : List Entry) (guest : Guest) (shown : ℕ) (acts : List Taken) (marks : List Mark) (lines : ℕ) (before after : Option (List ℕ)) : Type 0 where

@@ -1,34 +1,87 @@
 -- Schedules and their text.
-use Rattle.std.specs.Prelude.{◌≡◌, ◌≤◌, ℕ, ◌/◌, Bool, ◌&&◌, List, [], ◌∷◌, ◌++◌, length, Option, None, Some, codes, decimal, bytes_eq, if◌then◌else◌, nat_le, replicate}
-use Rattle.std.specs.List.{flat_map}
+use Rattle.std.specs.Prelude.{◌≡◌, ℕ, suc, ◌^◌, ◌==◌, ◌&&◌, Bool, List, [], ◌∷◌, ◌++◌, Result, Ok, Err, if◌then◌else◌, nat_lt, Vec}
+use Rattle.std.specs.declared.alloc.Global.{Global}
+use Rattle.std.specs.Str.Parse.{digits_value}
 use Rattle.dc_plain.specs.declared.entry.Entry.{Entry}
 use Rattle.dc_plain.specs.declared.entry.Entry.TheVariants.{Turn}
+use Rattle.dc_words.specs.Numbers.{is_number}
+use Rattle.dc_run.specs.declared.verdict.LineFault.{LineFault}
+use Rattle.dc_run.specs.declared.verdict.LineFault.TheVariants.{Form, Process, ClockFell, TooMany}
+use Rattle.dc_run.specs.declared.verdict.ScheduleFault.{ScheduleFault}
+use Rattle.dc_run.specs.declared.verdict.Unread.{Unread}
+use Rattle.dc_run.specs.declared.verdict.Unread.TheVariants.{Memory, Refused}
 
--- the line of an entry
-abbrev pub entry_line : Entry → List ℕ
-entry_line (Turn p word clock) = decimal p ++ codes " " ++ decimal word ++ codes " " ++ decimal clock ++ 10 ∷ []
+-- a byte more in front of the first part
+abbrev pub in_front : ℕ → List (List ℕ) → List (List ℕ)
+in_front c [] = (c ∷ []) ∷ []
+in_front c (part ∷ parts) = (c ∷ part) ∷ parts
 
-abbrev pub schedule_text : List Entry → List ℕ
-schedule_text entries = flat_map entry_line entries
+-- the lines of a text, each without its line feed; the last one may have none
+abbrev pub lines_of : List ℕ → List (List ℕ)
+lines_of [] = []
+lines_of (c ∷ text) = if c == 10 then [] ∷ lines_of text else in_front c (lines_of text)
 
--- a turn of the one guest; its line is `0 0 0`
-abbrev pub turn : Entry
-turn = Turn 0 0 0
+-- the fields of a line, between single blanks
+abbrev pub fields_of : List ℕ → List (List ℕ)
+fields_of [] = [] ∷ []
+fields_of (c ∷ text) = if c == 32 then [] ∷ fields_of text else in_front c (fields_of text)
 
--- as many turns as the text has lines of that length
-abbrev pub turns_in : List ℕ → List Entry
-turns_in text = replicate (length text / 6) turn
+-- the number of a text
+abbrev pub value : List ℕ → ℕ
+value text = digits_value 10 text
 
--- the text is that of the turns that its length allows
-abbrev pub is_turns : List ℕ → Bool
-is_turns text = bytes_eq text (schedule_text (turns_in text))
+-- a number below this bound
+abbrev pub is_below : ℕ → List ℕ → Bool
+is_below bound text = is_number text && nat_lt (value text) bound
 
--- the schedule of a text: at most 1,000,000 turns, if it is the text of them
-abbrev pub schedule_of : List ℕ → Option (List Entry)
-schedule_of text = if nat_le (length text / 6) 1000000 && is_turns text then Some (turns_in text) else None
+-- a turn of a process below n whose clock is not below the last one; else the first of the three faults
+abbrev pub turn_of : ℕ → ℕ → List ℕ → List ℕ → List ℕ → Result Entry LineFault
+turn_of n last p word clock =
+    if is_number p && (is_below (2 ^ 32) word && is_below (2 ^ 64) clock) then
+    (if nat_lt (value p) n then (if nat_lt (value clock) last then Err ClockFell else Ok (Turn (value p) (value word) (value clock))) else Err Process)
+    else Err Form
 
--- the text is that of these entries: turns of the one guest, not too many
-pub record IsSchedule (text : List ℕ) (entries : List Entry) : Type 0 where
-  pub text_is : text ≡ schedule_text entries
-  pub turns : entries ≡ replicate (length entries) turn
-  pub few : length entries ≤ 1000000
+abbrev pub entry_by : ℕ → ℕ → List (List ℕ) → Result Entry LineFault
+entry_by n last (p ∷ word ∷ clock ∷ []) = turn_of n last p word clock
+entry_by n last _ = Err Form
+
+-- the entry of a line, where the clock stood at `last`
+abbrev pub entry_of : ℕ → ℕ → List ℕ → Result Entry LineFault
+entry_of n last line = entry_by n last (fields_of line)
+
+abbrev pub clock_of : Entry → ℕ
+clock_of (Turn p word clock) = clock
+
+-- an entry in front, or the fault of its line
+abbrev pub entry_then : ℕ → Result Entry LineFault → (Entry → Result (List Entry) ScheduleFault) → Result (List Entry) ScheduleFault
+entry_then number (Err kind) rest = Err (record { line = number; kind = kind })
+entry_then number (Ok entry) rest = rest entry
+
+abbrev pub with_front : Entry → Result (List Entry) ScheduleFault → Result (List Entry) ScheduleFault
+with_front entry (Ok entries) = Ok (entry ∷ entries)
+with_front entry (Err fault) = Err fault
+
+-- the schedule of lines numbered from this one on, the clock at `last`: the first faulty line decides, and line 1,000,001 is one too many
+abbrev pub schedule_from : ℕ → ℕ → ℕ → List (List ℕ) → Result (List Entry) ScheduleFault
+schedule_from n number last [] = Ok []
+schedule_from n number last (line ∷ lines) = if nat_lt 1000000 number then Err (record { line = number; kind = TooMany })
+    else entry_then number (entry_of n last line) (λ entry. with_front entry (schedule_from n (suc number) (clock_of entry) lines))
+
+-- the schedule of a text, among n processes
+abbrev pub schedule_of : ℕ → List ℕ → Result (List Entry) ScheduleFault
+schedule_of n text = schedule_from n 1 0 (lines_of text)
+
+-- with these entries in front
+abbrev pub prefixed : List Entry → Result (List Entry) ScheduleFault → Result (List Entry) ScheduleFault
+prefixed front (Ok entries) = Ok (front ++ entries)
+prefixed front (Err fault) = Err fault
+
+-- the process whose turn an entry is
+abbrev pub process_of : Entry → ℕ
+process_of (Turn p word clock) = p
+
+-- what a reader of schedules found: the schedule or its first fault, unless it wanted memory
+abbrev pub Reads : Result (Vec Entry Global) Unread → Result (List Entry) ScheduleFault → Type 0
+Reads (Ok entries) told = told ≡ Ok entries.items
+Reads (Err (Refused fault)) told = told ≡ Err fault
+Reads (Err Memory) told = Unit {0}

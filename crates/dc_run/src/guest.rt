@@ -5,9 +5,11 @@ ghost use Rattle.dc_plain.specs.Guest.{after_next, event_of, started};
 ghost use Rattle.dc_plain.specs.declared.machine.Instr.{Instr as Coded};
 ghost use Rattle.dc_run.specs.Guests.{IsShownBy, IsCoded};
 
-use crate::image::{ENTRY, SIZE};
 use dc_plain::{Body, Call, Instr, Next, Text};
 use std::marker::Model;
+
+/// How many bytes of memory a guest has.
+pub const SIZE: u32 = 65_536;
 
 /// The trap where no word lies at pc.
 const NO_WORD: u32 = 1;
@@ -84,16 +86,16 @@ fn word_in(memory: &[u8], at: usize) -> u32
 }
 
 impl Guest {
-    /// A guest that begins with this memory.
-    pub fn new(memory: Vec<u8>) -> Guest
+    /// A guest that begins with this memory at this entry, its stack pointer 16 below the size.
+    pub fn new(memory: Vec<u8>, entry: u32) -> Guest
         requires { length memory.items ≡ 65536 }
-        ensures { result ≡ started 0 1 (Some (record { memory = memory.items; entry = 1024 })) }
+        ensures { result ≡ started 0 1 (Some (record { memory = memory.items; entry = entry })) }
     {
         let mut registers = [0; 32];
-        registers[2] = (SIZE - 16) as u32;
+        registers[2] = SIZE - 16;
         Guest {
             registers,
-            pc: ENTRY,
+            pc: entry,
             memory,
             ended: false,
         }

@@ -3,7 +3,6 @@
 
 mod command;
 mod guest;
-mod image;
 mod opening;
 mod outcome;
 mod plan;
@@ -16,7 +15,8 @@ mod tests;
 mod verdict;
 mod world;
 
+pub use dc_elf::ElfFault;
 pub use outcome::Outcome;
 pub use program::dc;
 pub use reserved::Reserved;
-pub use verdict::{ElfFault, LineFault, Outlet, PlanFault, ScheduleFault, Verdict, Which};
+pub use verdict::{LineFault, Outlet, PlanFault, ScheduleFault, Unread, Verdict, Which};

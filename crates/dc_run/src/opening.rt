@@ -1,26 +1,22 @@
 ghost use Rattle.std.specs.Prelude.{◌≡◌, ◌≤◌, ◌↔◌, false, None, Some, Err, All, IfErr, IfOk, IsErrOf, OnOk, length};
 ghost use Rattle.dc_media.specs.Causes.{Rose};
-ghost use Rattle.dc_plain.specs.Image.{is_code};
+ghost use Rattle.dc_elf.specs.Files.{fault_of};
 ghost use Rattle.dc_run.specs.Command.{plan_asked};
-ghost use Rattle.dc_run.specs.Opening.{Asks, AsksAtGuest, AsksAtPlan, Files, file_in, opening_of, opening_at_plan, opening_at_guest, opening_at_end};
+ghost use Rattle.dc_run.specs.Opening.{Asks, AsksAtGuest, AsksAtPlan, Files, file_in, opening_of, opening_at_plan, opening_at_guest, opening_at_end, guest_in};
 ghost use Rattle.dc_run.specs.Plans.{names_of};
-ghost use Rattle.dc_run.specs.Running.{process_of};
-ghost use Rattle.dc_run.specs.Settings.{Agrees, setting_of, was_opened};
+ghost use Rattle.dc_run.specs.Schedules.{process_of};
+ghost use Rattle.dc_run.specs.Settings.{Agrees, image_view, setting_of, was_opened};
 ghost use Rattle.dc_run.specs.declared.verdict.Which.{Which as Whose};
 
 use crate::command::plan_in;
-use crate::image::{SIZE, code_in, load};
+use crate::guest::SIZE;
 use crate::plan::{Plan, read_plan};
-use crate::schedule::{is_schedule, turns_of};
+use crate::schedule::read_schedule;
 use crate::setting::Setting;
-use crate::{ElfFault, LineFault, PlanFault, ScheduleFault, Verdict, Which};
+use crate::{PlanFault, Unread, Verdict, Which};
+use dc_elf::{Image, LoadFault, load};
 use dc_media::{Fetch, Library};
 use std::alloc::Global;
-
-const NOT_A_LINE: Verdict = Verdict::ScheduleRefused(ScheduleFault {
-    line: 1,
-    kind: LineFault::Form,
-});
 
 /// All the bytes of a file of the run.
 fn fetch<L: Library>(
@@ -45,24 +41,39 @@ fn fetch<L: Library>(
     }
 }
 
-/// With the guest's code and the bytes of the schedule.
-fn settle(alloc: Global, code: &[u8], text: &[u8]) -> Result<Setting, Verdict>
-    requires { length code.now ≤ 64000 }
-    ensures told { Agrees setting_of result (opening_at_end code.now text.now) }
+/// The image of the guest's file.
+fn image_in(alloc: Global, file: &[u8]) -> Result<Image, Verdict>
+    ensures told { Agrees image_view result (guest_in file.now) }
+    ensures long { IfOk result (λ image. length image.memory.items ≡ 65536) }
+    ensures right { OnOk result (fault_of file.now 65536 ≡ None) }
     ensures closed { IfErr result (λ v. was_opened v ≡ false) }
     ensures asked { ¬ (result ≡ Err Verdict.Usage) }
     ensures sound { (w : Whose) → IsErrOf result (Verdict.LibraryFault w) → ⊥ }
 {
-    if !is_schedule(text) {
-        return Err(NOT_A_LINE);
+    match load(alloc, file, SIZE) {
+        Ok(image) => Ok(image),
+        Err(LoadFault::Refused(fault)) => Err(Verdict::GuestRefused(0, fault)),
+        Err(LoadFault::Memory) => Err(Verdict::WantOfMemory),
     }
-    let Ok(memory) = load(alloc, SIZE, code) else {
-        return Err(Verdict::WantOfMemory);
-    };
-    let Ok(schedule) = turns_of(alloc, text.len()) else {
-        return Err(Verdict::WantOfMemory);
-    };
-    Ok(Setting { memory, schedule })
+}
+
+/// With the guest's image and the bytes of the schedule.
+fn settle(alloc: Global, image: Image, text: &[u8]) -> Result<Setting, Verdict>
+    requires { length image.memory.items ≡ 65536 }
+    ensures told { Agrees setting_of result (opening_at_end (image_view image) text.now) }
+    ensures closed { IfErr result (λ v. was_opened v ≡ false) }
+    ensures asked { ¬ (result ≡ Err Verdict.Usage) }
+    ensures sound { (w : Whose) → IsErrOf result (Verdict.LibraryFault w) → ⊥ }
+{
+    match read_schedule(alloc, text, 1) {
+        Ok(schedule) => Ok(Setting {
+            memory: image.memory,
+            entry: image.entry,
+            schedule,
+        }),
+        Err(Unread::Refused(fault)) => Err(Verdict::ScheduleRefused(fault)),
+        Err(Unread::Memory) => Err(Verdict::WantOfMemory),
+    }
 }
 
 /// With the plan's names and the bytes of the guest's file.
@@ -79,11 +90,9 @@ fn open_guest<L: Library>(
     ensures fault { (w : Whose) → IsErrOf result (Verdict.LibraryFault w) → Rose (L.faults lib.old) (L.faults lib.new) }
     ensures later { L.faults lib.old ≤ L.faults lib.new }
 {
-    let Some(code) = code_in(file) else {
-        return Err(Verdict::GuestRefused(0, ElfFault::Headers));
-    };
+    let image = image_in(alloc, file)?;
     let text = fetch(alloc, lib, Which::Schedule, plan.schedule)?;
-    settle(alloc, code, &text)
+    settle(alloc, image, &text)
 }
 
 /// With the bytes of the plan.

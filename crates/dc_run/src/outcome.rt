@@ -2,7 +2,7 @@ ghost use Rattle.std.specs.Prelude.{◌≡◌, ◌≤◌, ◌+◌, ◌++◌, len
 ghost use Rattle.dc_media.specs.Causes.{HasCause};
 ghost use Rattle.dc_media.specs.Sinks.{TakesWhole};
 ghost use Rattle.dc_media.specs.Told.{TellsOn};
-ghost use Rattle.dc_run.specs.Outcomes.{counts_text, elf_fault_text, line_fault_text, outcome_line, outlet_text, plan_fault_text, schedule_fault_text, status_of, verdict_text, which_text};
+ghost use Rattle.dc_run.specs.Outcomes.{counts_text, elf_fault_text, guest_fault_text, line_fault_text, outcome_line, outlet_text, plan_fault_text, schedule_fault_text, status_of, verdict_text, which_text};
 
 use crate::reserved::Reserved;
 use crate::{ElfFault, LineFault, Outlet, PlanFault, ScheduleFault, Verdict, Which};
@@ -72,12 +72,7 @@ impl Outcome {
                 line.push(b"usage: dc run PLAN | dc check PLAN REPORT OUT | dc asm SOURCE");
             }
             Verdict::PlanRefused(fault) => push_both(line, b"plan refused: ", plan_fault(fault)),
-            Verdict::GuestRefused(p, fault) => {
-                line.push(b"guest ");
-                line.push_number(u64::from(p));
-                line.push(b" refused: ");
-                line.push(elf_fault(fault));
-            }
+            Verdict::GuestRefused(p, fault) => push_guest_fault(line, p, fault),
             Verdict::Missing(which) => push_which(line, b"missing: ", which),
             Verdict::LibraryFault(which) => push_which(line, b"library failed: ", which),
             Verdict::SinkFault(outlet) => push_both(line, b"sink failed: ", outlet_name(outlet)),
@@ -151,12 +146,36 @@ fn plan_fault(fault: PlanFault) -> &'static [u8]
     }
 }
 
-fn elf_fault(fault: ElfFault) -> &'static [u8]
-    ensures text { result.now ≡ elf_fault_text fault }
-    ensures short { length result.now ≤ 16 }
+fn push_guest_fault(line: &mut Line, p: u32, fault: ElfFault)
+    requires { length line.old ≤ 4 }
+    ensures text { line.new ≡ line.old ++ guest_fault_text p fault }
+    ensures length { length line.new ≤ length line.old + 90 }
+{
+    line.push(b"guest ");
+    line.push_number(u64::from(p));
+    line.push(b" refused: ");
+    push_elf_fault(line, fault);
+}
+
+fn push_elf_fault(line: &mut Line, fault: ElfFault)
+    requires { length line.old ≤ 60 }
+    ensures text { line.new ≡ line.old ++ elf_fault_text fault }
+    ensures length { length line.new ≤ length line.old + 30 }
 {
     match fault {
-        ElfFault::Headers => b"headers",
+        ElfFault::Short => line.push(b"short"),
+        ElfFault::Magic => line.push(b"magic"),
+        ElfFault::Class => line.push(b"class"),
+        ElfFault::Order => line.push(b"order"),
+        ElfFault::FileType => line.push(b"file type"),
+        ElfFault::Machine => line.push(b"machine"),
+        ElfFault::Flags => line.push(b"flags"),
+        ElfFault::Headers => line.push(b"headers"),
+        ElfFault::Segment(i) => {
+            line.push(b"segment ");
+            line.push_number(u64::from(i));
+        }
+        ElfFault::Entry => line.push(b"entry"),
     }
 }
 
@@ -166,6 +185,9 @@ fn line_fault(fault: LineFault) -> &'static [u8]
 {
     match fault {
         LineFault::Form => b"form",
+        LineFault::Process => b"process",
+        LineFault::ClockFell => b"clock fell",
+        LineFault::TooMany => b"too many",
     }
 }
 

@@ -6,7 +6,7 @@ ghost use Rattle.dc_run.specs.Headline.{IsExact, IsHeadline, IsOpenedFor};
 ghost use Rattle.dc_run.specs.Opening.{Asks, opening_of};
 ghost use Rattle.dc_run.specs.Outcomes.{IsNothing};
 ghost use Rattle.dc_run.specs.Settings.{setting_of, was_opened};
-ghost use Rattle.dc_run.specs.declared.verdict.ElfFault.{ElfFault as ElfFaults};
+ghost use Rattle.dc_elf.specs.declared.faults.ElfFault.{ElfFault as ElfFaults};
 ghost use Rattle.dc_run.specs.declared.verdict.Outlet.{Outlet as Outlets};
 ghost use Rattle.dc_run.specs.declared.verdict.PlanFault.{PlanFault as PlanFaults};
 ghost use Rattle.dc_run.specs.declared.verdict.ScheduleFault.{ScheduleFault as ScheduleFaults};
@@ -84,8 +84,12 @@ fn carry_out<O: Sink>(alloc: Global, setting: Setting, out: &mut O) -> Outcome
     ensures sink_fault { (outlet : Outlets) → result.verdict ≡ Verdict.SinkFault outlet → Rose (O.faults out.old) (O.faults out.new) }
     ensures tells { TellsOn 0 (O.faults out.new) (O.held out.old) (O.held out.new) }
 {
-    let Setting { memory, schedule } = setting;
-    let Ok(mut world) = World::open(alloc, memory, schedule.len()) else {
+    let Setting {
+        memory,
+        entry,
+        schedule,
+    } = setting;
+    let Ok(mut world) = World::open(alloc, memory, entry, schedule.len()) else {
         return refused(alloc, Verdict::WantOfMemory);
     };
     match world.run(&schedule, out) {

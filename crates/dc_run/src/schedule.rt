@@ -1,49 +1,119 @@
-ghost use Rattle.std.specs.Prelude.{◌≡◌, ◌/◌, ◌≤◌, ◌↔◌, length, nat_le, replicate, IfOk, List, Some, is_some};
-ghost use Rattle.dc_plain.specs.declared.entry.Entry.{Entry as Turns};
-ghost use Rattle.dc_run.specs.Schedules.{schedule_of, is_turns, turn, IsSchedule};
+ghost use Rattle.std.specs.Prelude.{◌≡◌, ◌≤◌, ◌<◌, ◌==◌, ◌∷◌, [], All, IfOk, IfSome, None, length, position};
+ghost use Rattle.std.specs.Option.{option_map};
+ghost use Rattle.dc_run.specs.Schedules.{Reads, clock_of, entry_of, fields_of, lines_of, process_of, schedule_of, turn_of};
 
+use crate::{LineFault, ScheduleFault, Unread};
 use dc_plain::Entry;
-use std::alloc::{AllocError, Global};
+use dc_words::{NumberFault, read_number};
+use std::alloc::Global;
 
 /// The most entries of a schedule.
-const ENTRIES: usize = 1_000_000;
+const ENTRIES: u32 = 1_000_000;
 
-const LINE: &[u8] = b"0 0 0\n";
-
-const TURN: Entry = Entry::Turn {
-    p: 0,
-    word: 0,
-    clock: 0,
-};
-
-/// Whether a text is lines of turns alone.
-fn has_turns(text: &[u8]) -> bool
-    ensures { result ≡ is_turns text.now }
+fn place(stop: u8, text: &[u8]) -> Option<usize>
+    ensures place { result ≡ position (λ c. c == stop) text.now }
+    ensures within { IfSome result (λ i. i < length text.now) }
 {
+    text.iter().position(|c| *c == stop)
+}
+
+/// The first line of a text that is not empty, and what follows it.
+fn first_line(text: &[u8]) -> (&[u8], &[u8])
+    requires { 0 < length text.now }
+    ensures lines { lines_of text.now ≡ result.0.now ∷ lines_of result.1.now }
+    ensures shorter { length result.1.now < length text.now }
+{
+    match place(b'\n', text) {
+        Some(end) => (&text[..end], &text[end + 1..]),
+        None => (text, &text[text.len()..]),
+    }
+}
+
+/// What stands before the first blank, and what follows it.
+fn first_field(text: &[u8]) -> Option<(&[u8], &[u8])>
+    ensures some { IfSome result (λ x. fields_of text.now ≡ x.0.now ∷ fields_of x.1.now) }
+    ensures none { result ≡ None → fields_of text.now ≡ text.now ∷ [] }
+{
+    let end = place(b' ', text)?;
+    Some((&text[..end], &text[end + 1..]))
+}
+
+/// A turn of a process below `n`, where the clock stood at `last`.
+fn turn(n: u32, last: u64, p: &[u8], word: &[u8], clock: &[u8]) -> Result<Entry, LineFault>
+    requires { 0 < n }
+    ensures { result ≡ turn_of n last p.now word.now clock.now }
+{
+    let Ok(word) = read_number(word, u64::from(u32::MAX)) else {
+        return Err(LineFault::Form);
+    };
+    let Ok(clock) = read_number(clock, u64::MAX) else {
+        return Err(LineFault::Form);
+    };
+    match read_number(p, u64::from(n - 1)) {
+        Err(NumberFault::NotNumber) => Err(LineFault::Form),
+        Err(NumberFault::Range) => Err(LineFault::Process),
+        Ok(_) if clock < last => Err(LineFault::ClockFell),
+        Ok(p) => Ok(Entry::Turn {
+            p: p as u32,
+            word: word as u32,
+            clock,
+        }),
+    }
+}
+
+/// The entry of a line.
+fn entry(n: u32, last: u64, line: &[u8]) -> Result<Entry, LineFault>
+    requires { 0 < n }
+    ensures { result ≡ entry_of n last line.now }
+{
+    let Some((p, rest)) = first_field(line) else {
+        return Err(LineFault::Form);
+    };
+    let Some((word, clock)) = first_field(rest) else {
+        return Err(LineFault::Form);
+    };
+    match first_field(clock) {
+        Some(_) => Err(LineFault::Form),
+        None => turn(n, last, p, word, clock),
+    }
+}
+
+fn clock(entry: &Entry) -> u64
+    ensures { result ≡ clock_of entry.now }
+{
+    match *entry {
+        Entry::Turn { clock, .. } => clock,
+    }
+}
+
+/// The schedule of a text, for `n` processes; its first faulty line decides.
+pub fn read_schedule(alloc: Global, text: &[u8], n: u32) -> Result<Vec<Entry>, Unread>
+    requires { 0 < n }
+    ensures exact { Reads result (schedule_of n text.now) }
+    ensures turns { IfOk result (λ entries. All (λ entry. process_of entry < n) entries.items) }
+    ensures few { IfOk result (λ entries. length entries.items ≤ 1000000) }
+{
+    let mut entries = Vec::new(alloc);
+    let mut line: u32 = 1;
+    let mut last: u64 = 0;
     let mut rest = text;
-    while let Some(after) = rest.strip_prefix(LINE) {
+    while !rest.is_empty() {
+        if line > ENTRIES {
+            let kind = LineFault::TooMany;
+            return Err(Unread::Refused(ScheduleFault { line, kind }));
+        }
+        let (first, after) = first_line(rest);
+        match entry(n, last, first) {
+            Err(kind) => return Err(Unread::Refused(ScheduleFault { line, kind })),
+            Ok(turn) => {
+                last = clock(&turn);
+                if entries.push(turn).is_err() {
+                    return Err(Unread::Memory);
+                }
+            }
+        }
+        line += 1;
         rest = after;
     }
-    rest.is_empty()
-}
-
-fn has_few_turns(text: &[u8]) -> bool
-    ensures { result ≡ is_some (schedule_of text.now) }
-{
-    text.len() / LINE.len() <= ENTRIES && has_turns(text)
-}
-
-/// Whether a text is that of a schedule. A schedule has one text, and a text has at most one schedule.
-pub fn is_schedule(text: &[u8]) -> bool
-    ensures exact { result ≡ is_some (schedule_of text.now) }
-    ensures texts { (entries : List Turns) → (schedule_of text.now ≡ Some entries) ↔ IsSchedule text.now entries }
-{
-    has_few_turns(text)
-}
-
-/// As many turns as a text of that length has lines.
-pub fn turns_of(alloc: Global, length: usize) -> Result<Vec<Entry>, AllocError>
-    ensures { IfOk result (λ entries. entries.items ≡ replicate (length / 6) turn) }
-{
-    vec![in alloc; TURN; length / LINE.len()]
+    Ok(entries)
 }

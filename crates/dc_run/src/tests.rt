@@ -149,9 +149,9 @@ const NO_PLAN: Answer = Answer {
 };
 
 const NO_GUEST: Answer = Answer {
-    verdict: Verdict::GuestRefused(0, ElfFault::Headers),
+    verdict: Verdict::GuestRefused(0, ElfFault::Short),
     status: 4,
-    line: "dc: guest 0 refused: headers\n",
+    line: "dc: guest 0 refused: short\n",
 };
 
 const OUT_FAILED: Answer = Answer {
@@ -160,13 +160,13 @@ const OUT_FAILED: Answer = Answer {
     line: "dc: sink failed: out\n",
 };
 
-const NO_SCHEDULE: Answer = Answer {
+const TOO_MANY: Answer = Answer {
     verdict: Verdict::ScheduleRefused(ScheduleFault {
-        line: 1,
-        kind: LineFault::Form,
+        line: 1_000_001,
+        kind: LineFault::TooMany,
     }),
     status: 11,
-    line: "dc: schedule line 1 refused: form\n",
+    line: "dc: schedule line 1000001 refused: too many\n",
 };
 
 fn text(alloc: Global, text: &str) -> Result<Option<String>, AllocError> {
@@ -263,7 +263,7 @@ fn comes_to_nothing(
 
 /// A guest's file with this code.
 fn file_of(alloc: Global, words: &[u32]) -> Result<Vec<u8>, AllocError>
-    requires { length words.now ≤ 16001 }
+    requires { length words.now ≤ 16129 }
 {
     let count = (words.len() as u32 * 4).to_le_bytes();
     let mut file = HI[..68].to_vec(alloc)?;
@@ -522,64 +522,185 @@ fn takes_a_name_of_200_bytes(rt: HostRuntime) -> Result<(), Fail> {
     Ok(())
 }
 
+/// The guest's file is refused with this fault and this line.
+fn refuses_guest(
+    rt: &(impl Abort + AllocGlobal),
+    what: &str,
+    guest: Vec<u8>,
+    fault: ElfFault,
+    line: &'static str,
+) -> Result<(), Fail> {
+    let mut case = hi(rt.alloc())?;
+    case.guest = guest;
+    let answer = Answer {
+        verdict: Verdict::GuestRefused(0, fault),
+        status: 4,
+        line,
+    };
+    comes_to_nothing(rt, what, case, &answer)
+}
+
 #[test]
 fn refuses_a_file_that_is_cut_off(rt: HostRuntime) -> Result<(), Fail> {
     for end in 0..116usize {
         let what = format!(in rt.alloc(); "{end} bytes")?;
-        let mut case = hi(rt.alloc())?;
-        case.guest.truncate(end);
-        comes_to_nothing(&rt, &what, case, &NO_GUEST)?;
+        let (fault, line) = if end < 52 {
+            (ElfFault::Short, "dc: guest 0 refused: short\n")
+        } else if end < 84 {
+            (ElfFault::Headers, "dc: guest 0 refused: headers\n")
+        } else {
+            (ElfFault::Segment(0), "dc: guest 0 refused: segment 0\n")
+        };
+        refuses_guest(&rt, &what, HI[..end].to_vec(rt.alloc())?, fault, line)?;
     }
     Ok(())
 }
 
 #[test]
 fn refuses_a_file_with_other_headers(rt: HostRuntime) -> Result<(), Fail> {
-    for place in 0..84usize {
-        let what = format!(in rt.alloc(); "another byte at {place}")?;
+    let headers = [
+        (3, 0x45, ElfFault::Magic, "dc: guest 0 refused: magic\n"),
+        (4, 2, ElfFault::Class, "dc: guest 0 refused: class\n"),
+        (5, 2, ElfFault::Order, "dc: guest 0 refused: order\n"),
+        (
+            16,
+            3,
+            ElfFault::FileType,
+            "dc: guest 0 refused: file type\n",
+        ),
+        (
+            18,
+            0xf2,
+            ElfFault::Machine,
+            "dc: guest 0 refused: machine\n",
+        ),
+        (36, 1, ElfFault::Flags, "dc: guest 0 refused: flags\n"),
+        (42, 31, ElfFault::Headers, "dc: guest 0 refused: headers\n"),
+        (
+            68,
+            0x21,
+            ElfFault::Segment(0),
+            "dc: guest 0 refused: segment 0\n",
+        ),
+        (24, 2, ElfFault::Entry, "dc: guest 0 refused: entry\n"),
+    ];
+    for (place, byte, fault, line) in headers {
         let mut guest = HI;
-        guest[place] ^= 1;
-        let mut case = hi(rt.alloc())?;
-        case.guest = guest.to_vec(rt.alloc())?;
-        comes_to_nothing(&rt, &what, case, &NO_GUEST)?;
+        guest[place] = byte;
+        refuses_guest(&rt, line, guest.to_vec(rt.alloc())?, fault, line)?;
     }
-    let mut case = hi(rt.alloc())?;
-    case.guest.extend_from_slice(&[0, 0, 0, 0])?;
-    comes_to_nothing(&rt, "a word more", case, &NO_GUEST)
+    Ok(())
 }
 
 #[test]
-fn a_guest_has_at_most_16_000_words(rt: HostRuntime) -> Result<(), Fail> {
+fn a_guest_begins_at_its_entry(rt: HostRuntime) -> Result<(), Fail> {
+    // The code lies at 1024; it begins at its fifth word, which sets x17 to 1.
+    let mut guest = HI;
+    guest[24] = 0x10;
     let mut case = hi(rt.alloc())?;
-    case.guest = file_of(rt.alloc(), &vec![in rt.alloc(); 0; 16_000]?)?;
+    case.guest = guest.to_vec(rt.alloc())?;
+    let (outcome, out) = call(rt.alloc(), case)?;
+    assert_eq!(rt; outcome.verdict, Verdict::Done);
+    assert_eq!(rt; out.bytes(), b"end 0 0 0\n".as_slice());
+    assert_eq!(rt; outcome.acts.as_slice().len(), 3);
+    Ok(())
+}
+
+#[test]
+fn a_guest_fits_its_memory(rt: HostRuntime) -> Result<(), Fail> {
+    // 65,536 bytes from 0, of them 64,512 from 1024 on.
+    let mut case = hi(rt.alloc())?;
+    case.guest = file_of(rt.alloc(), &vec![in rt.alloc(); 0; 16_128]?)?;
     let (outcome, out) = call(rt.alloc(), case)?;
     assert_eq!(rt; outcome.verdict, Verdict::Done);
     assert_eq!(rt; out.bytes(), b"trap 0 0 2 00000400\n".as_slice());
+    let guest = file_of(rt.alloc(), &vec![in rt.alloc(); 0; 16_129]?)?;
+    refuses_guest(
+        &rt,
+        "a word more",
+        guest,
+        ElfFault::Segment(0),
+        "dc: guest 0 refused: segment 0\n",
+    )
+}
+
+/// The schedule is refused at that line for that reason, as the line on standard error names it.
+fn refuses_schedule(
+    rt: &(impl Abort + AllocGlobal),
+    schedule: &str,
+    line: u32,
+    kind: LineFault,
+    name: &str,
+) -> Result<(), Fail> {
     let mut case = hi(rt.alloc())?;
-    case.guest = file_of(rt.alloc(), &vec![in rt.alloc(); 0; 16_001]?)?;
-    comes_to_nothing(&rt, "16,001 words", case, &NO_GUEST)
+    case.schedule = text(rt.alloc(), schedule)?;
+    let (outcome, out) = call(rt.alloc(), case)?;
+    let fault = ScheduleFault { line, kind };
+    assert_eq!(rt;
+        outcome.verdict,
+        Verdict::ScheduleRefused(fault),
+        "{schedule}"
+    );
+    assert_eq!(rt; outcome.status(), 11, "{schedule}");
+    assert!(rt; out.bytes().is_empty(), "{schedule}");
+    let mut said = MemSink::new(rt.alloc(), 200, Vec::new(rt.alloc()))?;
+    outcome.write_line(&mut said)?;
+    let wanted = format!(in rt.alloc(); "dc: schedule line {line} refused: {name}\n")?;
+    assert_eq!(rt; said.bytes(), wanted.as_bytes(), "{schedule}");
+    Ok(())
 }
 
 #[test]
-fn refuses_a_text_that_is_no_schedule(rt: HostRuntime) -> Result<(), Fail> {
+fn refuses_a_line_that_is_no_entry(rt: HostRuntime) -> Result<(), Fail> {
     let schedules = [
-        "0 0 0",
-        "0 0 0\r\n",
-        "0 0 1\n",
-        "0 1 0\n",
-        "1 0 0\n",
-        "0 0 00\n",
-        "0 0  0\n",
-        "\n",
-        "0 0 0\n\n0 0 0\n",
-        "0 0 0\n0 0 0",
-        "0 0 0\n0 0 1\n",
+        ("0 0 0\r\n", 1),
+        ("\n", 1),
+        ("0 0 0\n\n0 0 0\n", 2),
+        ("0 0 0\n0 0 0 0\n", 2),
+        ("0 0 0\n0 0\n", 2),
+        ("0 0  0\n", 1),
+        ("0\t0 0\n", 1),
+        ("0 0 00\n", 1),
+        ("+0 0 0\n", 1),
+        ("1 0 -1\n", 1),
+        ("1 4294967296 0\n", 1),
+        ("0 0 18446744073709551616\n", 1),
+        ("0 0 0\n0 0 0\nstop 0\n", 3),
     ];
-    for schedule in schedules {
-        let mut case = hi(rt.alloc())?;
-        case.schedule = text(rt.alloc(), schedule)?;
-        comes_to_nothing(&rt, schedule, case, &NO_SCHEDULE)?;
+    for (schedule, line) in schedules {
+        refuses_schedule(&rt, schedule, line, LineFault::Form, "form")?;
     }
+    Ok(())
+}
+
+#[test]
+fn refuses_a_process_that_is_not_there(rt: HostRuntime) -> Result<(), Fail> {
+    let schedules = [
+        ("0 0 0\n1 0 0\n", 2),
+        ("1234567890123456789012345 0 0", 1),
+        ("0 0 5\n1 0 4\n", 2),
+    ];
+    for (schedule, line) in schedules {
+        refuses_schedule(&rt, schedule, line, LineFault::Process, "process")?;
+    }
+    Ok(())
+}
+
+#[test]
+fn refuses_a_clock_that_fell(rt: HostRuntime) -> Result<(), Fail> {
+    let schedule = "0 0 5\n0 0 5\n0 0 4\nx\n";
+    refuses_schedule(&rt, schedule, 3, LineFault::ClockFell, "clock fell")
+}
+
+#[test]
+fn takes_every_turn_of_the_guest(rt: HostRuntime) -> Result<(), Fail> {
+    // The words and the clocks play no part yet, and the last line feed may be missing.
+    let mut case = hi(rt.alloc())?;
+    case.schedule = text(
+        rt.alloc(),
+        "0 1 0\n0 4294967295 3\n0 0 3\n0 7 9\n0 0 18446744073709551615\n0 0 18446744073709551615\n0 0 18446744073709551615",
+    )?;
+    comes_to(&rt, "seven turns", case, &HI_DONE, HI_LINES)?;
     Ok(())
 }
 
@@ -591,7 +712,7 @@ fn a_schedule_has_at_most_1_000_000_lines(rt: HostRuntime) -> Result<(), Fail> {
     assert_eq!(rt; outcome.marks.as_slice().len(), 1_000_000);
     let mut case = hi(rt.alloc())?;
     case.schedule = Some("0 0 0\n".repeat(rt.alloc(), 1_000_001)?);
-    comes_to_nothing(&rt, "1,000,001 lines", case, &NO_SCHEDULE)
+    comes_to_nothing(&rt, "1,000,001 lines", case, &TOO_MANY)
 }
 
 /// A guest that sets three registers, calls, and ends with what x10 then holds, shows these lines.

@@ -1,3 +1,4 @@
+use dc_elf::ElfFault;
 use thiserror::Error;
 
 /// A file of a run.
@@ -26,28 +27,40 @@ pub enum PlanFault {
     Text,
 }
 
-/// What is wrong with a guest's file.
-#[derive(Clone, Copy, Debug, PartialEq, Eq, Error)]
-pub enum ElfFault {
-    /// Its headers are not those of a guest.
-    #[error("headers")]
-    Headers,
-}
-
-/// What is wrong with a line of a schedule.
+/// What is wrong with a line of a schedule, in the order of testing.
 #[derive(Clone, Copy, Debug, PartialEq, Eq, Error)]
 pub enum LineFault {
     /// It is not the text of an entry.
     #[error("form")]
     Form,
+    /// There is no process of its number.
+    #[error("process")]
+    Process,
+    /// Its clock is below an earlier one.
+    #[error("clock fell")]
+    ClockFell,
+    /// It is one line too many.
+    #[error("too many")]
+    TooMany,
 }
 
-/// What is wrong with a schedule, and where. Lines are numbered from 1; a schedule is judged as a whole so far, and its line is 1.
+/// The first faulty line of a schedule. Lines are numbered from 1.
 #[derive(Clone, Copy, Debug, PartialEq, Eq, Error)]
 #[error("line {line}: {kind}")]
 pub struct ScheduleFault {
     pub line: u32,
     pub kind: LineFault,
+}
+
+/// Why a schedule was not read.
+#[derive(Clone, Copy, Debug, PartialEq, Eq, Error)]
+pub enum Unread {
+    /// There was no memory for its entries.
+    #[error("out of memory")]
+    Memory,
+    /// It is no schedule.
+    #[error("{0}")]
+    Refused(ScheduleFault),
 }
 
 /// What a call of the program came to.
@@ -71,6 +84,6 @@ pub enum Verdict {
     SinkFault(Outlet),
     /// There was no memory to open the run.
     WantOfMemory,
-    /// The schedule is no schedule, for that reason.
+    /// The schedule's first faulty line.
     ScheduleRefused(ScheduleFault),
 }

@@ -3,7 +3,8 @@ ghost use Rattle.dc_media.specs.Causes.{HasCause};
 ghost use Rattle.dc_media.specs.Sinks.{TakesWhole};
 ghost use Rattle.dc_media.specs.Told.{TellsOn};
 ghost use Rattle.dc_plain.specs.Lines.{visible_line};
-ghost use Rattle.dc_run.specs.Running.{process_of, GoesOn, BreaksOff, HasRoom, IsRunning, RunsOn, RunsInto};
+ghost use Rattle.dc_run.specs.Running.{GoesOn, BreaksOff, HasRoom, IsRunning, RunsOn, RunsInto};
+ghost use Rattle.dc_run.specs.Schedules.{process_of};
 ghost use Rattle.dc_plain.specs.Guest.{guests_of};
 ghost use Rattle.dc_plain.specs.declared.entry.Entry.{Entry as Entries};
 
@@ -46,12 +47,17 @@ fn show<O: Sink>(visible: &Visible, out: &mut O) -> Result<(), SinkFailed>
 }
 
 impl World {
-    /// A guest that begins with this memory, with room for so many entries.
-    pub fn open(alloc: Global, memory: Vec<u8>, entries: usize) -> Result<World, AllocError>
+    /// A guest that begins with this memory at this entry, with room for so many turns.
+    pub fn open(
+        alloc: Global,
+        memory: Vec<u8>,
+        entry: u32,
+        entries: usize,
+    ) -> Result<World, AllocError>
         requires long { length memory.items ≡ 65536 }
         requires few { entries ≤ 1000000 }
         ensures begins { IfOk result (λ w. (inputs : List (List (List ℕ))) (schedule : List Entries) (held : Option (List ℕ)) →
-            IsRunning (guests_of (record { memory = memory.items; entry = 1024 } ∷ []) inputs) schedule w held held) }
+            IsRunning (guests_of (record { memory = memory.items; entry = entry } ∷ []) inputs) schedule w held held) }
         ensures unmarked { IfOk result (λ w. length w.marks.items ≡ 0) }
         ensures room { IfOk result (λ w. HasRoom w entries) }
     {
@@ -60,7 +66,7 @@ impl World {
         let mut marks = Reserved::new(alloc);
         marks.reserve(entries)?;
         Ok(World {
-            guest: Guest::new(memory),
+            guest: Guest::new(memory, entry),
             shown: 0,
             acts,
             marks,

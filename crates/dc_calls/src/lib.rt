@@ -1,0 +1,10 @@
+//! The calls of a guest: what its registers ask for, and how it is answered.
+#![tactic(auto)]
+
+mod call;
+mod reply;
+#[cfg(test)]
+mod tests;
+
+pub use call::{Call, read_call};
+pub use reply::{BAD_ARGUMENT, Reply, UNKNOWN, answer};

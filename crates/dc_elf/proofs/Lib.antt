@@ -1,0 +1,3 @@
+pub mod Headers
+pub mod Layers
+pub mod Numbered

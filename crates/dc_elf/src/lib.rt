@@ -1,0 +1,14 @@
+//! Guests' files: which ELF files are guests, and the image that each loads.
+#![tactic(auto)]
+
+mod faults;
+mod fields;
+mod header;
+mod image;
+mod part;
+mod parts;
+#[cfg(test)]
+mod tests;
+
+pub use faults::{ElfFault, LoadFault};
+pub use image::{Image, load};

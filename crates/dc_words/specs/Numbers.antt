@@ -1,0 +1,18 @@
+-- Numbers as digits, with no sign and no leading zero.
+use Rattle.std.specs.Prelude.{ℕ, Bool, false, List, [], ◌∷◌, ◌&&◌, ◌||◌, ◌==◌, not, length, nat_le, Result, Ok, Err, if◌then◌else◌}
+use Rattle.std.specs.List.{list_all}
+use Rattle.std.specs.Str.Parse.{digits_value}
+use Rattle.dc_words.specs.declared.numbers.NumberFault.{NumberFault}
+use Rattle.dc_words.specs.declared.numbers.NumberFault.TheVariants.{NotNumber, Range}
+
+abbrev pub is_digit : ℕ → Bool
+is_digit c = nat_le 48 c && nat_le c 57
+
+abbrev pub is_number : List ℕ → Bool
+is_number [] = false
+is_number (c ∷ cs) = list_all is_digit (c ∷ cs) && (length cs == 0 || not (c == 48))
+
+abbrev pub number_of : ℕ → List ℕ → Result ℕ NumberFault
+number_of max text = if is_number text
+    then (if nat_le (digits_value 10 text) max then Ok (digits_value 10 text) else Err Range)
+    else Err NotNumber

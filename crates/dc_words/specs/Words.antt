@@ -1,0 +1,24 @@
+-- Words as four bytes, the lowest first.
+use Rattle.std.specs.Prelude.{ℕ, ◌+◌, ◌*◌, ◌/◌, ◌%◌, ◌^◌, ◌<◌, List, [], ◌∷◌}
+use Rattle.std.specs.List.{flat_map}
+
+-- the word of four bytes
+abbrev pub word_of_bytes : ℕ → ℕ → ℕ → ℕ → ℕ
+word_of_bytes a b c d = a + 2 ^ 8 * b + 2 ^ 16 * c + 2 ^ 24 * d
+
+-- the words of bytes, four at a time
+abbrev pub words_in : List ℕ → List ℕ
+words_in (a ∷ b ∷ c ∷ d ∷ bytes) = word_of_bytes a b c d ∷ words_in bytes
+words_in _ = []
+
+abbrev pub word_bytes : ℕ → List ℕ
+word_bytes w = w % 256 ∷ w / 2 ^ 8 % 256 ∷ w / 2 ^ 16 % 256 ∷ w / 2 ^ 24 % 256 ∷ []
+
+-- the bytes of words
+abbrev pub bytes_in : List ℕ → List ℕ
+bytes_in words = flat_map word_bytes words
+
+-- each is below this
+abbrev pub AllBelow : ℕ → List ℕ → Type 0
+AllBelow bound [] = Unit {0}
+AllBelow bound (x ∷ xs) = (x < bound) × AllBelow bound xs

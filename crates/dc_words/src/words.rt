@@ -1,0 +1,25 @@
+ghost use Rattle.std.specs.Prelude.{◌≡◌, ◌*◌, ◌^◌, List, ℕ, length};
+ghost use Rattle.dc_words.specs.Words.{AllBelow, bytes_in, words_in};
+
+use byteorder::{ByteOrder, LittleEndian};
+
+/// Fills `to` with the words of the bytes, the lowest byte of each first.
+pub fn words_of(bytes: &[u8], to: &mut [u32])
+    requires { length bytes.now ≡ 4 * length to.old }
+    ensures { to.new ≡ words_in bytes.now }
+{
+    LittleEndian::read_u32_into(bytes, to);
+}
+
+/// Fills `to` with the bytes of the words, the lowest of each first.
+pub fn bytes_of(words: &[u32], to: &mut [u8])
+    requires { length to.old ≡ 4 * length words.now }
+    ensures { to.new ≡ bytes_in words.now }
+{
+    LittleEndian::write_u32_into(words, to);
+}
+
+/// The words of the bytes of words are these words.
+pub fn bytes_and_words_go_both_ways()
+    ensures { (words : List ℕ) → AllBelow (2 ^ 32) words → words_in (bytes_in words) ≡ words }
+{}
