@@ -1,0 +1,96 @@
+ghost use Rattle.std.specs.Prelude.{◌≡◌, ◌≤◌, ◌<◌, ◌^◌, ◌+◌, ◌++◌, decimal, length};
+ghost use Rattle.std.specs.List.{flat_map};
+ghost use Rattle.dc_acts.specs.Reports.{act_line, act_text, close_line, report_text};
+ghost use Rattle.dc_media.specs.Causes.{HasCause};
+ghost use Rattle.dc_media.specs.Sinks.{TakesWhole};
+ghost use Rattle.dc_media.specs.Told.{TellsOn};
+
+use dc_media::{Sink, SinkFailed, write_whole};
+use dc_plain::{Act, Line, Taken};
+
+/// Adds what an act told.
+fn push_act(line: &mut Line, act: &Act)
+    requires { length line.old ≤ 100 }
+    ensures text { line.new ≡ line.old ++ act_text act.now }
+    ensures length { length line.new ≤ length line.old + 40 }
+{
+    match *act {
+        Act::Plain => line.push(b"plain"),
+        Act::Clock(v) => push_named(line, b"clock ", v),
+        Act::Random(v) => push_named(line, b"random ", u64::from(v)),
+        Act::InputNone => line.push(b"input none"),
+        Act::InputNext => line.push(b"input next"),
+        Act::InputEnd => line.push(b"input end"),
+        Act::ReceiveNone => line.push(b"receive none"),
+        Act::ReceiveFrom(s) => push_named(line, b"receive from ", u64::from(s)),
+    }
+}
+
+/// Adds a number behind its name.
+fn push_named(line: &mut Line, name: &[u8], number: u64)
+    requires line { length line.old ≤ 500 }
+    requires name { length name.now ≤ 20 }
+    ensures text { line.new ≡ line.old ++ (name.now ++ decimal number) }
+    ensures length { length line.new ≤ length line.old + 40 }
+{
+    line.push(name);
+    line.push_number(number);
+}
+
+/// The line of an act.
+fn act_line(taken: &Taken) -> Line
+    ensures { result ≡ act_line taken.now }
+{
+    let mut line = Line::new();
+    push_named(&mut line, b"act ", u64::from(taken.t));
+    push_named(&mut line, b" ", u64::from(taken.p));
+    line.push(b" ");
+    push_act(&mut line, &taken.act);
+    line.push(b"\n");
+    line
+}
+
+/// The last line.
+fn close_line(status: u32, entries: u32, acts: usize, lines: u32) -> Line
+    ensures { result ≡ close_line status entries acts lines }
+{
+    let mut line = Line::new();
+    push_named(&mut line, b"close ", u64::from(status));
+    push_named(&mut line, b" ", u64::from(entries));
+    push_named(&mut line, b" ", acts as u64);
+    push_named(&mut line, b" ", u64::from(lines));
+    line.push(b"\n");
+    line
+}
+
+fn write_acts<R: Sink>(to: &mut R, acts: &[Taken]) -> Result<(), SinkFailed>
+    ensures held { TakesWhole (flat_map act_line acts.now) result (R.held to.old) (R.held to.new) }
+    ensures tells { TellsOn 0 (R.faults to.new) (R.held to.old) (R.held to.new) }
+    ensures cause { HasCause (R.faults to.old) (R.faults to.new) result }
+{
+    for taken in acts {
+        write_whole(to, act_line(taken).as_slice())?;
+    }
+    Ok(())
+}
+
+/// Writes the report of a run: its name, a line for each act, and the last line with the status, the count of entries that have
+/// a mark, of acts and of whole lines. A fault leaves a front of it written.
+pub fn write_report<R: Sink>(
+    to: &mut R,
+    status: u32,
+    entries: u32,
+    acts: &[Taken],
+    lines: u32,
+) -> Result<(), SinkFailed>
+    ensures held { TakesWhole (report_text status entries acts.now lines) result (R.held to.old) (R.held to.new) }
+    ensures tells { TellsOn 0 (R.faults to.new) (R.held to.old) (R.held to.new) }
+    ensures cause { HasCause (R.faults to.old) (R.faults to.new) result }
+{
+    write_whole(to, b"dc-report 1\n")?;
+    write_acts(to, acts)?;
+    write_whole(
+        to,
+        close_line(status, entries, acts.len(), lines).as_slice(),
+    )
+}
