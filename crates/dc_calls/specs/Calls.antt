@@ -1,5 +1,5 @@
 -- The calls, by the number in x17 and the arguments in x10 and x11; sums are of whole numbers.
-use Rattle.std.specs.Prelude.{ℕ, ◌+◌, ◌==◌, ◌||◌, List, Option, None, Some, if◌then◌else◌, nat_lt, slice_index, slice_set}
+use Rattle.std.specs.Prelude.{ℕ, ◌+◌, ◌≤◌, ◌==◌, ◌||◌, List, Option, None, Some, if◌then◌else◌, nat_lt, slice_index, slice_set}
 use Rattle.dc_calls.specs.declared.call.Call.{Call}
 use Rattle.dc_calls.specs.declared.call.Call.TheVariants.{Exit, Output, BadArgument, Unknown}
 
@@ -18,3 +18,8 @@ call_of x size p n = let number = slice_index x 17 in
 abbrev pub answered_x : List ℕ → ℕ → Option ℕ → List ℕ
 answered_x x first None = slice_set x 10 first
 answered_x x first (Some second) = slice_set (slice_set x 10 first) 11 second
+
+-- what a call names lies within a memory of this size
+abbrev pub Fits : ℕ → Call → Type 0
+Fits size (Output from count) = (count ≤ 256) × (from + count ≤ size)
+Fits size _ = Unit {0}

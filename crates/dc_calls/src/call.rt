@@ -1,5 +1,5 @@
 ghost use Rattle.std.specs.Prelude.{◌≡◌};
-ghost use Rattle.dc_calls.specs.Calls.{call_of};
+ghost use Rattle.dc_calls.specs.Calls.{Fits, call_of};
 
 use dc_isa::Regs;
 
@@ -21,7 +21,8 @@ const OUTPUT: u32 = 256;
 
 /// The call that the registers of guest `p` of `n` make, in a memory of this many bytes.
 pub fn read_call(regs: &Regs, size: u32, p: u32, n: u32) -> Call
-    ensures { result ≡ call_of regs.now.x size p n }
+    ensures exact { result ≡ call_of regs.now.x size p n }
+    ensures fits { Fits size result }
 {
     let [first, second] = [regs.x[10], regs.x[11]];
     match regs.x[17] {

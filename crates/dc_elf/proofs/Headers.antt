@@ -1,11 +1,13 @@
 -- A header in which nothing is wrong.
-use Rattle.std.proofs.Common.{◌≡◌, ◌∷◌, ℕ, Bool, true, false, not, ◌==◌, List, [], Option, Some, None, length, nat_lt, nat_eq, slice_index}
+use Rattle.std.proofs.Common.{◌≡◌, ◌∷◌, ℕ, Bool, true, false, not, ◌==◌, ◌||◌, ◌%◌, ◌+◌, List, [], Option, Some, None, length, nat_lt, nat_eq, slice_index}
 use Rattle.std.proofs.Common.{refl, sym, if◌then◌else◌}
 use Rattle.std.specs.List.{starts_with}
+use Rattle.std.proofs.lemmas.Bool.{eqb-true}
 use Rattle.dc_elf.specs.declared.faults.ElfFault.{ElfFault}
 use Rattle.dc_elf.specs.declared.faults.ElfFault.TheVariants.{Short, Magic, Class, Order, FileType, Machine, Flags, Headers, Entry}
-use Rattle.dc_elf.specs.Files.{fault_if, fault_of, faulty_from, half_at, has_bad_entry, has_bad_headers, has_other_flags, header_fault}
-use Rattle.dc_elf.specs.Files.{or_else, parts_of, word_at}
+use Rattle.dc_elf.specs.Files.{fault_if, fault_of, faulty_from, has_bad_entry, has_bad_headers, has_other_flags, header_fault}
+use Rattle.dc_elf.specs.Files.{or_else, parts_of}
+use Rattle.dc_words.specs.Words.{half_at, word_at}
 
 pub faultless : (file : List ℕ) → starts_with nat_eq file (127 ∷ 69 ∷ 76 ∷ 70 ∷ []) ≡ true → slice_index file 4 ≡ 1
     → slice_index file 5 ≡ 1 → half_at file 16 ≡ 2 → half_at file 18 ≡ 243 → has_other_flags (word_at file 36) ≡ false
@@ -49,3 +51,20 @@ right_file file size none =
       right_headers file tests.0,
       sym (none_before (faulty_from file size 0 (parts_of file)) (fault_if (has_bad_entry file size) Entry) tests.1).0,
     )
+
+-- its entry is a word's address
+aligned_by : (off past : Bool) → None ≡ fault_if (off || past) Entry → off ≡ false
+aligned_by true past e = absurd (let never : ⊥ = cc in never)
+aligned_by false past e = refl
+
+pub right_entry : (file : List ℕ) (size : ℕ) → None ≡ fault_of file size → word_at file 24 % 4 ≡ 0
+right_entry file size none =
+    let tests = none_before (header_fault file)
+    (or_else (faulty_from file size 0 (parts_of file)) (fault_if (has_bad_entry file size) Entry))
+    (long_enough (nat_lt (length file) 52) _ none) in
+    let entry = (none_before (faulty_from file size 0 (parts_of file)) (fault_if (has_bad_entry file size) Entry) tests.1).1 in
+    eqb-true (word_at file 24 % 4) 0 (not_off (word_at file 24 % 4 == 0) (aligned_by (not (word_at file 24 % 4 == 0)) (nat_lt size (word_at file 24 + 4)) entry))
+  where
+    not_off : (b : Bool) → not b ≡ false → b ≡ true
+    not_off true e = refl
+    not_off false e = absurd (let never : ⊥ = cc in never)

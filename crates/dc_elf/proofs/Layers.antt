@@ -12,7 +12,8 @@ use Rattle.std.proofs.lemmas.Grind.{reverse_onto}
 use Rattle.std.proofs.lemmas.List.Sorted.{IsPermutation-reverse, list_any-IsPermutation}
 use Rattle.std.proofs.lemmas.List.Folds.{find-append}
 use Rattle.dc_elf.specs.declared.part.Part.{Part}
-use Rattle.dc_elf.specs.Files.{is_loaded, parts_of, word_at}
+use Rattle.dc_elf.specs.Files.{is_loaded, parts_of}
+use Rattle.dc_words.specs.Words.{word_at}
 use Rattle.dc_elf.specs.Images.{byte_in, byte_of, covers, image_of}
 use Rattle.dc_elf.specs.Filling.{Filled, below, everywhere, is_covered}
 

@@ -1,19 +1,12 @@
 -- An ELF file of 32 bits, little-endian: its header, its program headers, and what makes it no guest.
-use Rattle.std.specs.Prelude.{ℕ, zero, suc, ◌+◌, ◌*◌, ◌%◌, ◌/◌, ◌==◌, ◌&&◌, ◌||◌, not, Bool, List, [], ◌∷◌, length, drop, Option, None}
+use Rattle.std.specs.Prelude.{ℕ, zero, suc, ◌+◌, ◌*◌, ◌%◌, ◌/◌, ◌==◌, ◌&&◌, ◌||◌, not, Bool, List, [], ◌∷◌, length, Option, None}
 use Rattle.std.specs.Prelude.{Some, if◌then◌else◌, nat_eq, nat_lt, slice_index}
 use Rattle.std.specs.List.{starts_with}
-use Rattle.byteorder.specs.Endian.{little_number}
+use Rattle.dc_words.specs.Words.{half_at, word_at}
 use Rattle.dc_elf.specs.declared.part.Part.{Part}
 use Rattle.dc_elf.specs.declared.faults.ElfFault.{ElfFault}
 use Rattle.dc_elf.specs.declared.faults.ElfFault.TheVariants.{Short, Magic, Class, Order, FileType, Machine, Flags, Headers, Segment}
 use Rattle.dc_elf.specs.declared.faults.ElfFault.TheVariants.{Entry}
-
--- the number of two and of four bytes from a place on, the lowest first
-abbrev pub half_at : List ℕ → ℕ → ℕ
-half_at file at = little_number 2 (drop at file)
-
-abbrev pub word_at : List ℕ → ℕ → ℕ
-word_at file at = little_number 4 (drop at file)
 
 -- the program header at a place
 abbrev pub part_at : List ℕ → ℕ → Part

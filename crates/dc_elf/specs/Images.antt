@@ -3,7 +3,8 @@ use Rattle.std.specs.Prelude.{ℕ, ◌+◌, ◌-◌, ◌&&◌, Bool, List, rever
 use Rattle.std.specs.Prelude.{map}
 use Rattle.std.specs.List.{range_with_len}
 use Rattle.dc_elf.specs.declared.part.Part.{Part}
-use Rattle.dc_elf.specs.Files.{is_loaded, parts_of, word_at}
+use Rattle.dc_elf.specs.Files.{is_loaded, parts_of}
+use Rattle.dc_words.specs.Words.{word_at}
 
 -- the memory's bytes from address 0, and where the guest begins
 pub record Image : Type 0 where

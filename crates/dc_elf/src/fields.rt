@@ -1,5 +1,6 @@
 ghost use Rattle.std.specs.Prelude.{◌≡◌, ◌≤◌, ◌+◌, length};
-ghost use Rattle.dc_elf.specs.Files.{half_at, word_at, part_at};
+ghost use Rattle.dc_elf.specs.Files.{part_at};
+ghost use Rattle.dc_words.specs.Words.{half_at, word_at};
 
 use crate::part::Part;
 use byteorder::{ByteOrder, LittleEndian};

@@ -1,5 +1,6 @@
 ghost use Rattle.std.specs.Prelude.{◌≡◌, ◌≤◌, ◌+◌, ◌*◌, None, length};
-ghost use Rattle.dc_elf.specs.Files.{has_bad_entry, has_bad_headers, has_other_flags, header_fault, part_count, word_at};
+ghost use Rattle.dc_elf.specs.Files.{has_bad_entry, has_bad_headers, has_other_flags, header_fault, part_count};
+ghost use Rattle.dc_words.specs.Words.{word_at};
 
 use crate::ElfFault;
 use crate::fields::{half_at, word_at};

@@ -1,4 +1,4 @@
-ghost use Rattle.std.specs.Prelude.{◌≡◌, ◌↔◌, ◌^◌, ◌+◌, ◌≤◌, ◌<◌, ◌∷◌, [], Err, IfOk, List, None, Some, false, length, map, true};
+ghost use Rattle.std.specs.Prelude.{◌≡◌, ◌↔◌, ◌%◌, ◌^◌, ◌+◌, ◌≤◌, ◌<◌, ◌∷◌, [], Err, IfOk, List, None, Some, false, length, map, true};
 ghost use Rattle.std.specs.List.{range_with_len};
 ghost use Rattle.dc_elf.specs.Files.{fault_of, faulty_from, has_bad_headers, is_faulty, is_loaded, parts_of};
 ghost use Rattle.dc_elf.specs.Filling.{Filled, everywhere};
@@ -137,6 +137,7 @@ fn fault_in(file: &[u8], size: u32) -> Option<ElfFault>
 pub fn load(alloc: Global, file: &[u8], size: u32) -> Result<Image, LoadFault>
     ensures refused { (fault : Faults) → (result ≡ Err (LoadFault.Refused fault)) ↔ (fault_of file.now size ≡ Some fault) }
     ensures image { IfOk result (λ image. record { memory = image.memory.items; entry = image.entry } ≡ image_of size file.now) }
+    ensures aligned { IfOk result (λ image. image.entry % 4 ≡ 0) }
 {
     if let Some(fault) = fault_in(file, size) {
         return Err(LoadFault::Refused(fault));

@@ -1,5 +1,6 @@
 ghost use Rattle.std.specs.Prelude.{◌≡◌, ◌≤◌, ◌<◌, ◌+◌, ◌*◌, length, false};
-ghost use Rattle.dc_elf.specs.Files.{faulty_from, has_bad_headers, is_faulty, is_loaded, part_at, part_count, parts_of, word_at};
+ghost use Rattle.dc_elf.specs.Files.{faulty_from, has_bad_headers, is_faulty, is_loaded, part_at, part_count, parts_of};
+ghost use Rattle.dc_words.specs.Words.{word_at};
 
 use crate::ElfFault;
 use crate::fields::{part_at, word_at};

@@ -1,2 +1,4 @@
 pub mod Fields
+pub mod Formats
 pub mod Table
+pub mod Decoded

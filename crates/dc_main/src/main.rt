@@ -2,24 +2,26 @@
 #![tactic(auto)]
 
 mod files;
+mod late;
 mod none;
 mod stream;
 
 use dc_run::dc;
 use files::FileLibrary;
+use late::LateFile;
 use none::{NoDisks, NoKeeps};
 use std::process::ExitCode;
 use std::{env, io};
 use stream::StreamSink;
 
-/// Runs the command of its arguments, says the outcome on standard error and ends with its status.
+/// Runs the command of its arguments, with the report in the file `dc.report`, says the outcome on standard error and ends with its status.
 fn main(rt: HostRuntime) -> io::Result<ExitCode> {
     let words: Vec<String> = env::args(&rt)?.collect(rt.alloc())?;
     let mut library = FileLibrary::new(rt.clone()?);
     let mut keeps = NoKeeps::new();
     let mut disks = NoDisks::new();
     let mut out = StreamSink::new(rt.stdout());
-    let mut report = StreamSink::new(io::sink());
+    let mut report = StreamSink::new(LateFile::new(rt.clone()?, "dc.report"));
     let outcome = dc(
         rt.alloc(),
         &words,

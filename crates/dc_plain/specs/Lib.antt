@@ -1,5 +1,3 @@
-pub mod Bits
-pub mod Machine
 pub mod World
 pub mod Guest
 pub mod Plain

@@ -1,25 +1,20 @@
 -- The texts of lines.
-use Rattle.std.specs.Prelude.{ℕ, ◌+◌, ◌/◌, ◌%◌, ◌^◌, List, [], ◌∷◌, ◌++◌, codes, decimal, if◌then◌else◌, nat_lt}
+use Rattle.std.specs.Prelude.{ℕ, List, [], ◌∷◌, ◌++◌, codes, decimal, reverse}
 use Rattle.std.specs.List.{flat_map}
+use Rattle.dc_words.specs.Hex.{hex_of}
+use Rattle.dc_words.specs.Words.{word_bytes}
 use Rattle.dc_plain.specs.declared.visible.Body.{Body}
 use Rattle.dc_plain.specs.declared.visible.Body.TheVariants.{Out, End, Trap}
 use Rattle.dc_plain.specs.declared.visible.Visible.{Visible}
 
--- a hexadecimal digit in lower case
-abbrev pub hex_digit : ℕ → ℕ
-hex_digit n = if nat_lt n 10 then 48 + n else 87 + n
-
-abbrev pub hex_byte : ℕ → List ℕ
-hex_byte b = hex_digit (b / 16) ∷ hex_digit (b % 16) ∷ []
-
 -- two digits a byte; `-` where there is none
 abbrev pub hex_text : List ℕ → List ℕ
 hex_text [] = codes "-"
-hex_text (b ∷ bytes) = flat_map hex_byte (b ∷ bytes)
+hex_text bytes = hex_of bytes
 
 -- eight digits, the highest first
 abbrev pub hex_word : ℕ → List ℕ
-hex_word w = hex_byte (w / 2 ^ 24 % 256) ++ hex_byte (w / 2 ^ 16 % 256) ++ hex_byte (w / 2 ^ 8 % 256) ++ hex_byte (w % 256)
+hex_word w = hex_of (reverse (word_bytes w))
 
 abbrev pub numbered : List ℕ → ℕ → ℕ → List ℕ
 numbered name p k = name ++ decimal p ++ codes " " ++ decimal k ++ codes " "

@@ -1,20 +1,14 @@
 //! Laws of the definitions, each the contract of a function that does nothing.
 
-ghost use Rattle.std.specs.Prelude.{◌≡◌, ◌↔◌, ℕ, List, Some};
+ghost use Rattle.std.specs.Prelude.{◌≡◌, ℕ, List, Some};
 ghost use Rattle.dc_plain.specs.Core.{Core, LeadsTo};
 ghost use Rattle.dc_plain.specs.Guest.{guests_of};
 ghost use Rattle.dc_elf.specs.Images.{Image};
 ghost use Rattle.dc_plain.specs.Led.{IsLed};
-ghost use Rattle.dc_plain.specs.Machine.{Codes, decoded};
 ghost use Rattle.dc_plain.specs.Plain.{run, reported, world_of};
 ghost use Rattle.dc_plain.specs.World.{Told, IsRun};
 
-use crate::{Entry, Instr, Mark};
-
-/// A word is decoded to exactly the instruction that the table says it codes.
-pub fn words_decode_by_the_table()
-    ensures { (i : Instr) (w : ℕ) → (decoded w ≡ Some i) ↔ Codes i w }
-{}
+use crate::{Entry, Mark};
 
 /// A run needs no more than its report: what was told is found again, and each process is the fold of its own acts.
 pub fn reports_tell_runs()

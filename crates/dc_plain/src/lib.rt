@@ -6,7 +6,6 @@ mod act;
 mod entry;
 mod laws;
 mod line;
-mod machine;
 mod mark;
 #[cfg(test)]
 mod tests;
@@ -14,8 +13,7 @@ mod visible;
 
 pub use act::{Act, Taken};
 pub use entry::Entry;
-pub use laws::{marks_lead_to_runs, reports_tell_runs, words_decode_by_the_table};
+pub use laws::{marks_lead_to_runs, reports_tell_runs};
 pub use line::{Line, line_of};
-pub use machine::{Call, Instr, Next};
 pub use mark::{Idle, Mark};
-pub use visible::{Body, Text, Visible};
+pub use visible::{Body, TEXT_ROOM, Text, Visible};

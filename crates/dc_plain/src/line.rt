@@ -1,8 +1,9 @@
 ghost use Rattle.std.specs.Prelude.{◌≡◌, ◌≤◌, ◌+◌, ◌++◌, ◌*◌, [], length, decimal};
-ghost use Rattle.std.specs.List.{flat_map};
-ghost use Rattle.dc_plain.specs.Lines.{hex_digit, hex_byte, hex_text, hex_word, numbered, visible_line};
+ghost use Rattle.dc_plain.specs.Lines.{hex_text, hex_word, numbered, visible_line};
+ghost use Rattle.dc_words.specs.Hex.{hex_of};
 
 use crate::{Body, Visible};
+use dc_words::hex_line;
 use itoa::Buffer;
 use std::marker::Model;
 
@@ -58,15 +59,6 @@ impl Line {
         self.push(buffer.format(number).as_bytes());
     }
 
-    /// Adds a byte as two hexadecimal digits.
-    fn push_hex_byte(&mut self, byte: u8)
-        requires { length self.old + 2 ≤ 640 }
-        ensures text { self.new ≡ self.old ++ hex_byte byte }
-        ensures length { length self.new ≡ length self.old + 2 }
-    {
-        self.push(&[digit(byte / 16), digit(byte % 16)]);
-    }
-
     /// Adds bytes in hexadecimal, `-` where there are none.
     fn push_hex(&mut self, bytes: &[u8])
         requires { length self.old + 2 * length bytes.now + 1 ≤ 640 }
@@ -80,15 +72,15 @@ impl Line {
         }
     }
 
-    /// Adds each byte in hexadecimal.
+    /// Adds two hexadecimal digits for each byte.
     fn push_hex_bytes(&mut self, bytes: &[u8])
         requires { length self.old + 2 * length bytes.now ≤ 640 }
-        ensures text { self.new ≡ self.old ++ flat_map hex_byte bytes.now }
+        ensures text { self.new ≡ self.old ++ hex_of bytes.now }
         ensures length { length self.new ≡ length self.old + 2 * length bytes.now }
     {
-        for byte in bytes {
-            self.push_hex_byte(*byte);
-        }
+        let end = self.len + 2 * bytes.len();
+        hex_line(bytes, &mut self.bytes[self.len..end]);
+        self.len = end;
     }
 
     /// Adds a word as eight hexadecimal digits.
@@ -97,10 +89,7 @@ impl Line {
         ensures text { self.new ≡ self.old ++ hex_word word }
         ensures length { length self.new ≡ length self.old + 8 }
     {
-        self.push_hex_byte((word >> 24 & 0xff) as u8);
-        self.push_hex_byte((word >> 16 & 0xff) as u8);
-        self.push_hex_byte((word >> 8 & 0xff) as u8);
-        self.push_hex_byte((word & 0xff) as u8);
+        self.push_hex_bytes(&word.to_be_bytes());
     }
 
     /// The bytes.
@@ -109,14 +98,6 @@ impl Line {
     {
         &self.bytes[..self.len]
     }
-}
-
-/// A hexadecimal digit in lower case.
-fn digit(n: u8) -> u8
-    requires { n ≤ 15 }
-    ensures { result ≡ hex_digit n }
-{
-    if n < 10 { b'0' + n } else { b'a' + (n - 10) }
 }
 
 /// A line that begins with a name, a process and a number.

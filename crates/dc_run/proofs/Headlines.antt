@@ -1,43 +1,51 @@
 -- A run that has used up its schedule, or broken off, keeps the promise.
-use Rattle.std.proofs.Common.{◌≡◌, ◌≢◌, ◌∙◌, ◌≤◌, ℕ, zero, suc, true, false, List, [], ◌∷◌, ◌++◌, length, reverse, take, Option, Some, ap, sym, subst, refl, arith}
+use Rattle.std.specs.declared.alloc.Global.{Global}
+use Rattle.std.proofs.Common.{IfSome, IsOkAnd, None, Ok, String, ◌≡◌, ◌≢◌, ◌∙◌, ◌≤◌, ℕ, zero, suc, Bool, true, false, if◌then◌else◌, List, [], ◌∷◌, ◌++◌, length, reverse, take, Option, Some, ap, sym, subst, refl, arith}
 use Rattle.std.proofs.lemmas.List.{append-nil, reverse-append, reverse-reverse, length-reverse}
 use Rattle.dc_media.proofs.Becoming.{Becomes-weaker}
 use Rattle.dc_plain.specs.Drawn.{Drawn}
-use Rattle.dc_plain.specs.Guest.{Guest, coming, event_of}
+use Rattle.dc_plain.specs.Guest.{Guest, call_at, call_event, coming, event_of}
 use Rattle.dc_plain.specs.Headline.{RepeatsEqual}
 use Rattle.dc_plain.specs.Led.{IsLed}
 use Rattle.dc_plain.specs.Lines.{text_of, visible_line}
-use Rattle.dc_plain.specs.Machine.{Machine, next_of}
 use Rattle.dc_plain.specs.Plain.{World, run, thin, world_of}
 use Rattle.dc_plain.specs.World.{Local}
 use Rattle.dc_plain.specs.World.Event.{AtEnd}
 use Rattle.dc_plain.specs.declared.act.Taken.{Taken}
 use Rattle.dc_plain.specs.declared.entry.Entry.{Entry}
-use Rattle.dc_plain.specs.declared.machine.Call.TheVariants.{Exit, Output, BadArgument, Unknown}
-use Rattle.dc_plain.specs.declared.machine.Next.{Next}
-use Rattle.dc_plain.specs.declared.machine.Next.TheVariants.{Retire, Raise, Ask}
+use Rattle.dc_calls.specs.declared.call.Call.{Call}
+use Rattle.dc_calls.specs.declared.call.Call.TheVariants.{Exit, Output, BadArgument, Unknown}
+use Rattle.dc_rv32.specs.Machine.{stepped}
+use Rattle.dc_rv32.specs.declared.machine.Stepped.{Stepped}
+use Rattle.dc_rv32.specs.declared.machine.Stepped.TheVariants as step
 use Rattle.dc_plain.specs.declared.mark.Mark.{Mark}
 use Rattle.dc_plain.specs.declared.mark.Mark.TheVariants as mark
 use Rattle.dc_plain.proofs.Leading.{leads_follow, leads_well, stands_last}
-use Rattle.dc_run.specs.Opening.{Setting}
+use Rattle.dc_run.specs.Opening.{Files, Setting, opening_of}
 use Rattle.dc_run.specs.Running.{RunsAs, TornAs, IsRunning, IsTorn}
 use Rattle.dc_run.specs.declared.outcome.Outcome.{Outcome}
 use Rattle.dc_run.specs.declared.world.World.{World as World'}
-use Rattle.dc_run.specs.Headline.{guests, AllEnded, SomeRuns, IsEnding, IsHeadline}
-use Rattle.dc_run.specs.declared.verdict.Outlet.{Outlet}
+use Rattle.dc_acts.specs.Reports.{report_text}
+use Rattle.dc_run.specs.Headline.{guests, AllEnded, SomeRuns, IsEnding, IsHeadline, IsReported, Reports}
+use Rattle.dc_run.specs.Outcomes.{status_of}
+use Rattle.dc_run.specs.declared.verdict.Outlet.TheVariants.{Out}
 use Rattle.dc_run.specs.declared.verdict.Verdict.{Verdict}
 use Rattle.dc_run.specs.declared.verdict.Verdict.TheVariants.{Done, Unfinished, SinkFault}
 
+-- a call and a step come with an event
+call_comes : (c : Call) (memory : List ℕ) → call_event c memory ≢ AtEnd
+call_comes (Exit code) memory e = cc
+call_comes (Output from count) memory e = cc
+call_comes BadArgument memory e = cc
+call_comes Unknown memory e = cc
+
+step_comes : (s : Stepped) (g : Guest) → event_of s g ≢ AtEnd
+step_comes step.Retired g e = cc
+step_comes step.Call g e = call_comes (call_at g) g.machine.memory e
+step_comes (step.Trap cause) g e = cc
+
 live_or_not : (g : Guest) → g.ended ≡ false → coming g ≢ AtEnd
-live_or_not g live at = goes_on (next_of g.machine) g.machine (rw live at at)
-  where
-    goes_on : (n : Next) (m : Machine) → event_of n m ≢ AtEnd
-    goes_on (Retire i) m e = cc
-    goes_on (Raise cause) m e = cc
-    goes_on (Ask (Exit code)) m e = cc
-    goes_on (Ask (Output from count)) m e = cc
-    goes_on (Ask BadArgument) m e = cc
-    goes_on (Ask Unknown) m e = cc
+live_or_not g live at = step_comes (stepped g.machine).1 g (sym (ap (λ (b : Bool). if b then AtEnd else event_of (stepped g.machine).1 g) live) ∙ at)
 
 -- the end of a run without a fault
 module _ (setting : Setting) (guest : Guest) (shown : ℕ) (acts : List Taken) (marks : List Mark) (lines : ℕ) (before after : Option (List ℕ))
@@ -83,9 +91,9 @@ module _ (setting : Setting) (guest : Guest) (shown : ℕ) (acts : List Taken) (
   is_unfinished live = kept Unfinished (used, refl, some_runs live)
 
 -- a run whose line was cut off
-pub is_cut_off : (setting : Setting) (outlet : Outlet) (acts : List Taken) (marks : List Mark) (lines : ℕ) (before after : Option (List ℕ))
-    → TornAs (guests setting) setting.schedule acts marks lines before after → IsHeadline setting (SinkFault outlet) acts marks lines before after
-is_cut_off setting outlet acts marks lines before after t =
+pub is_cut_off : (setting : Setting) (acts : List Taken) (marks : List Mark) (lines : ℕ) (before after : Option (List ℕ))
+    → TornAs (guests setting) setting.schedule acts marks lines before after → IsHeadline setting (SinkFault Out) acts marks lines before after
+is_cut_off setting acts marks lines before after t =
     let well : IsLed (guests setting) setting.schedule (mark.Showed t.torn.k ∷ reverse marks) t.core = leads_well (guests setting) setting.schedule (mark.Showed t.torn.k ∷ reverse marks) t.core t.led in
     let records : reverse t.core.lines ≡ reverse t.whole ++ t.torn ∷ [] = ap reverse t.lines_are ∙ reverse-append (t.torn ∷ []) t.whole in
     let back : reverse (reverse t.whole ++ t.torn ∷ []) ≡ t.core.lines = sym (ap reverse records) ∙ reverse-reverse t.core.lines in
@@ -116,6 +124,17 @@ module _ (setting : Setting) (schedule : List Entry) (is : schedule ≡ setting.
       → IsHeadline setting o.verdict o.acts.items o.marks.items o.lines before after
   told_unfinished o_is r used live = rw o_is (is_unfinished setting w.guest w.shown w.acts.items w.marks.items w.lines before after (subst (λ (s : List Entry). IsRunning (guests setting) s w before after) is r) (used ∙ ap length is) live)
 
-  pub told_cut_off : (outlet : Outlet) → o ≡ record { verdict = SinkFault outlet; acts = w.acts; marks = w.marks; lines = w.lines } → IsTorn (guests setting) schedule w before after
+  pub told_cut_off : o ≡ record { verdict = SinkFault Out; acts = w.acts; marks = w.marks; lines = w.lines } → IsTorn (guests setting) schedule w before after
       → IsHeadline setting o.verdict o.acts.items o.marks.items o.lines before after
-  told_cut_off outlet o_is t = rw o_is (is_cut_off setting outlet w.acts.items w.marks.items w.lines before after (subst (λ (s : List Entry). IsTorn (guests setting) s w before after) is t))
+  told_cut_off o_is t = rw o_is (is_cut_off setting w.acts.items w.marks.items w.lines before after (subst (λ (s : List Entry). IsTorn (guests setting) s w before after) is t))
+
+-- with the report of what the run came to, wherever the files open it with this setting
+pub reported_for : (known : Option Files) (words : List (String Global)) (setting : Setting) (run told : Outcome) (before after : Option (List ℕ)) (faults faults' : ℕ) (report report' : Option (List ℕ))
+    → ((files : Files) → known ≡ Some files → opening_of files words ≡ Ok setting)
+    → IsHeadline setting run.verdict run.acts.items run.marks.items run.lines before after
+    → Reports run.verdict told.verdict (report_text (status_of run.verdict) (length run.marks.items) run.acts.items run.lines) faults faults' report report'
+    → told.acts ≡ run.acts → told.marks ≡ run.marks → told.lines ≡ run.lines
+    → IfSome known (λ files. IsOkAnd (opening_of files words) (λ s. IsReported s told.verdict told.acts.items told.marks.items told.lines before after faults faults' report report'))
+reported_for None words setting run told before after faults faults' report report' opened kept reports acts marks lines = tt
+reported_for (Some files) words setting run told before after faults faults' report report' opened kept reports acts marks lines =
+    rw (opened files refl, acts, marks, lines) (record { stood = run.verdict; kept = kept; report_told = reports })

@@ -1,93 +1,19 @@
 -- Lines, fields and numbers of a schedule's text.
-use Rattle.std.proofs.Common.{◌≡◌, ◌∙◌, ◌+◌, ◌-◌, ◌^◌, ◌==◌, ◌<◌, ◌≤◌, ◌&&◌, ℕ, suc, Bool, true, false, List, [], ◌∷◌, ◌++◌, length, take, drop, None, Some, Result, Ok, Err, ap, sym, subst, refl, arith, if◌then◌else◌, nat_lt, nat_le, ⊎_elim, cond, length-drop, add-one}
-use Rattle.std.specs.List.{position, position_or_len}
+use Rattle.std.proofs.Common.{◌≡◌, ◌∙◌, ◌+◌, ◌-◌, ◌^◌, ◌<◌, ◌≤◌, ◌&&◌, ℕ, suc, Bool, true, false, List, [], ◌∷◌, ◌++◌, length, Result, Ok, Err, ap, sym, subst, refl, arith, if◌then◌else◌, nat_lt, nat_le, ⊎_elim, add-one}
 use Rattle.std.specs.Result.{is_ok, is_err}
-use Rattle.std.proofs.lemmas.Bool.{cases_Bool, leb-true, lt-ltb, le-leb, le-ltb, ltb-true, true≢false, cases_lt}
-use Rattle.std.proofs.lemmas.List.{take_all, append_assoc}
+use Rattle.std.proofs.lemmas.Bool.{leb-true, lt-ltb, le-leb, le-ltb, ltb-true, true≢false, cases_lt}
+use Rattle.std.proofs.lemmas.List.{append_assoc}
 use Rattle.dc_words.specs.Numbers.{is_number, number_of}
 use Rattle.dc_words.specs.declared.numbers.NumberFault.{NumberFault}
 use Rattle.dc_words.specs.declared.numbers.NumberFault.TheVariants.{NotNumber, Range}
 use Rattle.dc_plain.specs.declared.entry.Entry.{Entry}
 use Rattle.dc_plain.specs.declared.entry.Entry.TheVariants.{Turn}
-use Rattle.dc_run.specs.Schedules.{in_front, lines_of, fields_of, value, is_below, turn_of, entry_by, entry_of, schedule_from, prefixed, with_front, clock_of, process_of}
+use Rattle.dc_words.specs.Texts.{fields_of, lines_of}
+use Rattle.dc_words.proofs.Splitting.{fields_some, lines_some}
+use Rattle.dc_run.specs.Schedules.{value, is_below, turn_of, entry_by, entry_of, schedule_from, prefixed, with_front, clock_of, process_of}
 use Rattle.dc_run.specs.declared.verdict.ScheduleFault.{ScheduleFault}
 use Rattle.dc_run.specs.declared.verdict.LineFault.{LineFault}
 use Rattle.dc_run.specs.declared.verdict.LineFault.TheVariants.{Form, Process, ClockFell, TooMany}
-
--- how far it is to the next such byte
-abbrev pub far : ℕ → List ℕ → ℕ
-far stop text = position_or_len (λ c. c == stop) text
-
-placed : (n k i : ℕ) → cond (nat_lt k n) (Some k) None ≡ Some i → (i ≡ k) × (k < n)
-placed n k i e = ⊎_elim
-    (λ (h : k < n). let f : Some k ≡ Some i = sym (rw (lt-ltb k n h) refl) ∙ e in (cc, h))
-    (λ (h : n ≤ k). let f : None ≡ Some i = sym (rw (le-ltb k n h) refl) ∙ e in absurd (let never : ⊥ = cc in never))
-    (cases_lt k n)
-
-unplaced : (n k : ℕ) → cond (nat_lt k n) (Some k) None ≡ None → n ≤ k
-unplaced n k e = ⊎_elim
-    (λ (h : k < n). let f : Some k ≡ None = sym (rw (lt-ltb k n h) refl) ∙ e in absurd (let never : ⊥ = cc in never))
-    (λ (h : n ≤ k). h)
-    (cases_lt k n)
-
-far_on : (stop c : ℕ) (text : List ℕ) → (c == stop) ≡ false → far stop (c ∷ text) ≡ suc (far stop text)
-far_on stop c text e = rw e (omega arith)
-
-far_here : (stop c : ℕ) (text : List ℕ) → (c == stop) ≡ true → far stop (c ∷ text) ≡ 0
-far_here stop c text e = rw e refl
-
--- a line that ends
-lines_split : (text : List ℕ) → far 10 text < length text → lines_of text ≡ take (far 10 text) text ∷ lines_of (drop (suc (far 10 text)) text)
-lines_split [] within = absurd (omega arith)
-lines_split (c ∷ text) within = ⊎_elim
-    (λ yes. rw (far_here 10 c text yes, yes) refl)
-    (λ no. let on = far_on 10 c text no in rw (on, no) (ap (in_front c) (lines_split text (omega (arith, on, within)))))
-    (cases_Bool (c == 10))
-
--- a line without its line feed
-lines_whole : (text : List ℕ) → length text ≤ far 10 text → 0 < length text → lines_of text ≡ text ∷ []
-lines_whole [] past some = absurd (omega arith)
-lines_whole (c ∷ []) past some = ⊎_elim (λ yes. absurd (omega (arith, far_here 10 c [] yes, past))) (λ no. rw no refl) (cases_Bool (c == 10))
-lines_whole (c ∷ d ∷ text) past some = ⊎_elim
-    (λ yes. absurd (omega (arith, far_here 10 c (d ∷ text) yes, past)))
-    (λ no. rw no (ap (in_front c) (lines_whole (d ∷ text) (omega (arith, far_on 10 c (d ∷ text) no, past)) (omega arith))))
-    (cases_Bool (c == 10))
-
-fields_split : (text : List ℕ) → far 32 text < length text → fields_of text ≡ take (far 32 text) text ∷ fields_of (drop (suc (far 32 text)) text)
-fields_split [] within = absurd (omega arith)
-fields_split (c ∷ text) within = ⊎_elim
-    (λ yes. rw (far_here 32 c text yes, yes) refl)
-    (λ no. let on = far_on 32 c text no in rw (on, no) (ap (in_front c) (fields_split text (omega (arith, on, within)))))
-    (cases_Bool (c == 32))
-
-fields_whole : (text : List ℕ) → length text ≤ far 32 text → fields_of text ≡ text ∷ []
-fields_whole [] past = refl
-fields_whole (c ∷ text) past = ⊎_elim
-    (λ yes. absurd (omega (arith, far_here 32 c text yes, past)))
-    (λ no. rw no (ap (in_front c) (fields_whole text (omega (arith, far_on 32 c text no, past)))))
-    (cases_Bool (c == 32))
-
--- what `&text[i + 1..]` is
-rest_is : (text : List ℕ) (i : ℕ) → take (length text - (i + 1)) (drop (i + 1) text) ≡ drop (suc i) text
-rest_is text i = take_all (length text - (i + 1)) (drop (i + 1) text) (omega (arith, length-drop (i + 1) text)) ∙ ap (λ n. drop n text) (add-one i)
-
--- by what `position` says
-pub line_ends : (text : List ℕ) (i : ℕ) → position (λ c. c == 10) text ≡ Some i → lines_of text ≡ take i text ∷ lines_of (take (length text - (i + 1)) (drop (i + 1) text))
-line_ends text i e = let at = placed (length text) (far 10 text) i e in
-    lines_split text at.1 ∙ ap (λ k. take k text ∷ lines_of (drop (suc k) text)) (sym at.0) ∙ ap (λ rest. take i text ∷ lines_of rest) (sym (rest_is text i))
-
-pub line_is_last : (text : List ℕ) → position (λ c. c == 10) text ≡ None → 0 < length text → lines_of text ≡ text ∷ lines_of (take (length text - length text) (drop (length text) text))
-line_is_last text e some = lines_whole text (unplaced (length text) (far 10 text) e) some ∙ ap (λ rest. text ∷ lines_of rest) (sym (ap (λ n. take n (drop (length text) text)) none))
-  where
-    none : length text - length text ≡ 0
-    none = omega arith
-
-pub field_ends : (text : List ℕ) (i : ℕ) → position (λ c. c == 32) text ≡ Some i → fields_of text ≡ take i text ∷ fields_of (take (length text - (i + 1)) (drop (i + 1) text))
-field_ends text i e = let at = placed (length text) (far 32 text) i e in
-    fields_split text at.1 ∙ ap (λ k. take k text ∷ fields_of (drop (suc k) text)) (sym at.0) ∙ ap (λ rest. take i text ∷ fields_of rest) (sym (rest_is text i))
-
-pub field_is_last : (text : List ℕ) → position (λ c. c == 32) text ≡ None → fields_of text ≡ text ∷ []
-field_is_last text e = fields_whole text (unplaced (length text) (far 32 text) e)
 
 -- what reading a number says
 picked : (f r : Bool) (v n : ℕ) → ◌≡◌ {A = Result ℕ NumberFault} (Ok n) (if f then (if r then Ok v else Err Range) else Err NotNumber) → (f ≡ true) × (r ≡ true) × (v ≡ n)
@@ -165,18 +91,10 @@ four_fields : (n last : ℕ) (p word clock : List ℕ) (more : List (List ℕ)) 
 four_fields n last p word clock [] some = absurd (omega arith)
 four_fields n last p word clock (x ∷ more) some = refl
 
-front_some : (c : ℕ) (parts : List (List ℕ)) → 0 < length (in_front c parts)
-front_some c [] = omega arith
-front_some c (part ∷ parts) = omega arith
+pub too_many_fields : (n last : ℕ) (line p rest word clock a b : List ℕ) → fields_of 32 line ≡ p ∷ fields_of 32 rest → fields_of 32 rest ≡ word ∷ fields_of 32 clock → fields_of 32 clock ≡ a ∷ fields_of 32 b → Err Form ≡ entry_of n last line
+too_many_fields n last line p rest word clock a b e f g = four_fields n last p word a (fields_of 32 b) (fields_some 32 b) ∙ sym (ap (entry_by n last) (e ∙ ap (λ xs. p ∷ xs) (f ∙ ap (λ xs. word ∷ xs) g)))
 
-fields_some : (text : List ℕ) → 0 < length (fields_of text)
-fields_some [] = omega arith
-fields_some (c ∷ text) = ⊎_elim (λ yes. rw yes (omega arith)) (λ no. rw no (front_some c (fields_of text))) (cases_Bool (c == 32))
-
-pub too_many_fields : (n last : ℕ) (line p rest word clock a b : List ℕ) → fields_of line ≡ p ∷ fields_of rest → fields_of rest ≡ word ∷ fields_of clock → fields_of clock ≡ a ∷ fields_of b → Err Form ≡ entry_of n last line
-too_many_fields n last line p rest word clock a b e f g = four_fields n last p word a (fields_of b) (fields_some b) ∙ sym (ap (entry_by n last) (e ∙ ap (λ xs. p ∷ xs) (f ∙ ap (λ xs. word ∷ xs) g)))
-
-pub three_fields : (n last : ℕ) (line p rest word clock : List ℕ) → fields_of line ≡ p ∷ fields_of rest → fields_of rest ≡ word ∷ fields_of clock → fields_of clock ≡ clock ∷ [] → turn_of n last p word clock ≡ entry_of n last line
+pub three_fields : (n last : ℕ) (line p rest word clock : List ℕ) → fields_of 32 line ≡ p ∷ fields_of 32 rest → fields_of 32 rest ≡ word ∷ fields_of 32 clock → fields_of 32 clock ≡ clock ∷ [] → turn_of n last p word clock ≡ entry_of n last line
 three_fields n last line p rest word clock e f g = sym (ap (entry_by n last) (e ∙ ap (λ xs. p ∷ xs) (f ∙ ap (λ xs. word ∷ xs) g)))
 
 -- the process of a good turn
@@ -198,16 +116,12 @@ fields_below n last (p ∷ word ∷ clock ∷ []) turn e = turn_below n last p w
 fields_below n last (p ∷ word ∷ clock ∷ more ∷ fields) turn e = absurd (let never : ⊥ = cc in never)
 
 pub process_below : (n last : ℕ) (line : List ℕ) (turn : Entry) → Ok turn ≡ entry_of n last line → process_of turn < n
-process_below n last line turn e = fields_below n last (fields_of line) turn e
+process_below n last line turn e = fields_below n last (fields_of 32 line) turn e
 
 -- a line after the last one that is read
 one_more : (n number last : ℕ) (lines : List (List ℕ)) → 0 < length lines → 1000000 < number → schedule_from n number last lines ≡ Err (record { line = number; kind = TooMany })
 one_more n number last [] some high = absurd (omega arith)
 one_more n number last (line ∷ lines) some high = rw (lt-ltb 1000000 number high) refl
-
-lines_some : (text : List ℕ) → 0 < length text → 0 < length (lines_of text)
-lines_some [] some = absurd (omega arith)
-lines_some (c ∷ text) some = ⊎_elim (λ yes. rw yes (omega arith)) (λ no. rw no (front_some c (lines_of text))) (cases_Bool (c == 10))
 
 pub too_many_lines : (n number last : ℕ) (rest : List ℕ) (front : List Entry) (told : Result (List Entry) ScheduleFault) → told ≡ prefixed front (schedule_from n number last (lines_of rest)) → 0 < length rest → 1000000 < number → told ≡ Err (record { line = number; kind = TooMany })
 too_many_lines n number last rest front told e some high = e ∙ ap (prefixed front) (one_more n number last (lines_of rest) (lines_some rest some) high)

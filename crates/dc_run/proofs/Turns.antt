@@ -1,20 +1,18 @@
 -- How a run goes on by one entry.
-use Rattle.std.proofs.Common.{◌≡◌, ◌∙◌, ◌+◌, ◌≤◌, ℕ, true, false, List, [], ◌∷◌, ◌++◌, length, reverse, take, Option, None, Some, ap, sym, subst, refl, arith, slice_get, append_assoc}
+use Rattle.std.proofs.Common.{◌≡◌, ◌∙◌, ◌+◌, ◌≤◌, ℕ, true, List, [], ◌∷◌, ◌++◌, length, reverse, take, Option, None, Some, ap, sym, subst, refl, arith, slice_get, append_assoc}
 use Rattle.std.proofs.lemmas.List.{append-nil, reverse-append, length-reverse}
 use Rattle.std.proofs.lemmas.Option.{slice_get_within}
 use Rattle.dc_media.specs.Told.{Becomes}
 use Rattle.dc_media.proofs.Becoming.{Becomes-then}
 use Rattle.dc_plain.specs.Core.{Core, opened_core, LeadsTo, Turned, stands, coming_at, drawn, drawn_answer, after_event, after_turn}
-use Rattle.dc_plain.specs.Guest.{Guest, guests_of, started, coming, after_next, event_of}
+use Rattle.dc_plain.specs.Guest.{Guest, guests_of, started, coming, after_answer}
 use Rattle.dc_elf.specs.Images.{Image}
 use Rattle.dc_plain.specs.Lines.{text_of, visible_line}
-use Rattle.dc_plain.specs.Machine.{next_of}
 use Rattle.dc_plain.specs.Plain.{reported}
 use Rattle.dc_plain.specs.World.{Event, Guests, Local, moved, shown, shows, record_of}
 use Rattle.dc_plain.specs.World.Event.{AtEnd, AtInternal, AtVisible}
 use Rattle.dc_plain.specs.World.{Answer as answer}
 use Rattle.dc_plain.specs.declared.act.Act.TheVariants as act
-use Rattle.dc_plain.specs.declared.machine.Next.{Next}
 use Rattle.dc_plain.specs.declared.act.Taken.{Taken}
 use Rattle.dc_plain.specs.declared.entry.Entry.{Entry}
 use Rattle.dc_plain.specs.declared.entry.Entry.TheVariants.{Turn}
@@ -80,14 +78,11 @@ module _ (images : List Image) (inputs : List (List (List ℕ))) (schedule : Lis
   comes_at : (e : Event) → coming guest ≡ e → coming_at G' now 0 ≡ e
   comes_at e at = ap coming run.guest_is ∙ at
 
-  event_at : (e : Event) → guest.ended ≡ false → event_of (next_of guest.machine) guest.machine ≡ e → coming guest ≡ e
-  event_at e live at = rw live at
-
   stands_later : stands G' later 0 ≡ moved G' (stands G' now 0) answer.Plain
   stands_later = stands_on images inputs schedule marks now run.led word clock is
 
-  guest_later : guest.ended ≡ false → (stands G' later 0).machine ≡ after_next (next_of guest.machine) guest
-  guest_later live = ap (λ (l : Local Guest). l.machine) stands_later ∙ ap (λ (g : Guest). G'.after g answer.Plain) run.guest_is ∙ rw live refl
+  guest_later : (stands G' later 0).machine ≡ after_answer guest answer.Plain
+  guest_later = ap (λ (l : Local Guest). l.machine) stands_later ∙ ap (λ (g : Guest). after_answer g answer.Plain) run.guest_is
 
   said_later : (e : Event) → coming_at G' now 0 ≡ e → (stands G' later 0).said ≡ shown + shows e
   said_later e at = ap (λ (l : Local Guest). l.said) stands_later ∙ rw (at, run.said) refl
@@ -109,24 +104,23 @@ module _ (images : List Image) (inputs : List (List (List ℕ))) (schedule : Lis
     shows = run.shows;
   }
 
-  pub stepped_runs : guest.ended ≡ false → event_of (next_of guest.machine) guest.machine ≡ AtInternal
-      → RunsAs G' schedule (after_next (next_of guest.machine) guest) shown (acts ++ record { t = length marks; p = 0; act = act.Plain } ∷ []) (marks ++ mark.Stepped ∷ []) lines first held
-  stepped_runs live at = let e = comes_at AtInternal (event_at AtInternal live at) in record {
+  pub stepped_runs : coming guest ≡ AtInternal → RunsAs G' schedule (after_answer guest answer.Plain) shown (acts ++ record { t = length marks; p = 0; act = act.Plain } ∷ []) (marks ++ mark.Stepped ∷ []) lines first held
+  stepped_runs at = let e = comes_at AtInternal at in record {
     core = later;
     led = leads_stepped images inputs schedule marks now run.led word clock is e;
-    guest_is = guest_later live;
+    guest_is = guest_later;
     said = said_later AtInternal e ∙ omega arith;
     acts_are = acts_later;
     count = ap length (lines_later AtInternal e) ∙ run.count;
     shows = rw (lines_later AtInternal e) run.shows;
   }
 
-  module _ (body : Body) (live : guest.ended ≡ false) (at : event_of (next_of guest.machine) guest.machine ≡ AtVisible body) (held' : Option (List ℕ)) where
+  module _ (body : Body) (at : coming guest ≡ AtVisible body) (held' : Option (List ℕ)) where
     abbrev record_now : Visible
     record_now = record { p = 0; k = shown; body = body }
 
     e : coming_at G' now 0 ≡ AtVisible body
-    e = comes_at (AtVisible body) (event_at (AtVisible body) live at)
+    e = comes_at (AtVisible body) at
 
     led_showed : LeadsTo G' schedule (mark.Showed shown ∷ reverse marks) later
     led_showed = subst (λ k. LeadsTo G' schedule (mark.Showed k ∷ reverse marks) later) run.said (leads_showed images inputs schedule marks now run.led word clock is body e)
@@ -138,11 +132,11 @@ module _ (images : List Image) (inputs : List (List (List ℕ))) (schedule : Lis
     text_showed = sym (ap (λ xs. text_of (reverse xs)) lines_showed ∙ ap text_of (reverse_more record_now now.lines) ∙ text_end (reverse now.lines) record_now)
 
     pub showed_runs : Becomes held held' (λ x y. y ≡ x ++ visible_line record_now)
-        → RunsAs G' schedule (after_next (next_of guest.machine) guest) (shown + 1) (acts ++ record { t = length marks; p = 0; act = act.Plain } ∷ []) (marks ++ mark.Showed shown ∷ []) (lines + 1) first held'
+        → RunsAs G' schedule (after_answer guest answer.Plain) (shown + 1) (acts ++ record { t = length marks; p = 0; act = act.Plain } ∷ []) (marks ++ mark.Showed shown ∷ []) (lines + 1) first held'
     showed_runs writes = record {
       core = later;
       led = rw (reverse_end {A = Mark} (mark.Showed shown) marks) led_showed;
-      guest_is = guest_later live;
+      guest_is = guest_later;
       said = said_later (AtVisible body) e;
       acts_are = acts_later;
       count = ap length lines_showed ∙ omega (arith, run.count);
@@ -164,38 +158,32 @@ module _ (images : List Image) (inputs : List (List (List ℕ))) (schedule : Lis
     }
 
 -- the same, as the code says it: what it found is named apart, and equal
-module _ (images : List Image) (inputs : List (List (List ℕ))) (schedule : List Entry) (guest guest' : Guest) (next : Next) (shown : ℕ) (acts acts' : List Taken) (marks : List Mark) (lines t p : ℕ) (first held held' : Option (List ℕ))
-    (next_is : next ≡ next_of guest.machine) (guest_is : guest' ≡ after_next next guest) (acts_are : acts' ≡ acts ++ record { t = t; p = p; act = act.Plain } ∷ []) (t_is : t ≡ length marks) (live : guest.ended ≡ false) where
-  guest_at : guest' ≡ after_next (next_of guest.machine) guest
-  guest_at = guest_is ∙ ap (λ (n : Next). after_next n guest) next_is
-
+module _ (images : List Image) (inputs : List (List (List ℕ))) (schedule : List Entry) (guest guest' : Guest) (shown : ℕ) (acts acts' : List Taken) (marks : List Mark) (lines t p : ℕ) (first held held' : Option (List ℕ))
+    (guest_is : guest' ≡ after_answer guest answer.Plain) (acts_are : acts' ≡ acts ++ record { t = t; p = p; act = act.Plain } ∷ []) (t_is : t ≡ length marks) where
   acts_at : p ≡ 0 → acts' ≡ acts ++ record { t = length marks; p = 0; act = act.Plain } ∷ []
   acts_at zero = acts_are ∙ ap (λ n. acts ++ record { t = n; p = p; act = act.Plain } ∷ []) t_is ∙ ap (λ n. acts ++ record { t = length marks; p = n; act = act.Plain } ∷ []) zero
 
-  event_is : (e : Event) → event_of next guest.machine ≡ e → event_of (next_of guest.machine) guest.machine ≡ e
-  event_is e at = ap (λ (n : Next). event_of n guest.machine) (sym next_is) ∙ at
-
-  pub stepped_on : (entry : Entry) (marks' : List Mark) → process_of entry ≡ 0 → p ≡ process_of entry → event_of next guest.machine ≡ AtInternal → marks' ≡ marks ++ mark.Stepped ∷ []
+  pub stepped_on : (entry : Entry) (marks' : List Mark) → process_of entry ≡ 0 → p ≡ process_of entry → coming guest ≡ AtInternal → marks' ≡ marks ++ mark.Stepped ∷ []
       → slice_get schedule (length marks) ≡ Some entry → RunsAs (guests_of images inputs) schedule guest shown acts marks lines first held → RunsAs (guests_of images inputs) schedule guest' shown acts' marks' lines first held
   stepped_on (Turn q word clock) marks' zero p_is at marks_are is run =
       let is' : slice_get schedule (length marks) ≡ Some (Turn 0 word clock) = is ∙ ap (λ n. Some (Turn n word clock)) zero in
-      rw (guest_at, acts_at (p_is ∙ zero), marks_are) (stepped_runs images inputs schedule guest shown acts marks lines first held word clock is' run live (event_is AtInternal at))
+      rw (guest_is, acts_at (p_is ∙ zero), marks_are) (stepped_runs images inputs schedule guest shown acts marks lines first held word clock is' run at)
 
-  pub showed_on : (entry : Entry) (marks' : List Mark) (body : Body) → process_of entry ≡ 0 → p ≡ process_of entry → event_of next guest.machine ≡ AtVisible body → marks' ≡ marks ++ mark.Showed shown ∷ []
+  pub showed_on : (entry : Entry) (marks' : List Mark) (body : Body) → process_of entry ≡ 0 → p ≡ process_of entry → coming guest ≡ AtVisible body → marks' ≡ marks ++ mark.Showed shown ∷ []
       → Becomes held held' (λ x y. y ≡ x ++ visible_line (record { p = p; k = shown; body = body }))
       → slice_get schedule (length marks) ≡ Some entry → RunsAs (guests_of images inputs) schedule guest shown acts marks lines first held → RunsAs (guests_of images inputs) schedule guest' (shown + 1) acts' marks' (lines + 1) first held'
   showed_on (Turn q word clock) marks' body zero p_is at marks_are writes is run =
       let is' : slice_get schedule (length marks) ≡ Some (Turn 0 word clock) = is ∙ ap (λ n. Some (Turn n word clock)) zero in
       let writes' = subst (λ n. Becomes held held' (λ x y. y ≡ x ++ visible_line (record { p = n; k = shown; body = body }))) (p_is ∙ zero) writes in
-      rw (guest_at, acts_at (p_is ∙ zero), marks_are) (showed_runs images inputs schedule guest shown acts marks lines first held word clock is' run body live (event_is (AtVisible body) at) held' writes')
+      rw (guest_is, acts_at (p_is ∙ zero), marks_are) (showed_runs images inputs schedule guest shown acts marks lines first held word clock is' run body at held' writes')
 
-  pub breaks_on : (entry : Entry) (body : Body) → process_of entry ≡ 0 → p ≡ process_of entry → event_of next guest.machine ≡ AtVisible body
+  pub breaks_on : (entry : Entry) (body : Body) → process_of entry ≡ 0 → p ≡ process_of entry → coming guest ≡ AtVisible body
       → (n : ℕ) × (n ≤ length (visible_line (record { p = p; k = shown; body = body }))) × Becomes held held' (λ x y. y ≡ x ++ take n (visible_line (record { p = p; k = shown; body = body })))
       → slice_get schedule (length marks) ≡ Some entry → RunsAs (guests_of images inputs) schedule guest shown acts marks lines first held → TornAs (guests_of images inputs) schedule acts' marks lines first held'
   breaks_on (Turn q word clock) body zero p_is at writes is run =
       let is' : slice_get schedule (length marks) ≡ Some (Turn 0 word clock) = is ∙ ap (λ n. Some (Turn n word clock)) zero in
       let writes' = subst (λ r. (n : ℕ) × (n ≤ length (visible_line (record { p = r; k = shown; body = body }))) × Becomes held held' (λ x y. y ≡ x ++ take n (visible_line (record { p = r; k = shown; body = body })))) (p_is ∙ zero) writes in
-      rw (acts_at (p_is ∙ zero)) (showing_breaks images inputs schedule guest shown acts marks lines first held word clock is' run body live (event_is (AtVisible body) at) held' writes')
+      rw (acts_at (p_is ∙ zero)) (showing_breaks images inputs schedule guest shown acts marks lines first held word clock is' run body at held' writes')
 
 pub idle_on : (images : List Image) (inputs : List (List (List ℕ))) (schedule : List Entry) (guest : Guest) (shown : ℕ) (acts : List Taken) (marks marks' : List Mark) (lines : ℕ) (first held : Option (List ℕ)) (entry : Entry)
     → process_of entry ≡ 0 → guest.ended ≡ true → marks' ≡ marks ++ mark.Idle Ended ∷ []

@@ -1,5 +1,7 @@
 -- What a call of the program promises of a run that was opened.
 use Rattle.std.specs.Prelude.{◌≡◌, ◌≢◌, ◌⊎◌, ◌<◌, ◌≤◌, ℕ, true, List, [], ◌∷◌, ◌++◌, length, reverse, take, Option, Some, Result, Ok, Err}
+use Rattle.dc_acts.specs.Reports.{report_text}
+use Rattle.dc_media.specs.Causes.{Rose}
 use Rattle.dc_media.specs.Told.{Becomes}
 use Rattle.dc_plain.specs.Core.{Core, LeadsTo}
 use Rattle.dc_plain.specs.Drawn.{Drawn}
@@ -15,7 +17,9 @@ use Rattle.dc_plain.specs.declared.mark.Mark.{Mark}
 use Rattle.dc_plain.specs.declared.mark.Mark.TheVariants as mark
 use Rattle.dc_plain.specs.declared.visible.Visible.{Visible}
 use Rattle.dc_run.specs.Opening.{Setting}
+use Rattle.dc_run.specs.Outcomes.{status_of}
 use Rattle.dc_run.specs.Settings.{is_free, was_opened}
+use Rattle.dc_run.specs.declared.verdict.Outlet.TheVariants.{Out, Report}
 use Rattle.dc_run.specs.declared.verdict.Verdict.{Verdict}
 use Rattle.dc_run.specs.declared.verdict.Verdict.TheVariants.{Done, Unfinished, SinkFault}
 
@@ -57,11 +61,11 @@ AllEnded G w = (p : ℕ) → p < G.count → G.next (w.procs p).machine ≡ AtEn
 abbrev pub SomeRuns : Guests Guest → World Guest → Type 0
 SomeRuns G w = (p : ℕ) × (p < G.count) × (G.next (w.procs p).machine ≢ AtEnd)
 
--- done exactly where the schedule is used up and every guest has ended, unfinished where one has not, else the sink failed at an entry
+-- done exactly where the schedule is used up and every guest has ended, unfinished where one has not, else the output failed at an entry
 abbrev pub IsEnding : Guests Guest → List Entry → Verdict → List Mark → World Guest → List Visible → Type 0
 IsEnding G schedule Done marks w torn = (length marks ≡ length schedule) × (torn ≡ []) × AllEnded G w
 IsEnding G schedule Unfinished marks w torn = (length marks ≡ length schedule) × (torn ≡ []) × SomeRuns G w
-IsEnding G schedule (SinkFault outlet) marks w torn = (length marks < length schedule) × (length torn ≡ 1)
+IsEnding G schedule (SinkFault Out) marks w torn = (length marks < length schedule) × (length torn ≡ 1)
 IsEnding G schedule _ marks w torn = ⊥
 
 -- The lines on the output, dropping a process's outputs whose number came before, are exactly the visible records of the failure-free
@@ -78,3 +82,22 @@ pub record IsHeadline (setting : Setting) (verdict : Verdict) (acts : List Taken
   pub repeats_equal : RepeatsEqual setting.schedule (marked torn marks) (reverse (whole ++ torn))
   pub core_led : CoreLed setting (marked torn marks) core acts (whole ++ torn)
   pub ending : IsEnding (guests setting) setting.schedule verdict marks world torn
+
+-- the verdict where the report could not be written whole: its fault takes the place of done and unfinished, and of no other
+abbrev pub unreported : Verdict → Verdict
+unreported Done = SinkFault Report
+unreported Unfinished = SinkFault Report
+unreported stood = stood
+
+-- the report of a run that came to `stood`: it is written whole and that is the verdict; or its sink failed and a front of it is written
+abbrev pub Reports : Verdict → Verdict → List ℕ → ℕ → ℕ → Option (List ℕ) → Option (List ℕ) → Type 0
+Reports stood verdict text faults faults' before after =
+    ((verdict ≡ stood) × Becomes before after (λ x y. y ≡ x ++ text))
+    ⊎ ((verdict ≡ unreported stood) × Rose faults faults' × ((n : ℕ) × (n ≤ length text) × Becomes before after (λ x y. y ≡ x ++ take n text)))
+
+-- a run that kept the promise, with its report: the status is that of the verdict before the report
+pub record IsReported (setting : Setting) (verdict : Verdict) (acts : List Taken) (marks : List Mark) (lines : ℕ) (before after : Option (List ℕ))
+    (faults faults' : ℕ) (report report' : Option (List ℕ)) : Type 0 where
+  pub stood : Verdict
+  pub kept : IsHeadline setting stood acts marks lines before after
+  pub report_told : Reports stood verdict (report_text (status_of stood) (length marks) acts lines) faults faults' report report'

@@ -6,7 +6,7 @@ use Rattle.dc_elf.specs.declared.faults.ElfFault.TheVariants as elf
 use Rattle.dc_run.specs.declared.verdict.LineFault.{LineFault}
 use Rattle.dc_run.specs.declared.verdict.LineFault.TheVariants.{Form, Process, ClockFell, TooMany}
 use Rattle.dc_run.specs.declared.verdict.Outlet.{Outlet}
-use Rattle.dc_run.specs.declared.verdict.Outlet.TheVariants.{Out}
+use Rattle.dc_run.specs.declared.verdict.Outlet.TheVariants.{Out, Report}
 use Rattle.dc_run.specs.declared.verdict.PlanFault.{PlanFault}
 use Rattle.dc_run.specs.declared.verdict.PlanFault.TheVariants.{Text}
 use Rattle.dc_run.specs.declared.verdict.ScheduleFault.{ScheduleFault}
@@ -61,6 +61,7 @@ schedule_fault_text fault = codes "schedule line " ++ decimal fault.line ++ code
 
 abbrev pub outlet_text : Outlet → List ℕ
 outlet_text Out = codes "out"
+outlet_text Report = codes "report"
 
 abbrev pub counts_text : List ℕ → ℕ → ℕ → List ℕ
 counts_text name acts lines = name ++ decimal acts ++ codes " acts " ++ decimal lines ++ codes " lines"

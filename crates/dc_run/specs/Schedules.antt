@@ -1,30 +1,16 @@
 -- Schedules and their text.
-use Rattle.std.specs.Prelude.{◌≡◌, ℕ, suc, ◌^◌, ◌==◌, ◌&&◌, Bool, List, [], ◌∷◌, ◌++◌, Result, Ok, Err, if◌then◌else◌, nat_lt, Vec}
+use Rattle.std.specs.Prelude.{◌≡◌, ℕ, suc, ◌^◌, ◌&&◌, Bool, List, [], ◌∷◌, ◌++◌, Result, Ok, Err, if◌then◌else◌, nat_lt, Vec}
 use Rattle.std.specs.declared.alloc.Global.{Global}
 use Rattle.std.specs.Str.Parse.{digits_value}
 use Rattle.dc_plain.specs.declared.entry.Entry.{Entry}
 use Rattle.dc_plain.specs.declared.entry.Entry.TheVariants.{Turn}
 use Rattle.dc_words.specs.Numbers.{is_number}
+use Rattle.dc_words.specs.Texts.{fields_of, lines_of}
 use Rattle.dc_run.specs.declared.verdict.LineFault.{LineFault}
 use Rattle.dc_run.specs.declared.verdict.LineFault.TheVariants.{Form, Process, ClockFell, TooMany}
 use Rattle.dc_run.specs.declared.verdict.ScheduleFault.{ScheduleFault}
 use Rattle.dc_run.specs.declared.verdict.Unread.{Unread}
 use Rattle.dc_run.specs.declared.verdict.Unread.TheVariants.{Memory, Refused}
-
--- a byte more in front of the first part
-abbrev pub in_front : ℕ → List (List ℕ) → List (List ℕ)
-in_front c [] = (c ∷ []) ∷ []
-in_front c (part ∷ parts) = (c ∷ part) ∷ parts
-
--- the lines of a text, each without its line feed; the last one may have none
-abbrev pub lines_of : List ℕ → List (List ℕ)
-lines_of [] = []
-lines_of (c ∷ text) = if c == 10 then [] ∷ lines_of text else in_front c (lines_of text)
-
--- the fields of a line, between single blanks
-abbrev pub fields_of : List ℕ → List (List ℕ)
-fields_of [] = [] ∷ []
-fields_of (c ∷ text) = if c == 32 then [] ∷ fields_of text else in_front c (fields_of text)
 
 -- the number of a text
 abbrev pub value : List ℕ → ℕ
@@ -45,9 +31,9 @@ abbrev pub entry_by : ℕ → ℕ → List (List ℕ) → Result Entry LineFault
 entry_by n last (p ∷ word ∷ clock ∷ []) = turn_of n last p word clock
 entry_by n last _ = Err Form
 
--- the entry of a line, where the clock stood at `last`
+-- the entry of a line, its fields between single blanks, where the clock stood at `last`
 abbrev pub entry_of : ℕ → ℕ → List ℕ → Result Entry LineFault
-entry_of n last line = entry_by n last (fields_of line)
+entry_of n last line = entry_by n last (fields_of 32 line)
 
 abbrev pub clock_of : Entry → ℕ
 clock_of (Turn p word clock) = clock

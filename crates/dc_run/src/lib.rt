@@ -3,6 +3,7 @@
 
 mod command;
 mod guest;
+mod memory;
 mod opening;
 mod outcome;
 mod plan;

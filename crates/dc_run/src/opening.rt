@@ -1,4 +1,4 @@
-ghost use Rattle.std.specs.Prelude.{◌≡◌, ◌≤◌, ◌↔◌, false, None, Some, Err, All, IfErr, IfOk, IsErrOf, OnOk, length};
+ghost use Rattle.std.specs.Prelude.{◌≡◌, ◌≤◌, ◌⊎◌, ◌%◌, false, None, Some, Err, All, IfErr, IfOk, IsErrOf, OnOk, length};
 ghost use Rattle.dc_media.specs.Causes.{Rose};
 ghost use Rattle.dc_elf.specs.Files.{fault_of};
 ghost use Rattle.dc_run.specs.Command.{plan_asked};
@@ -45,6 +45,7 @@ fn fetch<L: Library>(
 fn image_in(alloc: Global, file: &[u8]) -> Result<Image, Verdict>
     ensures told { Agrees image_view result (guest_in file.now) }
     ensures long { IfOk result (λ image. length image.memory.items ≡ 65536) }
+    ensures aligned { IfOk result (λ image. image.entry % 4 ≡ 0) }
     ensures right { OnOk result (fault_of file.now 65536 ≡ None) }
     ensures closed { IfErr result (λ v. was_opened v ≡ false) }
     ensures asked { ¬ (result ≡ Err Verdict.Usage) }
@@ -59,7 +60,8 @@ fn image_in(alloc: Global, file: &[u8]) -> Result<Image, Verdict>
 
 /// With the guest's image and the bytes of the schedule.
 fn settle(alloc: Global, image: Image, text: &[u8]) -> Result<Setting, Verdict>
-    requires { length image.memory.items ≡ 65536 }
+    requires long { length image.memory.items ≡ 65536 }
+    requires aligned { image.entry % 4 ≡ 0 }
     ensures told { Agrees setting_of result (opening_at_end (image_view image) text.now) }
     ensures closed { IfErr result (λ v. was_opened v ≡ false) }
     ensures asked { ¬ (result ≡ Err Verdict.Usage) }
@@ -115,16 +117,15 @@ fn open_plan<L: Library>(alloc: Global, lib: &mut L, text: &[u8]) -> Result<Sett
 /// What the words and the files open a run with, or the first refusal.
 pub fn open<L: Library>(alloc: Global, words: &[String], lib: &mut L) -> Result<Setting, Verdict>
     ensures told { (files : Files) → L.files lib.old ≡ Some files → Agrees setting_of result (opening_of files words.now) }
-    ensures usage { result ≡ Err Verdict.Usage ↔ (plan_asked words.now ≡ None) }
+    ensures usage { result ≡ Err Verdict.Usage → plan_asked words.now ≡ None }
+    ensures unasked { plan_asked words.now ≡ None → (result ≡ Err Verdict.Usage) ⊎ (result ≡ Err Verdict.WantOfMemory) }
     ensures closed { IfErr result (λ v. was_opened v ≡ false) }
     ensures reached { (files : Files) (w : Whose) → L.files lib.old ≡ Some files → IsErrOf result (Verdict.LibraryFault w) →
         Asks files words.now w }
     ensures fault { (w : Whose) → IsErrOf result (Verdict.LibraryFault w) → Rose (L.faults lib.old) (L.faults lib.new) }
     ensures later { L.faults lib.old ≤ L.faults lib.new }
 {
-    let Some(name) = plan_in(words) else {
-        return Err(Verdict::Usage);
-    };
+    let name = plan_in(alloc, words)?;
     let text = fetch(alloc, lib, Which::Plan, name)?;
     open_plan(alloc, lib, &text)
 }

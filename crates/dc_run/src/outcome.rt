@@ -197,5 +197,6 @@ fn outlet_name(outlet: Outlet) -> &'static [u8]
 {
     match outlet {
         Outlet::Out => b"out",
+        Outlet::Report => b"report",
     }
 }

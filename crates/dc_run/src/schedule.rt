@@ -1,42 +1,13 @@
-ghost use Rattle.std.specs.Prelude.{◌≡◌, ◌≤◌, ◌<◌, ◌==◌, ◌∷◌, [], All, IfOk, IfSome, None, length, position};
-ghost use Rattle.std.specs.Option.{option_map};
-ghost use Rattle.dc_run.specs.Schedules.{Reads, clock_of, entry_of, fields_of, lines_of, process_of, schedule_of, turn_of};
+ghost use Rattle.std.specs.Prelude.{◌≡◌, ◌≤◌, ◌<◌, All, IfOk, length};
+ghost use Rattle.dc_run.specs.Schedules.{Reads, clock_of, entry_of, process_of, schedule_of, turn_of};
 
 use crate::{LineFault, ScheduleFault, Unread};
 use dc_plain::Entry;
-use dc_words::{NumberFault, read_number};
+use dc_words::{NumberFault, first_field, first_line, read_number};
 use std::alloc::Global;
 
 /// The most entries of a schedule.
 const ENTRIES: u32 = 1_000_000;
-
-fn place(stop: u8, text: &[u8]) -> Option<usize>
-    ensures place { result ≡ position (λ c. c == stop) text.now }
-    ensures within { IfSome result (λ i. i < length text.now) }
-{
-    text.iter().position(|c| *c == stop)
-}
-
-/// The first line of a text that is not empty, and what follows it.
-fn first_line(text: &[u8]) -> (&[u8], &[u8])
-    requires { 0 < length text.now }
-    ensures lines { lines_of text.now ≡ result.0.now ∷ lines_of result.1.now }
-    ensures shorter { length result.1.now < length text.now }
-{
-    match place(b'\n', text) {
-        Some(end) => (&text[..end], &text[end + 1..]),
-        None => (text, &text[text.len()..]),
-    }
-}
-
-/// What stands before the first blank, and what follows it.
-fn first_field(text: &[u8]) -> Option<(&[u8], &[u8])>
-    ensures some { IfSome result (λ x. fields_of text.now ≡ x.0.now ∷ fields_of x.1.now) }
-    ensures none { result ≡ None → fields_of text.now ≡ text.now ∷ [] }
-{
-    let end = place(b' ', text)?;
-    Some((&text[..end], &text[end + 1..]))
-}
 
 /// A turn of a process below `n`, where the clock stood at `last`.
 fn turn(n: u32, last: u64, p: &[u8], word: &[u8], clock: &[u8]) -> Result<Entry, LineFault>
@@ -66,13 +37,13 @@ fn entry(n: u32, last: u64, line: &[u8]) -> Result<Entry, LineFault>
     requires { 0 < n }
     ensures { result ≡ entry_of n last line.now }
 {
-    let Some((p, rest)) = first_field(line) else {
+    let Some((p, rest)) = first_field(b' ', line) else {
         return Err(LineFault::Form);
     };
-    let Some((word, clock)) = first_field(rest) else {
+    let Some((word, clock)) = first_field(b' ', rest) else {
         return Err(LineFault::Form);
     };
-    match first_field(clock) {
+    match first_field(b' ', clock) {
         Some(_) => Err(LineFault::Form),
         None => turn(n, last, p, word, clock),
     }

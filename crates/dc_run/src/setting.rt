@@ -1,4 +1,4 @@
-ghost use Rattle.std.specs.Prelude.{◌≡◌, ◌≤◌, All, length};
+ghost use Rattle.std.specs.Prelude.{◌≡◌, ◌≤◌, ◌%◌, All, length};
 ghost use Rattle.dc_run.specs.Schedules.{process_of};
 
 use dc_plain::Entry;
@@ -10,6 +10,7 @@ pub struct Setting {
     pub entry: u32,
     pub schedule: Vec<Entry>,
     ghost long: { length memory.items ≡ 65536 },
+    ghost aligned: { entry % 4 ≡ 0 },
     ghost turns: { All (λ entry. process_of entry ≡ 0) schedule.items },
     ghost few: { length schedule.items ≤ 1000000 },
 }

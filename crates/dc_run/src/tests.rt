@@ -126,6 +126,8 @@ struct Case {
     room: usize,
     /// Which calls of the sink fail, counted from 1.
     failing_writes: Vec<u64>,
+    /// How many bytes the report's sink takes.
+    report_room: usize,
 }
 
 /// What a call answers: the verdict, the status and the line that says it.
@@ -160,6 +162,12 @@ const OUT_FAILED: Answer = Answer {
     line: "dc: sink failed: out\n",
 };
 
+const REPORT_FAILED: Answer = Answer {
+    verdict: Verdict::SinkFault(Outlet::Report),
+    status: 8,
+    line: "dc: sink failed: report\n",
+};
+
 const TOO_MANY: Answer = Answer {
     verdict: Verdict::ScheduleRefused(ScheduleFault {
         line: 1_000_001,
@@ -192,11 +200,12 @@ fn hi(alloc: Global) -> Result<Case, AllocError> {
         failing_fetches: Vec::new(alloc),
         room: 2000,
         failing_writes: Vec::new(alloc),
+        report_room: 2000,
     })
 }
 
-/// The outcome of a call, and its sink.
-fn call(alloc: Global, case: Case) -> Result<(Outcome, MemSink), AllocError> {
+/// The outcome of a call, its output and its report.
+fn call(alloc: Global, case: Case) -> Result<(Outcome, MemSink, MemSink), AllocError> {
     let Case {
         words,
         plan,
@@ -206,6 +215,7 @@ fn call(alloc: Global, case: Case) -> Result<(Outcome, MemSink), AllocError> {
         failing_fetches,
         room,
         failing_writes,
+        report_room,
     } = case;
     let mut lib = MemLibrary::new(alloc, failing_fetches);
     if let Some(plan) = plan {
@@ -216,7 +226,7 @@ fn call(alloc: Global, case: Case) -> Result<(Outcome, MemSink), AllocError> {
         lib.add(String::from_str(alloc, "schedule")?, schedule.into_bytes())?;
     }
     let mut out = MemSink::new(alloc, room, failing_writes)?;
-    let mut report = MemSink::new(alloc, 0, Vec::new(alloc))?;
+    let mut report = MemSink::new(alloc, report_room, Vec::new(alloc))?;
     let outcome = dc(
         alloc,
         &words,
@@ -226,38 +236,55 @@ fn call(alloc: Global, case: Case) -> Result<(Outcome, MemSink), AllocError> {
         &mut out,
         &mut report,
     );
-    Ok((outcome, out))
+    Ok((outcome, out, report))
 }
 
-/// The outcome of a call that answers so and shows these lines.
+/// The outcome and the report of a call that answers so and shows these lines.
 fn comes_to(
     rt: &(impl Abort + AllocGlobal),
     what: &str,
     case: Case,
     answer: &Answer,
     shown: &str,
-) -> Result<Outcome, Fail> {
-    let (outcome, out) = call(rt.alloc(), case)?;
+) -> Result<(Outcome, MemSink), Fail> {
+    let (outcome, out, report) = call(rt.alloc(), case)?;
     assert_eq!(rt; outcome.verdict, answer.verdict, "{what}");
     assert_eq!(rt; outcome.status(), answer.status, "{what}");
     assert_eq!(rt; out.bytes(), shown.as_bytes(), "{what}");
     let mut line = MemSink::new(rt.alloc(), 200, Vec::new(rt.alloc()))?;
     outcome.write_line(&mut line)?;
     assert_eq!(rt; line.bytes(), answer.line.as_bytes(), "{what}");
-    Ok(outcome)
+    Ok((outcome, report))
 }
 
-/// A call that answers so, does no act and shows nothing.
+/// A call that opens no run: it answers so, does no act, and shows and reports nothing.
 fn comes_to_nothing(
     rt: &(impl Abort + AllocGlobal),
     what: &str,
     case: Case,
     answer: &Answer,
 ) -> Result<(), Fail> {
-    let outcome = comes_to(rt, what, case, answer, "")?;
+    let (outcome, report) = comes_to(rt, what, case, answer, "")?;
+    assert!(rt; report.bytes().is_empty(), "{what}");
     assert!(rt; outcome.acts.as_slice().is_empty(), "{what}");
     assert!(rt; outcome.marks.as_slice().is_empty(), "{what}");
     assert_eq!(rt; outcome.lines, 0, "{what}");
+    Ok(())
+}
+
+/// The report tells so many plain acts, at the turns from 0 on, and closes so.
+fn reports(
+    rt: &(impl Abort + AllocGlobal),
+    report: &MemSink,
+    acts: u32,
+    close: &str,
+) -> Result<(), Fail> {
+    let mut want = String::from_str(rt.alloc(), "dc-report 1\n")?;
+    for t in 0..acts {
+        want.push_str(&format!(in rt.alloc(); "act {t} 0 plain\n")?)?;
+    }
+    want.push_str(&format!(in rt.alloc(); "{close}\n")?)?;
+    assert_eq!(rt; report.bytes(), want.as_bytes(), "{close}");
     Ok(())
 }
 
@@ -301,7 +328,8 @@ fn plain(t: u32) -> Taken {
 #[test]
 fn shows_an_output_and_the_end(rt: HostRuntime) -> Result<(), Fail> {
     let case = hi(rt.alloc())?;
-    let outcome = comes_to(&rt, "seven turns", case, &HI_DONE, HI_LINES)?;
+    let (outcome, report) = comes_to(&rt, "seven turns", case, &HI_DONE, HI_LINES)?;
+    reports(&rt, &report, 7, "close 0 7 7 2")?;
     assert_eq!(rt; outcome.acts.as_slice().len(), 7);
     for (t, taken) in (0..7).zip(outcome.acts.as_slice()) {
         assert_eq!(rt; *taken, plain(t));
@@ -323,7 +351,8 @@ fn traps_at_a_word_that_codes_nothing(rt: HostRuntime) -> Result<(), Fail> {
         status: 0,
         line: "dc: done 1 acts 1 lines\n",
     };
-    let outcome = comes_to(&rt, "one turn", case, &answer, "trap 0 0 2 00000400\n")?;
+    let (outcome, report) = comes_to(&rt, "one turn", case, &answer, "trap 0 0 2 00000400\n")?;
+    reports(&rt, &report, 1, "close 0 1 1 1")?;
     assert_eq!(rt; outcome.acts.as_slice(), [plain(0)].as_slice());
     assert_eq!(rt; outcome.marks.as_slice(), [Mark::Showed(0)].as_slice());
     assert_eq!(rt; outcome.lines, 1);
@@ -339,14 +368,19 @@ fn an_empty_schedule_ends_nothing(rt: HostRuntime) -> Result<(), Fail> {
         status: 1,
         line: "dc: unfinished 0 acts 0 lines\n",
     };
-    comes_to_nothing(&rt, "no turn", case, &answer)
+    let (outcome, report) = comes_to(&rt, "no turn", case, &answer, "")?;
+    reports(&rt, &report, 0, "close 1 0 0 0")?;
+    assert!(rt; outcome.acts.as_slice().is_empty());
+    assert!(rt; outcome.marks.as_slice().is_empty());
+    assert_eq!(rt; outcome.lines, 0);
+    Ok(())
 }
 
 #[test]
 fn turns_past_the_end_are_idle(rt: HostRuntime) -> Result<(), Fail> {
     let mut case = hi(rt.alloc())?;
     case.schedule = Some("0 0 0\n".repeat(rt.alloc(), 10)?);
-    let outcome = comes_to(&rt, "ten turns", case, &HI_DONE, HI_LINES)?;
+    let (outcome, _) = comes_to(&rt, "ten turns", case, &HI_DONE, HI_LINES)?;
     assert_eq!(rt; outcome.acts.as_slice().len(), 7);
     assert_eq!(rt; outcome.marks.as_slice().len(), 10);
     assert!(rt; outcome.marks.as_slice().starts_with(&HI_MARKS));
@@ -374,6 +408,11 @@ fn other_words_are_not_a_command(rt: HostRuntime) -> Result<(), Fail> {
         "dc check plan",
         "dc run -x",
         "dc Run plan",
+        "dc help",
+        "dc --help",
+        "dc run --help",
+        "dc run plan -h",
+        "dc --version",
     ];
     for command in commands {
         let mut case = hi(rt.alloc())?;
@@ -382,6 +421,21 @@ fn other_words_are_not_a_command(rt: HostRuntime) -> Result<(), Fail> {
             case.words.push(String::from_str(rt.alloc(), word)?)?;
         }
         comes_to_nothing(&rt, command, case, &answer)?;
+    }
+    Ok(())
+}
+
+#[test]
+fn takes_words_as_a_command_line_does(rt: HostRuntime) -> Result<(), Fail> {
+    let mut case = hi(rt.alloc())?;
+    case.words = words_of(rt.alloc(), &["dc", "run", "--", "plan"])?;
+    comes_to(&rt, "dc run -- plan", case, &HI_DONE, HI_LINES)?;
+
+    let answer = missing(Which::Plan, "dc: missing: plan\n");
+    for name in ["-", "help"] {
+        let mut case = hi(rt.alloc())?;
+        case.words = words_of(rt.alloc(), &["dc", "run", name])?;
+        comes_to_nothing(&rt, name, case, &answer)?;
     }
     Ok(())
 }
@@ -456,23 +510,63 @@ fn says_at_which_file_the_library_failed(rt: HostRuntime) -> Result<(), Fail> {
 
 #[test]
 fn a_failing_sink_ends_the_run_at_its_line(rt: HostRuntime) -> Result<(), Fail> {
-    // The call of the sink that fails, its room, what it shows, and how many marks and whole lines there are.
+    // The call of the sink that fails, its room, what it shows, and how the report closes.
     let sinks = [
-        ("first refused", 1, 2000, "", 3, 0),
-        ("first cut off", 0, 5, "out 0", 3, 0),
-        ("second refused", 2, 2000, "out 0 0 6869\n", 6, 1),
-        ("second cut off", 0, 22, "out 0 0 6869\nend 0 1 0", 6, 1),
+        ("first refused", 1, 2000, "", "close 8 3 4 0"),
+        ("first cut off", 0, 5, "out 0", "close 8 3 4 0"),
+        ("second refused", 2, 2000, "out 0 0 6869\n", "close 8 6 7 1"),
+        (
+            "second cut off",
+            0,
+            22,
+            "out 0 0 6869\nend 0 1 0",
+            "close 8 6 7 1",
+        ),
     ];
-    for (what, failing, room, shown, marks, lines) in sinks {
+    for (what, failing, room, shown, close) in sinks {
         let mut case = hi(rt.alloc())?;
         case.failing_writes.push(failing)?;
         case.room = room;
-        let outcome = comes_to(&rt, what, case, &OUT_FAILED, shown)?;
-        assert_eq!(rt; outcome.marks.as_slice().len(), marks, "{what}");
+        let (outcome, report) = comes_to(&rt, what, case, &OUT_FAILED, shown)?;
+        let acts = outcome.acts.as_slice().len() as u32;
+        reports(&rt, &report, acts, close)?;
+        assert_eq!(rt;
+            outcome.marks.as_slice().len() + 1,
+            outcome.acts.as_slice().len(),
+            "{what}"
+        );
         assert!(rt; HI_MARKS.starts_with(outcome.marks.as_slice()), "{what}");
-        assert_eq!(rt; outcome.acts.as_slice().len(), marks + 1, "{what}");
-        assert_eq!(rt; outcome.lines, lines, "{what}");
     }
+    Ok(())
+}
+
+#[test]
+fn a_failing_report_takes_the_place_of_done_and_unfinished(rt: HostRuntime) -> Result<(), Fail> {
+    // The turns that the guest gets, and what it shows by then.
+    let runs = [(SEVEN_TURNS, HI_LINES), ("", "")];
+    for (schedule, shown) in runs {
+        // No report is shorter than its first and its last line: 12 and 14 bytes.
+        for room in 0..26usize {
+            let mut case = hi(rt.alloc())?;
+            case.schedule = text(rt.alloc(), schedule)?;
+            case.report_room = room;
+            let (_, report) = comes_to(&rt, schedule, case, &REPORT_FAILED, shown)?;
+            assert_eq!(rt; report.bytes().len(), room, "{schedule}");
+            let whole = b"dc-report 1\n".as_slice();
+            let front = room.min(whole.len());
+            assert_eq!(rt; &report.bytes()[..front], &whole[..front], "{schedule}");
+        }
+    }
+    Ok(())
+}
+
+#[test]
+fn a_failing_report_leaves_a_fault_of_the_output(rt: HostRuntime) -> Result<(), Fail> {
+    let mut case = hi(rt.alloc())?;
+    case.room = 5;
+    case.report_room = 15;
+    let (_, report) = comes_to(&rt, "both fail", case, &OUT_FAILED, "out 0")?;
+    assert_eq!(rt; report.bytes(), b"dc-report 1\nact".as_slice());
     Ok(())
 }
 
@@ -599,7 +693,7 @@ fn a_guest_begins_at_its_entry(rt: HostRuntime) -> Result<(), Fail> {
     guest[24] = 0x10;
     let mut case = hi(rt.alloc())?;
     case.guest = guest.to_vec(rt.alloc())?;
-    let (outcome, out) = call(rt.alloc(), case)?;
+    let (outcome, out, _) = call(rt.alloc(), case)?;
     assert_eq!(rt; outcome.verdict, Verdict::Done);
     assert_eq!(rt; out.bytes(), b"end 0 0 0\n".as_slice());
     assert_eq!(rt; outcome.acts.as_slice().len(), 3);
@@ -611,7 +705,7 @@ fn a_guest_fits_its_memory(rt: HostRuntime) -> Result<(), Fail> {
     // 65,536 bytes from 0, of them 64,512 from 1024 on.
     let mut case = hi(rt.alloc())?;
     case.guest = file_of(rt.alloc(), &vec![in rt.alloc(); 0; 16_128]?)?;
-    let (outcome, out) = call(rt.alloc(), case)?;
+    let (outcome, out, _) = call(rt.alloc(), case)?;
     assert_eq!(rt; outcome.verdict, Verdict::Done);
     assert_eq!(rt; out.bytes(), b"trap 0 0 2 00000400\n".as_slice());
     let guest = file_of(rt.alloc(), &vec![in rt.alloc(); 0; 16_129]?)?;
@@ -634,7 +728,7 @@ fn refuses_schedule(
 ) -> Result<(), Fail> {
     let mut case = hi(rt.alloc())?;
     case.schedule = text(rt.alloc(), schedule)?;
-    let (outcome, out) = call(rt.alloc(), case)?;
+    let (outcome, out, _) = call(rt.alloc(), case)?;
     let fault = ScheduleFault { line, kind };
     assert_eq!(rt;
         outcome.verdict,
@@ -708,7 +802,7 @@ fn takes_every_turn_of_the_guest(rt: HostRuntime) -> Result<(), Fail> {
 fn a_schedule_has_at_most_1_000_000_lines(rt: HostRuntime) -> Result<(), Fail> {
     let mut case = hi(rt.alloc())?;
     case.schedule = Some("0 0 0\n".repeat(rt.alloc(), 1_000_000)?);
-    let outcome = comes_to(&rt, "1,000,000 lines", case, &HI_DONE, HI_LINES)?;
+    let (outcome, _) = comes_to(&rt, "1,000,000 lines", case, &HI_DONE, HI_LINES)?;
     assert_eq!(rt; outcome.marks.as_slice().len(), 1_000_000);
     let mut case = hi(rt.alloc())?;
     case.schedule = Some("0 0 0\n".repeat(rt.alloc(), 1_000_001)?);
@@ -725,7 +819,7 @@ fn shows(
     let [a, b, c] = set;
     let mut case = hi(rt.alloc())?;
     case.guest = file_of(rt.alloc(), &[a, b, c, ECALL, addi(17, 0, 1), ECALL])?;
-    let (outcome, out) = call(rt.alloc(), case)?;
+    let (outcome, out, _) = call(rt.alloc(), case)?;
     assert_eq!(rt; out.bytes(), shown.as_bytes(), "{what}");
     assert_eq!(rt; outcome.verdict, Verdict::Done, "{what}");
     Ok(())
@@ -824,6 +918,82 @@ fn sums_are_of_signed_immediates_and_words(rt: HostRuntime) -> Result<(), Fail> 
     ];
     for (what, [first, second], shown) in sums {
         shows(&rt, what, [first, second, addi(17, 0, 1)], shown)?;
+    }
+    Ok(())
+}
+
+/// A guest of this code, with this schedule, shows these lines; its acts are plain, and its report closes so.
+fn runs(
+    rt: &(impl Abort + AllocGlobal),
+    code: &[u32],
+    turns: usize,
+    shown: &str,
+    close: &str,
+) -> Result<(), Fail>
+    requires { length code.now ≤ 16129 }
+{
+    let mut case = hi(rt.alloc())?;
+    case.guest = file_of(rt.alloc(), code)?;
+    case.schedule = Some("0 0 0\n".repeat(rt.alloc(), turns)?);
+    let (outcome, out, report) = call(rt.alloc(), case)?;
+    assert_eq!(rt; out.bytes(), shown.as_bytes(), "{close}");
+    let acts = outcome.acts.as_slice().len() as u32;
+    reports(rt, &report, acts, close)
+}
+
+#[test]
+fn three_outputs_and_their_bounds(rt: HostRuntime) -> Result<(), Fail> {
+    // No bytes, 256 bytes and 257 bytes at 512; the last is answered -3, with which the guest ends.
+    let code = [
+        addi(17, 0, 2),
+        addi(10, 0, 512),
+        addi(11, 0, 0),
+        ECALL,
+        addi(10, 0, 512),
+        addi(11, 0, 256),
+        ECALL,
+        addi(10, 0, 512),
+        addi(11, 0, 257),
+        ECALL,
+        addi(17, 0, 1),
+        ECALL,
+    ];
+    let zeros = "00".repeat(rt.alloc(), 256)?;
+    let shown = format!(in rt.alloc(); "out 0 0 -\nout 0 1 {zeros}\nend 0 2 4294967293\n")?;
+    runs(&rt, &code, 12, &shown, "close 0 12 12 3")
+}
+
+#[test]
+fn guests_compute(rt: HostRuntime) -> Result<(), Fail> {
+    // sltiu x10, x0, -1; addi x17, x0, 1; ecall
+    let code = [0xfff0_3513, 0x0010_0893, 0x0000_0073];
+    runs(&rt, &code, 3, "end 0 0 1\n", "close 0 3 3 1")?;
+    // lui x5, 524288; srai x10, x5, 31; addi x17, x0, 1; ecall
+    let code = [0x8000_02b7, 0x41f2_d513, 0x0010_0893, 0x0000_0073];
+    runs(&rt, &code, 4, "end 0 0 4294967295\n", "close 0 4 4 1")?;
+    // addi x5, x0, 1033; jalr x0, 0(x5), which clears the lowest bit; the word 0
+    let code = [0x4090_0293, 0x0002_8067, 0];
+    runs(&rt, &code, 3, "trap 0 0 2 00000408\n", "close 0 3 3 1")
+}
+
+#[test]
+fn guests_trap(rt: HostRuntime) -> Result<(), Fail> {
+    // addi x5, x0, 1030; jalr x0, 0(x5); the word 0
+    let code = [0x4060_0293, 0x0002_8067, 0];
+    runs(&rt, &code, 2, "trap 0 0 0 00000404\n", "close 0 2 2 1")?;
+    // lui x5, 16; jalr x0, 0(x5)
+    let code = [0x0001_02b7, 0x0002_8067];
+    runs(&rt, &code, 3, "trap 0 0 1 00010000\n", "close 0 3 3 1")?;
+    // lw x5, 2(x0); lw x5, -4(x0); sh x5, 1(x0); sb x5, -1(x0); ebreak
+    let traps = [
+        (0x0020_2283, "trap 0 0 4 00000400\n"),
+        (0xffc0_2283, "trap 0 0 5 00000400\n"),
+        (0x0050_10a3, "trap 0 0 6 00000400\n"),
+        (0xfe50_0fa3, "trap 0 0 7 00000400\n"),
+        (0x0010_0073, "trap 0 0 3 00000400\n"),
+    ];
+    for (word, shown) in traps {
+        runs(&rt, &[word], 1, shown, "close 0 1 1 1")?;
     }
     Ok(())
 }

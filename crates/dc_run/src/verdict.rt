@@ -17,6 +17,8 @@ pub enum Which {
 pub enum Outlet {
     /// The sink of the lines.
     Out,
+    /// The sink of the report.
+    Report,
 }
 
 /// What is wrong with a plan.

@@ -1,4 +1,4 @@
-ghost use Rattle.std.specs.Prelude.{◌≡◌, ◌≤◌, ◌<◌, ◌+◌, ◌∷◌, [], ℕ, All, List, Option, length, IfOk, OnOk, OnErr};
+ghost use Rattle.std.specs.Prelude.{◌≡◌, ◌≤◌, ◌<◌, ◌+◌, ◌%◌, ◌∷◌, [], ℕ, All, List, Option, length, IfOk, OnOk, OnErr};
 ghost use Rattle.dc_media.specs.Causes.{HasCause};
 ghost use Rattle.dc_media.specs.Sinks.{TakesWhole};
 ghost use Rattle.dc_media.specs.Told.{TellsOn};
@@ -10,6 +10,7 @@ ghost use Rattle.dc_plain.specs.declared.entry.Entry.{Entry as Entries};
 
 use crate::Verdict;
 use crate::guest::Guest;
+use crate::memory::words_in;
 use crate::outcome::Outcome;
 use crate::reserved::Reserved;
 use dc_media::{Sink, SinkFailed, write_whole};
@@ -55,18 +56,20 @@ impl World {
         entries: usize,
     ) -> Result<World, AllocError>
         requires long { length memory.items ≡ 65536 }
+        requires aligned { entry % 4 ≡ 0 }
         requires few { entries ≤ 1000000 }
         ensures begins { IfOk result (λ w. (inputs : List (List (List ℕ))) (schedule : List Entries) (held : Option (List ℕ)) →
             IsRunning (guests_of (record { memory = memory.items; entry = entry } ∷ []) inputs) schedule w held held) }
         ensures unmarked { IfOk result (λ w. length w.marks.items ≡ 0) }
         ensures room { IfOk result (λ w. HasRoom w entries) }
     {
+        let words = words_in(alloc, &memory)?;
         let mut acts = Reserved::new(alloc);
         acts.reserve(entries)?;
         let mut marks = Reserved::new(alloc);
         marks.reserve(entries)?;
         Ok(World {
-            guest: Guest::new(memory, entry),
+            guest: Guest::new(words, entry),
             shown: 0,
             acts,
             marks,
@@ -82,6 +85,7 @@ impl World {
         ensures breaks_off { OnErr result (BreaksOff self.old self.new entry.now (O.held out.old) (O.held out.new)) }
         ensures room { OnOk result ((left : ℕ) → HasRoom self.old (left + 1) → HasRoom self.new left) }
         ensures marks { OnOk result (length self.new.marks.items ≡ length self.old.marks.items + 1) }
+        ensures unmarked { OnErr result (self.new.marks.items ≡ self.old.marks.items) }
         ensures tells { TellsOn 0 (O.faults out.new) (O.held out.old) (O.held out.new) }
         ensures cause { HasCause (O.faults out.old) (O.faults out.new) result }
     {
@@ -89,8 +93,6 @@ impl World {
             self.marks.push(Mark::Idle(Idle::Ended));
             return Ok(());
         }
-        let next = self.guest.next();
-        let body = self.guest.body(&next);
         let t = self.marks.as_slice().len() as u32;
         let p = process(entry);
         self.acts.push(Taken {
@@ -98,8 +100,7 @@ impl World {
             p,
             act: Act::Plain,
         });
-        self.guest.take(&next);
-        match body {
+        match self.guest.turn() {
             None => {
                 self.marks.push(Mark::Stepped);
                 Ok(())
@@ -127,6 +128,7 @@ impl World {
         ensures runs_on { OnOk result (RunsOn self.old self.new schedule.now (O.held out.old) (O.held out.new)) }
         ensures runs_into { OnErr result (RunsInto self.old self.new schedule.now (O.held out.old) (O.held out.new)) }
         ensures used { OnOk result (length self.new.marks.items ≡ length schedule.now) }
+        ensures few { length self.new.marks.items ≤ length schedule.now }
         ensures tells { TellsOn 0 (O.faults out.new) (O.held out.old) (O.held out.new) }
         ensures cause { HasCause (O.faults out.old) (O.faults out.new) result }
     {

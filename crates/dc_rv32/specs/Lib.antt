@@ -1,2 +1,4 @@
 pub mod Words
+pub mod Arithmetic
+pub mod Access
 pub mod Machine

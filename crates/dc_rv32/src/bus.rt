@@ -25,6 +25,7 @@ pub trait Bus {
     fn store(&mut self, i: u32, w: u32, mask: u32) -> Result<(), Self::Stop>
         requires { i < length (memory self.old) }
         ensures stored { OnOk result (memory self.new ≡ slice_set (memory self.old) i (masked (slice_index (memory self.old) i) w mask)) }
+        ensures long { length (memory self.new) ≡ length (memory self.old) }
         ensures stopped { OnErr result (stops self.old < stops self.new) }
         ensures later { stops self.old ≤ stops self.new };
 }

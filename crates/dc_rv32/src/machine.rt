@@ -1,10 +1,19 @@
-ghost use Rattle.std.specs.Prelude.{◌≡◌, ◌≤◌, ◌<◌, ◌+◌, ◌*◌, ◌/◌, ◌%◌, ◌^◌, length, IfOk, OnErr, OnOk, slice_index};
+ghost use Rattle.std.specs.Prelude.{◌≡◌, ◌≤◌, ◌<◌, ◌+◌, ◌*◌, ◌/◌, ◌%◌, ◌^◌, ℕ, List, length, IfOk, OnErr, OnOk, slice_index};
 ghost use Rattle.dc_isa.specs.Fields.{extended};
 ghost use Rattle.dc_isa.specs.Table.{Fits};
-ghost use Rattle.dc_rv32.specs.Machine.{machine_of, meaning, of_immediate, stepped, written};
+ghost use Rattle.dc_rv32.specs.Machine.{machine_of, meaning, stepped, written, UnlessRetired};
 
 use crate::Bus;
-use dc_isa::{ImmediateOp, Instr, Regs, decode};
+use crate::arithmetic::{of_immediate, of_registers, of_shift, of_upper, sign_extended};
+use crate::branches::{branch, is_taken, jump};
+use crate::memory::{load, store};
+use dc_isa::{Instr, Regs, decode};
+
+const NO_WORD: u32 = 1;
+
+const ILLEGAL: u32 = 2;
+
+const BREAKPOINT: u32 = 3;
 
 /// What a step was. A call and a trap change nothing.
 #[derive(Clone, Copy, Debug, PartialEq, Eq)]
@@ -13,41 +22,41 @@ pub enum Stepped {
     Retired,
     /// The system is asked for what the registers say.
     Call,
-    /// A trap of that cause: 1 where no word lies at pc, 2 where it codes no instruction.
+    /// A trap of that cause: 0 a jump to no multiple of four, 1 no word at pc, 2 a word that codes no instruction,
+    /// 3 EBREAK, 4 a misaligned load, 5 a load past the memory, 6 a misaligned store, 7 a store past the memory.
     Trap(u32),
 }
 
-const NO_WORD: u32 = 1;
-
-const ILLEGAL: u32 = 2;
-
-/// A number of 12 bits with its sign carried to 32.
-fn sign_extended(imm: u32) -> u32
-    requires { imm < 2 ^ 12 }
-    ensures { result ≡ extended 12 imm }
+/// Moves on to the next instruction.
+pub fn advance(regs: &mut Regs) -> Stepped
+    ensures retired { result ≡ Stepped.Retired }
+    ensures moved { regs.new ≡ record regs.old { pc = (regs.old.pc + 4) % 2 ^ 32 } }
 {
-    if imm < 0x800 { imm } else { imm + 0xffff_f000 }
-}
-
-/// What an operation gives of a register and an immediate.
-fn of_register(op: ImmediateOp, a: u32, b: u32) -> u32
-    ensures { result ≡ of_immediate op a b }
-{
-    match op {
-        ImmediateOp::Addi => a.wrapping_add(b),
-    }
+    regs.pc = regs.pc.wrapping_add(4);
+    Stepped::Retired
 }
 
 /// Writes a register, where it is not x0, and moves on to the next instruction.
-fn retire(regs: &mut Regs, rd: u32, w: u32)
+pub fn retire(regs: &mut Regs, rd: u32, w: u32) -> Stepped
     requires { rd < 2 ^ 5 }
+    ensures retired { result ≡ Stepped.Retired }
     ensures x { regs.new.x ≡ written regs.old.x rd w }
     ensures pc { regs.new.pc ≡ (regs.old.pc + 4) % 2 ^ 32 }
+    ensures zero { slice_index regs.old.x 0 ≡ 0 → slice_index regs.new.x 0 ≡ 0 }
 {
     if rd != 0 {
         regs.x[rd as usize] = w;
     }
-    regs.pc = regs.pc.wrapping_add(4);
+    advance(regs)
+}
+
+/// The sum of a register and a sign-extended immediate of 12 bits.
+fn address(regs: &Regs, rs1: u32, imm: u32) -> u32
+    requires register { rs1 < 2 ^ 5 }
+    requires fits { imm < 2 ^ 12 }
+    ensures { result ≡ (slice_index regs.now.x rs1 + extended 12 imm) % 2 ^ 32 }
+{
+    regs.x[rs1 as usize].wrapping_add(sign_extended(imm, 12))
 }
 
 /// Runs an instruction.
@@ -55,18 +64,51 @@ fn run<B: Bus>(regs: &mut Regs, bus: &mut B, instr: &Instr) -> Result<Stepped, B
     requires { Fits instr.now }
     ensures meaning { IfOk result (λ s. (machine_of regs.new (B.memory bus.new), s)
         ≡ meaning instr.now (machine_of regs.old (B.memory bus.old))) }
+    ensures long { length (B.memory bus.new) ≡ length (B.memory bus.old) }
     ensures stopped { OnErr result (B.stops bus.old < B.stops bus.new) }
     ensures later { B.stops bus.old ≤ B.stops bus.new }
     ensures kept { OnErr result (regs.new ≡ regs.old) }
     ensures aligned { OnOk result (regs.old.pc % 4 ≡ 0 → regs.new.pc % 4 ≡ 0) }
+    ensures zero { slice_index regs.old.x 0 ≡ 0 → slice_index regs.new.x 0 ≡ 0 }
+    ensures unchanged { IfOk result (λ s. UnlessRetired s ((regs.new ≡ regs.old) × (B.memory bus.new ≡ B.memory bus.old))) }
 {
     match *instr {
-        Instr::Immediate { op, rd, rs1, imm } => {
-            let w = of_register(op, regs.x[rs1 as usize], sign_extended(imm));
-            retire(regs, rd, w);
-            Ok(Stepped::Retired)
+        Instr::Upper { op, rd, imm } => Ok(retire(regs, rd, of_upper(op, regs.pc, imm))),
+        Instr::Jal { rd, imm } => {
+            let target = regs.pc.wrapping_add(sign_extended(imm, 21));
+            Ok(jump(regs, rd, target))
         }
+        Instr::Jalr { rd, rs1, imm } => Ok(jump(regs, rd, address(regs, rs1, imm) & !1)),
+        Instr::Branch { op, rs1, rs2, imm } => {
+            let taken = is_taken(op, regs.x[rs1 as usize], regs.x[rs2 as usize]);
+            let target = regs.pc.wrapping_add(sign_extended(imm, 13));
+            Ok(branch(regs, taken, target))
+        }
+        Instr::Load { op, rd, rs1, imm } => Ok(load(regs, bus, op, rd, address(regs, rs1, imm))),
+        Instr::Store { op, rs1, rs2, imm } => {
+            let w = regs.x[rs2 as usize];
+            store(regs, bus, op, address(regs, rs1, imm), w)
+        }
+        Instr::Immediate { op, rd, rs1, imm } => {
+            let w = of_immediate(op, regs.x[rs1 as usize], sign_extended(imm, 12));
+            Ok(retire(regs, rd, w))
+        }
+        Instr::Shift {
+            op,
+            rd,
+            rs1,
+            amount,
+        } => {
+            let w = of_shift(op, regs.x[rs1 as usize], amount);
+            Ok(retire(regs, rd, w))
+        }
+        Instr::Register { op, rd, rs1, rs2 } => {
+            let w = of_registers(op, regs.x[rs1 as usize], regs.x[rs2 as usize]);
+            Ok(retire(regs, rd, w))
+        }
+        Instr::Fence { .. } => Ok(advance(regs)),
         Instr::Ecall => Ok(Stepped::Call),
+        Instr::Ebreak => Ok(Stepped::Trap(BREAKPOINT)),
     }
 }
 
@@ -74,10 +116,13 @@ fn run<B: Bus>(regs: &mut Regs, bus: &mut B, instr: &Instr) -> Result<Stepped, B
 pub fn step<B: Bus>(regs: &mut Regs, bus: &mut B) -> Result<Stepped, B::Stop>
     requires { regs.old.pc % 4 ≡ 0 }
     ensures stepped { IfOk result (λ s. (machine_of regs.new (B.memory bus.new), s) ≡ stepped (machine_of regs.old (B.memory bus.old))) }
+    ensures long { length (B.memory bus.new) ≡ length (B.memory bus.old) }
     ensures stopped { OnErr result (B.stops bus.old < B.stops bus.new) }
     ensures later { B.stops bus.old ≤ B.stops bus.new }
     ensures kept { OnErr result (regs.new ≡ regs.old) }
     ensures aligned { OnOk result (regs.new.pc % 4 ≡ 0) }
+    ensures zero { slice_index regs.old.x 0 ≡ 0 → slice_index regs.new.x 0 ≡ 0 }
+    ensures unchanged { IfOk result (λ s. UnlessRetired s ((regs.new ≡ regs.old) × (B.memory bus.new ≡ B.memory bus.old))) }
 {
     if u64::from(regs.pc) + 4 > u64::from(bus.size()) {
         return Ok(Stepped::Trap(NO_WORD));

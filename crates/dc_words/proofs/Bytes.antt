@@ -17,6 +17,34 @@ words_again [] small = refl
 words_again (w ∷ words) small =
     ap (λ x. x ∷ words_in (bytes_in words)) (word_again w small.0) ∙ ap (λ xs. w ∷ xs) (words_again words small.1)
 
+-- the bytes of the words of whole words
+pub bytes_again : (bytes : List ℕ) → AllBelow (2 ^ 8) bytes → length bytes % 4 ≡ 0 → bytes_in (words_in bytes) ≡ bytes
+bytes_again [] small whole = refl
+bytes_again (a ∷ []) small whole = absurd (omega arith)
+bytes_again (a ∷ b ∷ []) small whole = absurd (omega arith)
+bytes_again (a ∷ b ∷ c ∷ []) small whole = absurd (omega arith)
+bytes_again (a ∷ b ∷ c ∷ d ∷ bytes) small whole =
+    let low : a < 256 = small.0 in
+    let second : b < 256 = small.1.0 in
+    let third : c < 256 = small.1.1.0 in
+    let high : d < 256 = small.1.1.1.0 in
+    let w : ℕ = word_of_bytes a b c d in
+    let rest : length bytes % 4 ≡ 0 = omega arith in
+    let one : w % 256 ≡ a = omega arith in
+    let two : w / 2 ^ 8 % 256 ≡ b = omega arith in
+    let three : w / 2 ^ 16 % 256 ≡ c = omega arith in
+    let four : w / 2 ^ 24 % 256 ≡ d = omega arith in
+    rw (one, two, three, four) (ap (λ (xs : List ℕ). a ∷ b ∷ c ∷ d ∷ xs) (bytes_again bytes small.1.1.1.1 rest))
+
+pub bytes_long : (words : List ℕ) → length (bytes_in words) ≡ 4 * length words
+bytes_long [] = refl
+bytes_long (w ∷ words) = omega (arith, bytes_long words)
+
+-- numbers that are each below a bound
+pub all_below : (bound : ℕ) (xs : List ℕ) → ((k : ℕ) → k < length xs → slice_index xs k < bound) → AllBelow bound xs
+all_below bound [] below = tt
+all_below bound (x ∷ xs) below = (below 0 (omega arith), all_below bound xs (λ k within. below (suc k) (omega (arith, within))))
+
 -- the first number of four bytes
 first_word : (a b c d : ℕ) (rest : List ℕ) → little_number 4 (a ∷ b ∷ c ∷ d ∷ rest) ≡ word_of_bytes a b c d
 first_word a b c d rest = omega arith

@@ -1,3 +1,4 @@
 mod Digits
 mod Spelling
-mod Bytes
+pub mod Bytes
+pub mod Splitting

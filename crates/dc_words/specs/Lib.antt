@@ -1,3 +1,4 @@
 pub mod Words
 pub mod Hex
 pub mod Numbers
+pub mod Texts

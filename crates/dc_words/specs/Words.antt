@@ -1,10 +1,17 @@
 -- Words as four bytes, the lowest first.
-use Rattle.std.specs.Prelude.{ℕ, ◌+◌, ◌*◌, ◌/◌, ◌%◌, ◌^◌, ◌<◌, List, [], ◌∷◌}
+use Rattle.std.specs.Prelude.{ℕ, ◌+◌, ◌*◌, ◌/◌, ◌%◌, ◌^◌, ◌<◌, List, [], ◌∷◌, slice_index}
 use Rattle.std.specs.List.{flat_map}
 
 -- the word of four bytes
 abbrev pub word_of_bytes : ℕ → ℕ → ℕ → ℕ → ℕ
 word_of_bytes a b c d = a + 2 ^ 8 * b + 2 ^ 16 * c + 2 ^ 24 * d
+
+-- the numbers of the two and of the four bytes from a place on
+abbrev pub half_at : List ℕ → ℕ → ℕ
+half_at bytes at = slice_index bytes at + 2 ^ 8 * slice_index bytes (at + 1)
+
+abbrev pub word_at : List ℕ → ℕ → ℕ
+word_at bytes at = word_of_bytes (slice_index bytes at) (slice_index bytes (at + 1)) (slice_index bytes (at + 2)) (slice_index bytes (at + 3))
 
 -- the words of bytes, four at a time
 abbrev pub words_in : List ℕ → List ℕ

@@ -1,4 +1,4 @@
-use crate::{NumberFault, bytes_of, hex_line, read_number, words_of};
+use crate::{NumberFault, bytes_of, first_field, first_line, hex_line, read_number, words_of};
 use std::test::Fail;
 
 #[test]
@@ -90,4 +90,35 @@ fn a_fault_says_what_is_wrong(rt: HostRuntime) -> Result<(), Fail> {
         "out of range"
     );
     Ok(())
+}
+
+#[test]
+fn a_text_has_a_first_line(rt: HostRuntime) {
+    let lines = [
+        (
+            b"one\ntwo\n".as_slice(),
+            b"one".as_slice(),
+            b"two\n".as_slice(),
+        ),
+        (b"one".as_slice(), b"one".as_slice(), b"".as_slice()),
+        (b"\n\n".as_slice(), b"".as_slice(), b"\n".as_slice()),
+    ];
+    for (text, first, rest) in &lines {
+        let (line, after) = first_line(text);
+        assert_eq!(rt; line, *first);
+        assert_eq!(rt; after, *rest);
+    }
+}
+
+#[test]
+fn a_field_ends_at_the_next_stop(rt: HostRuntime) {
+    assert_eq!(rt;
+        first_field(b' ', b"1  2"),
+        Some((b"1".as_slice(), b" 2".as_slice()))
+    );
+    assert_eq!(rt;
+        first_field(b',', b",x"),
+        Some((b"".as_slice(), b"x".as_slice()))
+    );
+    assert_eq!(rt; first_field(b',', b"1 2"), None);
 }

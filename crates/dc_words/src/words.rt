@@ -1,4 +1,4 @@
-ghost use Rattle.std.specs.Prelude.{◌≡◌, ◌*◌, ◌^◌, List, ℕ, length};
+ghost use Rattle.std.specs.Prelude.{◌≡◌, ◌*◌, ◌%◌, ◌^◌, List, ℕ, length};
 ghost use Rattle.dc_words.specs.Words.{AllBelow, bytes_in, words_in};
 
 use byteorder::{ByteOrder, LittleEndian};
@@ -19,7 +19,8 @@ pub fn bytes_of(words: &[u32], to: &mut [u8])
     LittleEndian::write_u32_into(words, to);
 }
 
-/// The words of the bytes of words are these words.
+/// The words of the bytes of words are these words, and the bytes of the words of whole words are these bytes.
 pub fn bytes_and_words_go_both_ways()
-    ensures { (words : List ℕ) → AllBelow (2 ^ 32) words → words_in (bytes_in words) ≡ words }
+    ensures words { (words : List ℕ) → AllBelow (2 ^ 32) words → words_in (bytes_in words) ≡ words }
+    ensures bytes { (bytes : List ℕ) → AllBelow (2 ^ 8) bytes → length bytes % 4 ≡ 0 → bytes_in (words_in bytes) ≡ bytes }
 {}

@@ -1,6 +1,7 @@
 use Rattle.std.proofs.Common.{rules, ◌≡◌, ◌+◌, ◌-◌, ◌*◌, ◌∷◌, List, length, sym, ap, subst, arith, ◌∙◌}
 use Rattle.dc_elf.specs.declared.part.Part.{Part}
-use Rattle.dc_elf.specs.Files.{is_faulty, part_count, parts_from, word_at}
+use Rattle.dc_elf.specs.Files.{is_faulty, part_count, parts_from}
+use Rattle.dc_words.specs.Words.{word_at}
 use Rattle.dc_elf.specs.Filling.{Filled, everywhere}
 use Rattle.dc_elf.proofs.Numbered.{all_parts, none_left, parts_before, right_part}
 use Rattle.dc_elf.proofs.image.lay_parts.Goals as goal

@@ -1,5 +1,6 @@
 use Rattle.std.proofs.Common.{◌≡◌, ◌+◌, ◌-◌, ◌*◌, ◌≤◌, [], length}
-use Rattle.dc_elf.specs.Files.{part_count, parts_from, word_at}
+use Rattle.dc_elf.specs.Files.{part_count, parts_from}
+use Rattle.dc_words.specs.Words.{word_at}
 use Rattle.dc_elf.specs.Filling.{Filled, everywhere}
 use Rattle.dc_elf.proofs.image.lay_parts.Given as goal
 

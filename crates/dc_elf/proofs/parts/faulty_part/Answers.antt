@@ -1,5 +1,6 @@
 use Rattle.std.proofs.Common.{rules, ap, sym, ◌∙◌, Some}
-use Rattle.dc_elf.specs.Files.{part_count, word_at}
+use Rattle.dc_elf.specs.Files.{part_count}
+use Rattle.dc_words.specs.Words.{word_at}
 use Rattle.dc_elf.specs.declared.faults.ElfFault.TheVariants.{Segment}
 use Rattle.dc_elf.proofs.Numbered.{faulty_here, faulty_past}
 use Rattle.dc_elf.proofs.parts.faulty_part.Goals as goal

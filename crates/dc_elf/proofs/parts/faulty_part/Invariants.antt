@@ -1,5 +1,6 @@
 use Rattle.std.proofs.Common.{◌≡◌, ◌+◌, ◌-◌, ◌*◌}
-use Rattle.dc_elf.specs.Files.{faulty_from, part_count, parts_from, parts_of, word_at}
+use Rattle.dc_elf.specs.Files.{faulty_from, part_count, parts_from, parts_of}
+use Rattle.dc_words.specs.Words.{word_at}
 use Rattle.dc_elf.proofs.parts.faulty_part.Given as goal
 
 -- the parts from here on decide

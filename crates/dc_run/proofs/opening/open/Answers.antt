@@ -6,4 +6,4 @@ pub returns-clause-reached : goal.returns-clause-reached
 returns-clause-reached g c files w told fault =
     let text = there _ _ _ (c.in_ok-text.ensures.told files told) ∙ ap (λ bytes. Some bytes) (sym c.deref.ensures.value) in
     let asked = c.open_plan.ensures.reached files w (c.in_ok-text.ensures.files ∙ told) fault in
-    asked_by_words files c.args.words.now c.in-Some.name.now c.deref.result.now w (sym c.in-Some.ensures) text asked
+    asked_by_words files c.args.words.now c.in_ok-name.name.now c.deref.result.now w c.in_ok-name.ensures.asked text asked

@@ -1,6 +1,7 @@
 use Rattle.std.proofs.Common.{rules, arith, All, ◌≡◌, ◌<◌, ◌+◌, ◌∷◌, ◌++◌, [], length, length-append, sym, ◌∙◌, subst}
 use Rattle.std.proofs.lemmas.List.Elements.{All-push}
-use Rattle.dc_run.specs.Schedules.{lines_of, prefixed, process_of, schedule_from, schedule_of}
+use Rattle.dc_words.specs.Texts.{lines_of}
+use Rattle.dc_run.specs.Schedules.{prefixed, process_of, schedule_from, schedule_of}
 use Rattle.dc_run.proofs.ScheduleTexts.{kept, line_read, process_below, too_many_lines}
 use Rattle.dc_run.proofs.schedule.read_schedule.Goals as goal
 

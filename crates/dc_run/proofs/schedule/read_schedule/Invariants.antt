@@ -1,5 +1,6 @@
 use Rattle.std.proofs.Common.{◌≡◌, ◌+◌, ◌<◌, ◌≤◌, All, length}
-use Rattle.dc_run.specs.Schedules.{lines_of, prefixed, process_of, schedule_from, schedule_of}
+use Rattle.dc_words.specs.Texts.{lines_of}
+use Rattle.dc_run.specs.Schedules.{prefixed, process_of, schedule_from, schedule_of}
 use Rattle.dc_run.proofs.schedule.read_schedule.Given as goal
 
 -- what is left decides, behind the entries so far

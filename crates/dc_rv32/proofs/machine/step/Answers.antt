@@ -1,6 +1,6 @@
 use Rattle.std.proofs.Common.{arith, ◌∙◌, ap, sym, rules, Option}
 use Rattle.std.proofs.lemmas.Result.{IfOk-weaker}
-use Rattle.dc_isa.specs.Table.{decoded}
+use Rattle.dc_isa.specs.Decoded.{decoded}
 use Rattle.dc_isa.specs.declared.instr.Instr.{Instr}
 use Rattle.dc_rv32.specs.Machine.{machine_of, meaning_or_trap}
 use Rattle.dc_rv32.proofs.Fetching.{past_memory, at_word}

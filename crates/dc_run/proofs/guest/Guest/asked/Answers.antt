@@ -1,0 +1,14 @@
+use Rattle.std.proofs.Common.{◌≡◌, ◌∙◌, ◌*◌, ap, sym, subst, length}
+use Rattle.dc_calls.specs.Calls.{Fits, call_of}
+use Rattle.dc_words.proofs.Bytes.{bytes_long}
+use Rattle.dc_words.specs.Words.{bytes_in}
+use Rattle.dc_run.proofs.guest.Guest.asked.Goals as goal
+
+pub returns : goal.returns
+returns c = rw (← c.self.view_is) (record {
+  exact = c.read_call.ensures.exact ∙ ap (λ n. call_of c.self.inside.regs.x n 0 1) (sym size);
+  fits = subst (λ n. Fits n c.read_call.result) (sym size) c.read_call.ensures.fits;
+})
+  where
+    size : length (bytes_in c.self.inside.memory.words.items) ≡ 65536
+    size = bytes_long c.self.inside.memory.words.items ∙ ap (λ n. 4 * n) c.self.invariant.0

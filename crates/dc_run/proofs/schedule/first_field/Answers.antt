@@ -1,9 +1,0 @@
-use Rattle.std.proofs.Common.{rules}
-use Rattle.dc_run.proofs.ScheduleTexts.{field_ends, field_is_last}
-use Rattle.dc_run.proofs.schedule.first_field.Goals as goal
-
-pub returns-in_err-end-clause-none : goal.returns-in_err-end-clause-none
-returns-in_err-end-clause-none c = λ _. field_is_last c.args.text.now (search rules)
-
-pub returns-clause-some : goal.returns-clause-some
-returns-clause-some c = field_ends c.args.text.now c.in_ok-end.end (search rules)
