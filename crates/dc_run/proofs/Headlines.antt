@@ -1,6 +1,5 @@
 -- A run that has used up its schedule, or broken off, keeps the promise.
-use Rattle.std.specs.declared.alloc.Global.{Global}
-use Rattle.std.proofs.Common.{IfSome, IsOkAnd, None, Ok, String, ◌≡◌, ◌≢◌, ◌∙◌, ◌≤◌, ℕ, zero, suc, Bool, true, false, if◌then◌else◌, List, [], ◌∷◌, ◌++◌, length, reverse, take, Option, Some, ap, sym, subst, refl, arith}
+use Rattle.std.proofs.Common.{IfSome, IsOkAnd, None, Ok, ◌≡◌, ◌≢◌, ◌∙◌, ◌≤◌, ℕ, zero, suc, Bool, true, false, if◌then◌else◌, List, [], ◌∷◌, ◌++◌, length, reverse, take, Option, Some, ap, sym, subst, refl, arith}
 use Rattle.std.proofs.lemmas.List.{append-nil, reverse-append, reverse-reverse, length-reverse}
 use Rattle.dc_media.proofs.Becoming.{Becomes-weaker}
 use Rattle.dc_plain.specs.Drawn.{Drawn}
@@ -28,6 +27,7 @@ use Rattle.dc_run.specs.declared.world.World.{World as World'}
 use Rattle.dc_acts.specs.Reports.{report_text}
 use Rattle.dc_run.specs.Headline.{guests, AllEnded, SomeRuns, IsEnding, IsHeadline, IsReported, Reports}
 use Rattle.dc_run.specs.Outcomes.{status_of}
+use Rattle.dc_run.specs.declared.verdict.Did.TheVariants.{Run}
 use Rattle.dc_run.specs.declared.verdict.Outlet.TheVariants.{Out}
 use Rattle.dc_run.specs.declared.verdict.Verdict.{Verdict}
 use Rattle.dc_run.specs.declared.verdict.Verdict.TheVariants.{Done, Unfinished, SinkFault}
@@ -116,25 +116,25 @@ is_cut_off setting acts marks lines before after t =
 
 -- as the code says it: the outcome holds what the world had, and the schedule is the setting's
 module _ (setting : Setting) (schedule : List Entry) (is : schedule ≡ setting.schedule) (w : World') (o : Outcome) (before after : Option (List ℕ)) where
-  pub told_done : o ≡ record { verdict = Done; acts = w.acts; marks = w.marks; lines = w.lines } → IsRunning (guests setting) schedule w before after → length w.marks.items ≡ length schedule → w.guest.ended ≡ true
+  pub told_done : o ≡ record { verdict = Done; did = Run; acts = w.acts; marks = w.marks; lines = w.lines } → IsRunning (guests setting) schedule w before after → length w.marks.items ≡ length schedule → w.guest.ended ≡ true
       → IsHeadline setting o.verdict o.acts.items o.marks.items o.lines before after
   told_done o_is r used ended = rw o_is (is_done setting w.guest w.shown w.acts.items w.marks.items w.lines before after (subst (λ (s : List Entry). IsRunning (guests setting) s w before after) is r) (used ∙ ap length is) ended)
 
-  pub told_unfinished : o ≡ record { verdict = Unfinished; acts = w.acts; marks = w.marks; lines = w.lines } → IsRunning (guests setting) schedule w before after → length w.marks.items ≡ length schedule → w.guest.ended ≡ false
+  pub told_unfinished : o ≡ record { verdict = Unfinished; did = Run; acts = w.acts; marks = w.marks; lines = w.lines } → IsRunning (guests setting) schedule w before after → length w.marks.items ≡ length schedule → w.guest.ended ≡ false
       → IsHeadline setting o.verdict o.acts.items o.marks.items o.lines before after
   told_unfinished o_is r used live = rw o_is (is_unfinished setting w.guest w.shown w.acts.items w.marks.items w.lines before after (subst (λ (s : List Entry). IsRunning (guests setting) s w before after) is r) (used ∙ ap length is) live)
 
-  pub told_cut_off : o ≡ record { verdict = SinkFault Out; acts = w.acts; marks = w.marks; lines = w.lines } → IsTorn (guests setting) schedule w before after
+  pub told_cut_off : o ≡ record { verdict = SinkFault Out; did = Run; acts = w.acts; marks = w.marks; lines = w.lines } → IsTorn (guests setting) schedule w before after
       → IsHeadline setting o.verdict o.acts.items o.marks.items o.lines before after
   told_cut_off o_is t = rw o_is (is_cut_off setting w.acts.items w.marks.items w.lines before after (subst (λ (s : List Entry). IsTorn (guests setting) s w before after) is t))
 
 -- with the report of what the run came to, wherever the files open it with this setting
-pub reported_for : (known : Option Files) (words : List (String Global)) (setting : Setting) (run told : Outcome) (before after : Option (List ℕ)) (faults faults' : ℕ) (report report' : Option (List ℕ))
-    → ((files : Files) → known ≡ Some files → opening_of files words ≡ Ok setting)
+pub reported_for : (known : Option Files) (plan : List ℕ) (setting : Setting) (run told : Outcome) (before after : Option (List ℕ)) (faults faults' : ℕ) (report report' : Option (List ℕ))
+    → ((files : Files) → known ≡ Some files → opening_of files plan ≡ Ok setting)
     → IsHeadline setting run.verdict run.acts.items run.marks.items run.lines before after
     → Reports run.verdict told.verdict (report_text (status_of run.verdict) (length run.marks.items) run.acts.items run.lines) faults faults' report report'
     → told.acts ≡ run.acts → told.marks ≡ run.marks → told.lines ≡ run.lines
-    → IfSome known (λ files. IsOkAnd (opening_of files words) (λ s. IsReported s told.verdict told.acts.items told.marks.items told.lines before after faults faults' report report'))
-reported_for None words setting run told before after faults faults' report report' opened kept reports acts marks lines = tt
-reported_for (Some files) words setting run told before after faults faults' report report' opened kept reports acts marks lines =
+    → IfSome known (λ files. IsOkAnd (opening_of files plan) (λ s. IsReported s told.verdict told.acts.items told.marks.items told.lines before after faults faults' report report'))
+reported_for None plan setting run told before after faults faults' report report' opened kept reports acts marks lines = tt
+reported_for (Some files) plan setting run told before after faults faults' report report' opened kept reports acts marks lines =
     rw (opened files refl, acts, marks, lines) (record { stood = run.verdict; kept = kept; report_told = reports })

@@ -1,5 +1,7 @@
 mod PlanTexts
 mod ScheduleTexts
 mod Turns
+mod Works
+mod Commands
 mod Openings
 mod Headlines

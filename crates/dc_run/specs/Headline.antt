@@ -1,5 +1,5 @@
 -- What a call of the program promises of a run that was opened.
-use Rattle.std.specs.Prelude.{◌≡◌, ◌≢◌, ◌⊎◌, ◌<◌, ◌≤◌, ℕ, true, List, [], ◌∷◌, ◌++◌, length, reverse, take, Option, Some, Result, Ok, Err}
+use Rattle.std.specs.Prelude.{◌≡◌, ◌≢◌, ◌⊎◌, ◌<◌, ◌≤◌, ℕ, List, [], ◌∷◌, ◌++◌, length, reverse, take, Option, Some}
 use Rattle.dc_acts.specs.Reports.{report_text}
 use Rattle.dc_media.specs.Causes.{Rose}
 use Rattle.dc_media.specs.Told.{Becomes}
@@ -18,20 +18,9 @@ use Rattle.dc_plain.specs.declared.mark.Mark.TheVariants as mark
 use Rattle.dc_plain.specs.declared.visible.Visible.{Visible}
 use Rattle.dc_run.specs.Opening.{Setting}
 use Rattle.dc_run.specs.Outcomes.{status_of}
-use Rattle.dc_run.specs.Settings.{is_free, was_opened}
 use Rattle.dc_run.specs.declared.verdict.Outlet.TheVariants.{Out, Report}
 use Rattle.dc_run.specs.declared.verdict.Verdict.{Verdict}
 use Rattle.dc_run.specs.declared.verdict.Verdict.TheVariants.{Done, Unfinished, SinkFault}
-
--- a refusal is answered exactly where the told files give it first; a free verdict may take its place
-pub record IsExact (verdict refusal : Verdict) (told : Result Setting Verdict) : Type 0 where
-  pub only : verdict ≡ refusal → told ≡ Err refusal
-  pub where_told : told ≡ Err refusal → (verdict ≡ refusal) ⊎ (is_free verdict ≡ true)
-
--- where nothing is refused a run is opened, but for a free verdict
-abbrev pub IsOpenedFor : Verdict → Result Setting Verdict → Type 0
-IsOpenedFor verdict (Ok setting) = (was_opened verdict ≡ true) ⊎ (is_free verdict ≡ true)
-IsOpenedFor verdict (Err refusal) = was_opened verdict ≢ true
 
 -- the one guest, without inputs
 abbrev pub guests : Setting → Guests Guest

@@ -8,3 +8,5 @@ pub mod Reserved
 pub mod Running
 pub mod Opening
 pub mod Settings
+pub mod Assembling
+pub mod Commands

@@ -1,17 +1,15 @@
 -- What a run is opened with, by the told files, or the refusal that comes first.
-use Rattle.std.specs.Prelude.{◌≡◌, ℕ, List, Option, None, Some, IsSome, IsSomeAnd, Result, Ok, Err, String}
-use Rattle.std.specs.declared.alloc.Global.{Global}
+use Rattle.std.specs.Prelude.{◌≡◌, ℕ, List, Option, None, Some, IsSome, IsSomeAnd, Result, Ok, Err}
 use Rattle.dc_elf.specs.Files.{fault_of}
 use Rattle.dc_elf.specs.Images.{Image, image_of}
 use Rattle.dc_elf.specs.declared.faults.ElfFault.{ElfFault}
 use Rattle.dc_plain.specs.declared.entry.Entry.{Entry}
-use Rattle.dc_run.specs.Command.{plan_asked}
 use Rattle.dc_run.specs.Plans.{Plan, plan_of}
 use Rattle.dc_run.specs.Schedules.{schedule_of}
 use Rattle.dc_run.specs.declared.verdict.PlanFault.TheVariants.{Text}
 use Rattle.dc_run.specs.declared.verdict.ScheduleFault.{ScheduleFault}
 use Rattle.dc_run.specs.declared.verdict.Verdict.{Verdict}
-use Rattle.dc_run.specs.declared.verdict.Verdict.TheVariants.{Usage, PlanRefused, GuestRefused, Missing, ScheduleRefused}
+use Rattle.dc_run.specs.declared.verdict.Verdict.TheVariants.{PlanRefused, GuestRefused, Missing, ScheduleRefused}
 use Rattle.dc_run.specs.declared.verdict.Which.{Which}
 use Rattle.dc_run.specs.declared.verdict.Which.TheVariants.{Plan as ThePlan, Guest, Schedule}
 
@@ -34,7 +32,7 @@ or_refused v (Some x) = Ok x
 abbrev pub Files : Type 0
 Files = List ℕ → Option (List ℕ)
 
--- the file that a run wants there, or the refusal
+-- the file that a command wants there, or the refusal
 abbrev pub file_in : Files → Which → List ℕ → Result (List ℕ) Verdict
 file_in files which name = or_refused (Missing which) (files name)
 
@@ -64,9 +62,9 @@ opening_at_guest files plan file = guest_in file >>= (λ image. file_in files Sc
 abbrev pub opening_at_plan : Files → List ℕ → Result Setting Verdict
 opening_at_plan files text = or_refused (PlanRefused Text) (plan_of text) >>= (λ plan. file_in files (Guest 0) plan.guest >>= opening_at_guest files plan)
 
--- the words, the plan, the guest, the schedule: the first that is refused decides
-abbrev pub opening_of : Files → List (String Global) → Result Setting Verdict
-opening_of files words = or_refused Usage (plan_asked words) >>= (λ name. file_in files ThePlan name >>= opening_at_plan files)
+-- the plan, the guest, the schedule: the first that is refused decides
+abbrev pub opening_of : Files → List ℕ → Result Setting Verdict
+opening_of files name = file_in files ThePlan name >>= opening_at_plan files
 
 -- Which files a run asks for: one only after those before it were there and were not refused.
 
@@ -77,11 +75,11 @@ AsksAtGuest file _ = ⊥
 
 -- from the bytes of the plan
 abbrev pub AsksAtPlan : Files → List ℕ → Which → Type 0
-AsksAtPlan files text ThePlan = ⊥
 AsksAtPlan files text (Guest p) = (p ≡ 0) × IsSome (plan_of text)
 AsksAtPlan files text Schedule = IsSomeAnd (plan_of text) (λ plan. IsSomeAnd (files plan.guest) (λ file. AsksAtGuest file Schedule))
+AsksAtPlan files text _ = ⊥
 
--- by the words
-abbrev pub Asks : Files → List (String Global) → Which → Type 0
-Asks files words ThePlan = IsSome (plan_asked words)
-Asks files words which = IsSomeAnd (plan_asked words) (λ name. IsSomeAnd (files name) (λ text. AsksAtPlan files text which))
+-- by the plan's name
+abbrev pub AsksToRun : Files → List ℕ → Which → Type 0
+AsksToRun files name ThePlan = Unit {0}
+AsksToRun files name which = IsSomeAnd (files name) (λ text. AsksAtPlan files text which)

@@ -1,8 +1,13 @@
 -- The status of a verdict, and the line that says it.
 use Rattle.std.specs.Prelude.{◌≡◌, ℕ, List, ◌++◌, ◌∷◌, [], codes, decimal, length}
 use Rattle.dc_run.specs.declared.outcome.Outcome.{Outcome}
+use Rattle.dc_asm.specs.declared.faults.AsmFault.{AsmFault}
+use Rattle.dc_asm.specs.declared.faults.AsmKind.{AsmKind}
+use Rattle.dc_asm.specs.declared.faults.AsmKind.TheVariants as asm
 use Rattle.dc_elf.specs.declared.faults.ElfFault.{ElfFault}
 use Rattle.dc_elf.specs.declared.faults.ElfFault.TheVariants as elf
+use Rattle.dc_run.specs.declared.verdict.Did.{Did}
+use Rattle.dc_run.specs.declared.verdict.Did.TheVariants.{Run, Assembled}
 use Rattle.dc_run.specs.declared.verdict.LineFault.{LineFault}
 use Rattle.dc_run.specs.declared.verdict.LineFault.TheVariants.{Form, Process, ClockFell, TooMany}
 use Rattle.dc_run.specs.declared.verdict.Outlet.{Outlet}
@@ -11,9 +16,9 @@ use Rattle.dc_run.specs.declared.verdict.PlanFault.{PlanFault}
 use Rattle.dc_run.specs.declared.verdict.PlanFault.TheVariants.{Text}
 use Rattle.dc_run.specs.declared.verdict.ScheduleFault.{ScheduleFault}
 use Rattle.dc_run.specs.declared.verdict.Verdict.{Verdict}
-use Rattle.dc_run.specs.declared.verdict.Verdict.TheVariants.{Done, Unfinished, Usage, PlanRefused, GuestRefused, Missing, LibraryFault, SinkFault, WantOfMemory, ScheduleRefused}
+use Rattle.dc_run.specs.declared.verdict.Verdict.TheVariants.{Done, Unfinished, Usage, PlanRefused, GuestRefused, Missing, LibraryFault, SinkFault, WantOfMemory, ScheduleRefused, AsmRefused}
 use Rattle.dc_run.specs.declared.verdict.Which.{Which}
-use Rattle.dc_run.specs.declared.verdict.Which.TheVariants.{Plan, Guest, Schedule}
+use Rattle.dc_run.specs.declared.verdict.Which.TheVariants.{Plan, Guest, Schedule, Source}
 
 abbrev pub status_of : Verdict → ℕ
 status_of Done = 0
@@ -26,11 +31,13 @@ status_of (LibraryFault which) = 6
 status_of (SinkFault outlet) = 8
 status_of WantOfMemory = 10
 status_of (ScheduleRefused fault) = 11
+status_of (AsmRefused fault) = 14
 
 abbrev pub which_text : Which → List ℕ
 which_text Plan = codes "plan"
 which_text (Guest p) = codes "guest " ++ decimal p
 which_text Schedule = codes "schedule"
+which_text Source = codes "source"
 
 abbrev pub plan_fault_text : PlanFault → List ℕ
 plan_fault_text Text = codes "text"
@@ -59,6 +66,17 @@ line_fault_text TooMany = codes "too many"
 abbrev pub schedule_fault_text : ScheduleFault → List ℕ
 schedule_fault_text fault = codes "schedule line " ++ decimal fault.line ++ codes " refused: " ++ line_fault_text fault.kind
 
+abbrev pub asm_kind_text : AsmKind → List ℕ
+asm_kind_text asm.Word = codes "word"
+asm_kind_text asm.Register = codes "register"
+asm_kind_text asm.Immediate = codes "immediate"
+asm_kind_text asm.Label = codes "label"
+asm_kind_text asm.Twice = codes "twice"
+asm_kind_text asm.TooLong = codes "too long"
+
+abbrev pub asm_fault_text : AsmFault → List ℕ
+asm_fault_text fault = codes "source line " ++ decimal fault.line ++ codes " refused: " ++ asm_kind_text fault.kind
+
 abbrev pub outlet_text : Outlet → List ℕ
 outlet_text Out = codes "out"
 outlet_text Report = codes "report"
@@ -66,24 +84,30 @@ outlet_text Report = codes "report"
 abbrev pub counts_text : List ℕ → ℕ → ℕ → List ℕ
 counts_text name acts lines = name ++ decimal acts ++ codes " acts " ++ decimal lines ++ codes " lines"
 
-abbrev pub verdict_text : Verdict → ℕ → ℕ → List ℕ
-verdict_text Done acts lines = counts_text (codes "done ") acts lines
-verdict_text Unfinished acts lines = counts_text (codes "unfinished ") acts lines
-verdict_text Usage acts lines = codes "usage: dc run PLAN | dc check PLAN REPORT OUT | dc asm SOURCE"
-verdict_text (PlanRefused fault) acts lines = codes "plan refused: " ++ plan_fault_text fault
-verdict_text (GuestRefused p fault) acts lines = guest_fault_text p fault
-verdict_text (Missing which) acts lines = codes "missing: " ++ which_text which
-verdict_text (LibraryFault which) acts lines = codes "library failed: " ++ which_text which
-verdict_text (SinkFault outlet) acts lines = codes "sink failed: " ++ outlet_text outlet
-verdict_text WantOfMemory acts lines = codes "out of memory"
-verdict_text (ScheduleRefused fault) acts lines = schedule_fault_text fault
+abbrev pub done_text : Did → ℕ → ℕ → List ℕ
+done_text Run acts lines = counts_text (codes "done ") acts lines
+done_text (Assembled bytes) acts lines = codes "done " ++ decimal bytes ++ codes " bytes"
+
+abbrev pub verdict_text : Verdict → Did → ℕ → ℕ → List ℕ
+verdict_text Done did acts lines = done_text did acts lines
+verdict_text Unfinished did acts lines = counts_text (codes "unfinished ") acts lines
+verdict_text Usage did acts lines = codes "usage: dc run PLAN | dc check PLAN REPORT OUT | dc asm SOURCE"
+verdict_text (PlanRefused fault) did acts lines = codes "plan refused: " ++ plan_fault_text fault
+verdict_text (GuestRefused p fault) did acts lines = guest_fault_text p fault
+verdict_text (Missing which) did acts lines = codes "missing: " ++ which_text which
+verdict_text (LibraryFault which) did acts lines = codes "library failed: " ++ which_text which
+verdict_text (SinkFault outlet) did acts lines = codes "sink failed: " ++ outlet_text outlet
+verdict_text WantOfMemory did acts lines = codes "out of memory"
+verdict_text (ScheduleRefused fault) did acts lines = schedule_fault_text fault
+verdict_text (AsmRefused fault) did acts lines = asm_fault_text fault
 
 -- the line on standard error
 abbrev pub outcome_line : Outcome → List ℕ
-outcome_line o = codes "dc: " ++ verdict_text o.verdict (length o.acts.items) o.lines ++ 10 ∷ []
+outcome_line o = codes "dc: " ++ verdict_text o.verdict o.did (length o.acts.items) o.lines ++ 10 ∷ []
 
 -- nothing was run
 pub record IsNothing (o : Outcome) : Type 0 where
+  pub did : o.did ≡ Run
   pub acts : o.acts.items ≡ []
   pub marks : o.marks.items ≡ []
   pub lines : o.lines ≡ 0

@@ -1,5 +1,5 @@
 -- How the code's opening stands to the told files.
-use Rattle.std.specs.Prelude.{◌≡◌, ◌⊎◌, Bool, true, false, Result, Ok, Err}
+use Rattle.std.specs.Prelude.{◌≡◌, ◌⊎◌, Bool, true, false, not, ◌&&◌, Result, Ok, Err}
 use Rattle.dc_elf.specs.Images.{Image}
 use Rattle.dc_elf.specs.declared.image.Image as loaded
 use Rattle.dc_run.specs.Opening.{Setting}
@@ -13,12 +13,16 @@ is_free WantOfMemory = true
 is_free (LibraryFault which) = true
 is_free _ = false
 
--- the verdict of a run whose world was opened
+-- the verdict of a command that was carried out
 abbrev pub was_opened : Verdict → Bool
 was_opened Done = true
 was_opened Unfinished = true
 was_opened (SinkFault outlet) = true
 was_opened _ = false
+
+-- a verdict that stands in the words or the told files
+abbrev pub is_refusal : Verdict → Bool
+is_refusal v = not (is_free v) && not (was_opened v)
 
 -- the same value or refusal as the told files give, where no free verdict takes its place
 abbrev pub Agrees : {A X : Type 0} → (X → A) → Result X Verdict → Result A Verdict → Type 0

@@ -1,6 +1,7 @@
 //! The program's call: a guest runs under a schedule, and what users see is what the guest shows when nothing fails.
 #![tactic(auto)]
 
+mod assembling;
 mod command;
 mod guest;
 mod memory;
@@ -16,8 +17,9 @@ mod tests;
 mod verdict;
 mod world;
 
+pub use dc_asm::{AsmFault, AsmKind};
 pub use dc_elf::ElfFault;
 pub use outcome::Outcome;
 pub use program::dc;
 pub use reserved::Reserved;
-pub use verdict::{LineFault, Outlet, PlanFault, ScheduleFault, Unread, Verdict, Which};
+pub use verdict::{Did, LineFault, Outlet, PlanFault, ScheduleFault, Unread, Verdict, Which};

@@ -1,14 +1,12 @@
 ghost use Rattle.std.specs.Prelude.{◌≡◌, ◌≤◌, ◌⊎◌, ◌%◌, false, None, Some, Err, All, IfErr, IfOk, IsErrOf, OnOk, length};
 ghost use Rattle.dc_media.specs.Causes.{Rose};
 ghost use Rattle.dc_elf.specs.Files.{fault_of};
-ghost use Rattle.dc_run.specs.Command.{plan_asked};
-ghost use Rattle.dc_run.specs.Opening.{Asks, AsksAtGuest, AsksAtPlan, Files, file_in, opening_of, opening_at_plan, opening_at_guest, opening_at_end, guest_in};
+ghost use Rattle.dc_run.specs.Opening.{AsksAtGuest, AsksAtPlan, AsksToRun, Files, file_in, opening_of, opening_at_plan, opening_at_guest, opening_at_end, guest_in};
 ghost use Rattle.dc_run.specs.Plans.{names_of};
 ghost use Rattle.dc_run.specs.Schedules.{process_of};
 ghost use Rattle.dc_run.specs.Settings.{Agrees, image_view, setting_of, was_opened};
 ghost use Rattle.dc_run.specs.declared.verdict.Which.{Which as Whose};
 
-use crate::command::plan_in;
 use crate::guest::SIZE;
 use crate::plan::{Plan, read_plan};
 use crate::schedule::read_schedule;
@@ -18,8 +16,8 @@ use dc_elf::{Image, LoadFault, load};
 use dc_media::{Fetch, Library};
 use std::alloc::Global;
 
-/// All the bytes of a file of the run.
-fn fetch<L: Library>(
+/// All the bytes of a file of the command.
+pub fn fetch<L: Library>(
     alloc: Global,
     lib: &mut L,
     which: Which,
@@ -114,18 +112,16 @@ fn open_plan<L: Library>(alloc: Global, lib: &mut L, text: &[u8]) -> Result<Sett
     open_guest(alloc, lib, &plan, &file)
 }
 
-/// What the words and the files open a run with, or the first refusal.
-pub fn open<L: Library>(alloc: Global, words: &[String], lib: &mut L) -> Result<Setting, Verdict>
-    ensures told { (files : Files) → L.files lib.old ≡ Some files → Agrees setting_of result (opening_of files words.now) }
-    ensures usage { result ≡ Err Verdict.Usage → plan_asked words.now ≡ None }
-    ensures unasked { plan_asked words.now ≡ None → (result ≡ Err Verdict.Usage) ⊎ (result ≡ Err Verdict.WantOfMemory) }
+/// What the files open the run of that plan with, or the first refusal.
+pub fn open<L: Library>(alloc: Global, plan: &str, lib: &mut L) -> Result<Setting, Verdict>
+    ensures told { (files : Files) → L.files lib.old ≡ Some files → Agrees setting_of result (opening_of files plan.now) }
     ensures closed { IfErr result (λ v. was_opened v ≡ false) }
+    ensures asked { ¬ (result ≡ Err Verdict.Usage) }
     ensures reached { (files : Files) (w : Whose) → L.files lib.old ≡ Some files → IsErrOf result (Verdict.LibraryFault w) →
-        Asks files words.now w }
+        AsksToRun files plan.now w }
     ensures fault { (w : Whose) → IsErrOf result (Verdict.LibraryFault w) → Rose (L.faults lib.old) (L.faults lib.new) }
     ensures later { L.faults lib.old ≤ L.faults lib.new }
 {
-    let name = plan_in(alloc, words)?;
-    let text = fetch(alloc, lib, Which::Plan, name)?;
+    let text = fetch(alloc, lib, Which::Plan, plan)?;
     open_plan(alloc, lib, &text)
 }

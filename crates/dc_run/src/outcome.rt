@@ -2,17 +2,21 @@ ghost use Rattle.std.specs.Prelude.{◌≡◌, ◌≤◌, ◌+◌, ◌++◌, len
 ghost use Rattle.dc_media.specs.Causes.{HasCause};
 ghost use Rattle.dc_media.specs.Sinks.{TakesWhole};
 ghost use Rattle.dc_media.specs.Told.{TellsOn};
-ghost use Rattle.dc_run.specs.Outcomes.{counts_text, elf_fault_text, guest_fault_text, line_fault_text, outcome_line, outlet_text, plan_fault_text, schedule_fault_text, status_of, verdict_text, which_text};
+ghost use Rattle.dc_run.specs.Outcomes.{IsNothing, asm_fault_text, asm_kind_text, counts_text, done_text, elf_fault_text, guest_fault_text, line_fault_text, outcome_line, outlet_text, plan_fault_text, schedule_fault_text, status_of, verdict_text, which_text};
 
 use crate::reserved::Reserved;
-use crate::{ElfFault, LineFault, Outlet, PlanFault, ScheduleFault, Verdict, Which};
+use crate::{
+    AsmFault, AsmKind, Did, ElfFault, LineFault, Outlet, PlanFault, ScheduleFault, Verdict, Which,
+};
 use dc_media::{Sink, SinkFailed, write_whole};
 use dc_plain::{Line, Mark, Taken};
+use std::alloc::Global;
 
 /// What a call of the program came to, and what the run did up to then.
 #[derive(Drop)]
 pub struct Outcome {
     pub verdict: Verdict,
+    pub did: Did,
     /// The acts that count, in order.
     pub acts: Reserved<Taken>,
     /// The mark of each entry, in order. An entry at which the run ended has none.
@@ -22,6 +26,20 @@ pub struct Outcome {
 }
 
 impl Outcome {
+    /// The outcome of a call that ran nothing.
+    pub fn idle(alloc: Global, verdict: Verdict) -> Outcome
+        ensures verdict { result.verdict ≡ verdict }
+        ensures nothing { IsNothing result }
+    {
+        Outcome {
+            verdict,
+            did: Did::Run,
+            acts: Reserved::new(alloc),
+            marks: Reserved::new(alloc),
+            lines: 0,
+        }
+    }
+
     /// The status with which the program ends.
     pub fn status(&self) -> u8
         ensures { result ≡ status_of self.now.verdict }
@@ -37,6 +55,7 @@ impl Outcome {
             Verdict::SinkFault(_) => 8,
             Verdict::WantOfMemory => 10,
             Verdict::ScheduleRefused(_) => 11,
+            Verdict::AsmRefused(_) => 14,
         }
     }
 
@@ -62,11 +81,11 @@ impl Outcome {
     /// The verdict in words.
     fn push_verdict(&self, line: &mut Line)
         requires { length line.old ≤ 4 }
-        ensures text { line.new ≡ line.old ++ verdict_text self.now.verdict (length self.now.acts.items) self.now.lines }
+        ensures text { line.new ≡ line.old ++ verdict_text self.now.verdict self.now.did (length self.now.acts.items) self.now.lines }
         ensures length { length line.new ≤ length line.old + 90 }
     {
         match self.verdict {
-            Verdict::Done => self.push_counts(line, b"done "),
+            Verdict::Done => self.push_done(line),
             Verdict::Unfinished => self.push_counts(line, b"unfinished "),
             Verdict::Usage => {
                 line.push(b"usage: dc run PLAN | dc check PLAN REPORT OUT | dc asm SOURCE");
@@ -78,6 +97,23 @@ impl Outcome {
             Verdict::SinkFault(outlet) => push_both(line, b"sink failed: ", outlet_name(outlet)),
             Verdict::WantOfMemory => line.push(b"out of memory"),
             Verdict::ScheduleRefused(fault) => push_schedule_fault(line, fault),
+            Verdict::AsmRefused(fault) => push_asm_fault(line, fault),
+        }
+    }
+
+    /// What was done.
+    fn push_done(&self, line: &mut Line)
+        requires { length line.old ≤ 4 }
+        ensures text { line.new ≡ line.old ++ done_text self.now.did (length self.now.acts.items) self.now.lines }
+        ensures length { length line.new ≤ length line.old + 90 }
+    {
+        match self.did {
+            Did::Run => self.push_counts(line, b"done "),
+            Did::Assembled(bytes) => {
+                line.push(b"done ");
+                line.push_number(bytes);
+                line.push(b" bytes");
+            }
         }
     }
 
@@ -119,7 +155,18 @@ fn push_schedule_fault(line: &mut Line, fault: ScheduleFault)
     line.push(line_fault(fault.kind));
 }
 
-/// A file's name in the run, after what befell it.
+fn push_asm_fault(line: &mut Line, fault: AsmFault)
+    requires { length line.old ≤ 4 }
+    ensures text { line.new ≡ line.old ++ asm_fault_text fault }
+    ensures length { length line.new ≤ length line.old + 90 }
+{
+    line.push(b"source line ");
+    line.push_number(fault.line);
+    line.push(b" refused: ");
+    line.push(asm_kind(fault.kind));
+}
+
+/// A file's name in the command, after what befell it.
 fn push_which(line: &mut Line, what: &[u8], which: Which)
     requires line { length line.old ≤ 4 }
     requires what { length what.now ≤ 16 }
@@ -134,6 +181,7 @@ fn push_which(line: &mut Line, what: &[u8], which: Which)
             line.push_number(u64::from(p));
         }
         Which::Schedule => line.push(b"schedule"),
+        Which::Source => line.push(b"source"),
     }
 }
 
@@ -188,6 +236,20 @@ fn line_fault(fault: LineFault) -> &'static [u8]
         LineFault::Process => b"process",
         LineFault::ClockFell => b"clock fell",
         LineFault::TooMany => b"too many",
+    }
+}
+
+fn asm_kind(kind: AsmKind) -> &'static [u8]
+    ensures text { result.now ≡ asm_kind_text kind }
+    ensures short { length result.now ≤ 16 }
+{
+    match kind {
+        AsmKind::Word => b"word",
+        AsmKind::Register => b"register",
+        AsmKind::Immediate => b"immediate",
+        AsmKind::Label => b"label",
+        AsmKind::Twice => b"twice",
+        AsmKind::TooLong => b"too long",
     }
 }
 

@@ -2,19 +2,20 @@ ghost use Rattle.std.specs.Prelude.{◌≡◌, ◌⊎◌, ◌≤◌, ◌<◌, �
 ghost use Rattle.dc_acts.specs.Reports.{report_text};
 ghost use Rattle.dc_media.specs.Causes.{Rose};
 ghost use Rattle.dc_media.specs.Told.{TellsOn};
-ghost use Rattle.dc_run.specs.Command.{plan_asked};
-ghost use Rattle.dc_run.specs.Headline.{IsExact, IsHeadline, IsOpenedFor, IsReported, Reports, unreported};
-ghost use Rattle.dc_run.specs.Opening.{Asks, opening_of};
+ghost use Rattle.dc_run.specs.Assembling.{IsAssembled};
+ghost use Rattle.dc_run.specs.Command.{asked_of};
+ghost use Rattle.dc_run.specs.Commands.{Asks, IfAssembly, IfRun, IsExact, IsOpenedFor, work_of};
+ghost use Rattle.dc_run.specs.Headline.{IsHeadline, IsReported, Reports, unreported};
+ghost use Rattle.dc_run.specs.Opening.{AsksToRun, opening_of};
 ghost use Rattle.dc_run.specs.Outcomes.{IsNothing, status_of};
-ghost use Rattle.dc_run.specs.Settings.{setting_of, was_opened};
-ghost use Rattle.dc_elf.specs.declared.faults.ElfFault.{ElfFault as ElfFaults};
-ghost use Rattle.dc_run.specs.declared.verdict.PlanFault.{PlanFault as PlanFaults};
-ghost use Rattle.dc_run.specs.declared.verdict.ScheduleFault.{ScheduleFault as ScheduleFaults};
+ghost use Rattle.dc_run.specs.Settings.{is_refusal, setting_of, was_opened};
+ghost use Rattle.dc_run.specs.declared.verdict.Verdict.{Verdict as Verdicts};
 ghost use Rattle.dc_run.specs.declared.verdict.Which.{Which as Whose};
 
+use crate::assembling::assemble_source;
+use crate::command::{Asked, command_in};
 use crate::opening::open;
 use crate::outcome::Outcome;
-use crate::reserved::Reserved;
 use crate::setting::Setting;
 use crate::world::World;
 use crate::{Outlet, Verdict};
@@ -22,11 +23,11 @@ use dc_acts::write_report;
 use dc_media::{Disks, Keeps, Library, Sink};
 use std::alloc::{AllocError, Global};
 
-/// Runs the command that the words give; the first word is the program's name.
+/// Carries out the command that the words give; the first word is the program's name.
 ///
 /// `run PLAN` fetches the plan, its guest and its schedule from the library, opens the run, gives the guest its turns in order,
-/// writes the lines of its visible records to `out`, and last the report of the run to `report`. Nothing is persistent yet: the
-/// stores and the disks stay untouched.
+/// writes the lines of its visible records to `out`, and last the report of the run to `report`. `asm SOURCE` fetches the source,
+/// assembles it and writes the ELF file to `out`. Nothing is persistent yet: the stores and the disks stay untouched.
 pub fn dc<L: Library, K: Keeps, D: Disks, O: Sink, R: Sink>(
     alloc: Global,
     words: &[String],
@@ -36,25 +37,27 @@ pub fn dc<L: Library, K: Keeps, D: Disks, O: Sink, R: Sink>(
     out: &mut O,
     report: &mut R,
 ) -> Outcome
-    // Refusals, each exactly where it is the first. Want of memory may take the place of any, and a fault of the library of any but the words'.
-    ensures usage { result.verdict ≡ Verdict.Usage → plan_asked words.now ≡ None }
-    ensures unasked { plan_asked words.now ≡ None → (result.verdict ≡ Verdict.Usage) ⊎ (result.verdict ≡ Verdict.WantOfMemory) }
-    ensures plan_refused { (fault : PlanFaults) → IfSome (L.files lib.old) (λ files. IsExact result.verdict (Verdict.PlanRefused fault) (opening_of files words.now)) }
-    ensures guest_refused { (p : ℕ) (fault : ElfFaults) → IfSome (L.files lib.old) (λ files. IsExact result.verdict (Verdict.GuestRefused p fault) (opening_of files words.now)) }
-    ensures schedule_refused { (fault : ScheduleFaults) → IfSome (L.files lib.old) (λ files. IsExact result.verdict (Verdict.ScheduleRefused fault) (opening_of files words.now)) }
-    ensures missing { (which : Whose) → IfSome (L.files lib.old) (λ files. IsExact result.verdict (Verdict.Missing which) (opening_of files words.now)) }
-    ensures opened { IfSome (L.files lib.old) (λ files. IsOpenedFor result.verdict (opening_of files words.now)) }
+    // A refusal (usage, a refused plan, guest, schedule or source, a missing file) comes exactly where it is the first that the words and
+    // the told files give. Want of memory may take the place of any, and a fault of the library of any but the words'.
+    ensures usage { result.verdict ≡ Verdict.Usage → asked_of words.now ≡ None }
+    ensures unasked { asked_of words.now ≡ None → (result.verdict ≡ Verdict.Usage) ⊎ (result.verdict ≡ Verdict.WantOfMemory) }
+    ensures refused { (refusal : Verdicts) → is_refusal refusal ≡ true → IfSome (L.files lib.old) (λ files. IsExact result.verdict refusal (work_of files words.now)) }
+    ensures opened { IfSome (L.files lib.old) (λ files. IsOpenedFor result.verdict (work_of files words.now)) }
 
-    // Faults, only where the count of the object that was handed in rose, and at a file only where the run asks for it.
+    // Faults, only where the count of the object that was handed in rose, and at a file only where the command asks for it.
     ensures library_fault { (which : Whose) → result.verdict ≡ Verdict.LibraryFault which → Rose (L.faults lib.old) (L.faults lib.new) }
     ensures library_asked { (which : Whose) → IfSome (L.files lib.old) (λ files. result.verdict ≡ Verdict.LibraryFault which → Asks files words.now which) }
     ensures output_fault { result.verdict ≡ Verdict.SinkFault Outlet.Out → Rose (O.faults out.old) (O.faults out.new) }
     ensures report_fault { result.verdict ≡ Verdict.SinkFault Outlet.Report → Rose (R.faults report.old) (R.faults report.new) }
 
     // What users see of a run that was opened, and its report.
-    ensures headline { was_opened result.verdict ≡ true → IfSome (L.files lib.old) (λ files. IsOkAnd (opening_of files words.now) (λ setting.
+    ensures headline { was_opened result.verdict ≡ true → IfSome (L.files lib.old) (λ files. IsOkAnd (work_of files words.now) (λ work. IfRun work (λ setting.
         IsReported setting result.verdict result.acts.items result.marks.items result.lines (O.held out.old) (O.held out.new)
-        (R.faults report.old) (R.faults report.new) (R.held report.old) (R.held report.new))) }
+        (R.faults report.old) (R.faults report.new) (R.held report.old) (R.held report.new)))) }
+
+    // The file of a source that was assembled; its report stays.
+    ensures assembled { was_opened result.verdict ≡ true → IfSome (L.files lib.old) (λ files. IsOkAnd (work_of files words.now) (λ work. IfAssembly work (λ program.
+        IsAssembled program result (O.held out.old) (O.held out.new) × (report.new ≡ report.old)))) }
 
     // What stays.
     ensures unopened { was_opened result.verdict ≡ false → IsNothing result × (out.new ≡ out.old) × (report.new ≡ report.old) }
@@ -63,26 +66,42 @@ pub fn dc<L: Library, K: Keeps, D: Disks, O: Sink, R: Sink>(
     ensures keeps { keeps.new ≡ keeps.old }
     ensures disks { disks.new ≡ disks.old }
 {
-    let setting = match open(alloc, words, lib) {
-        Ok(setting) => setting,
-        Err(verdict) => return refused(alloc, verdict),
-    };
-    match carry_out(alloc, setting, out) {
-        Ok(outcome) => reported(outcome, report),
-        Err(AllocError) => refused(alloc, Verdict::WantOfMemory),
+    match command_in(alloc, words) {
+        Ok(Asked::Run(plan)) => run_plan(alloc, plan, lib, out, report),
+        Ok(Asked::Assemble(source)) => assemble_source(alloc, source, lib, out),
+        Err(verdict) => Outcome::idle(alloc, verdict),
     }
 }
 
-/// The outcome of a call that opened no run.
-fn refused(alloc: Global, verdict: Verdict) -> Outcome
-    ensures verdict { result.verdict ≡ verdict }
-    ensures nothing { IsNothing result }
+/// Runs that plan.
+fn run_plan<L: Library, O: Sink, R: Sink>(
+    alloc: Global,
+    plan: &str,
+    lib: &mut L,
+    out: &mut O,
+    report: &mut R,
+) -> Outcome
+    ensures refused { (refusal : Verdicts) → is_refusal refusal ≡ true → IfSome (L.files lib.old) (λ files. IsExact result.verdict refusal (opening_of files plan.now)) }
+    ensures opened { IfSome (L.files lib.old) (λ files. IsOpenedFor result.verdict (opening_of files plan.now)) }
+    ensures asked { ¬ (result.verdict ≡ Verdict.Usage) }
+    ensures library_fault { (which : Whose) → result.verdict ≡ Verdict.LibraryFault which → Rose (L.faults lib.old) (L.faults lib.new) }
+    ensures library_asked { (which : Whose) → IfSome (L.files lib.old) (λ files. result.verdict ≡ Verdict.LibraryFault which → AsksToRun files plan.now which) }
+    ensures output_fault { result.verdict ≡ Verdict.SinkFault Outlet.Out → Rose (O.faults out.old) (O.faults out.new) }
+    ensures report_fault { result.verdict ≡ Verdict.SinkFault Outlet.Report → Rose (R.faults report.old) (R.faults report.new) }
+    ensures headline { was_opened result.verdict ≡ true → IfSome (L.files lib.old) (λ files. IsOkAnd (opening_of files plan.now) (λ setting.
+        IsReported setting result.verdict result.acts.items result.marks.items result.lines (O.held out.old) (O.held out.new)
+        (R.faults report.old) (R.faults report.new) (R.held report.old) (R.held report.new))) }
+    ensures unopened { was_opened result.verdict ≡ false → IsNothing result × (out.new ≡ out.old) × (report.new ≡ report.old) }
+    ensures tells { TellsOn 0 (O.faults out.new) (O.held out.old) (O.held out.new) }
+    ensures report_tells { TellsOn 0 (R.faults report.new) (R.held report.old) (R.held report.new) }
 {
-    Outcome {
-        verdict,
-        acts: Reserved::new(alloc),
-        marks: Reserved::new(alloc),
-        lines: 0,
+    let setting = match open(alloc, plan, lib) {
+        Ok(setting) => setting,
+        Err(verdict) => return Outcome::idle(alloc, verdict),
+    };
+    match carry_out(alloc, setting, out) {
+        Ok(outcome) => reported(outcome, report),
+        Err(AllocError) => Outcome::idle(alloc, Verdict::WantOfMemory),
     }
 }
 

@@ -3,7 +3,10 @@
 ghost use Rattle.std.specs.Prelude.{◌<◌, ◌≤◌, ◌^◌, ◌-◌, length, None};
 ghost use Rattle.std.proofs.Common.{lit<};
 
-use crate::{ElfFault, LineFault, Outcome, Outlet, PlanFault, ScheduleFault, Verdict, Which, dc};
+use crate::{
+    AsmFault, AsmKind, Did, ElfFault, LineFault, Outcome, Outlet, PlanFault, ScheduleFault,
+    Verdict, Which, dc,
+};
 use dc_media::{DeviceFault, Disks, Keeps, MakeFault};
 use dc_memmedia::{MemLibrary, MemSink};
 use dc_plain::{Act, Idle, Mark, Taken};
@@ -269,6 +272,7 @@ fn comes_to_nothing(
     assert!(rt; outcome.acts.as_slice().is_empty(), "{what}");
     assert!(rt; outcome.marks.as_slice().is_empty(), "{what}");
     assert_eq!(rt; outcome.lines, 0, "{what}");
+    assert_eq!(rt; outcome.did, Did::Run, "{what}");
     Ok(())
 }
 
@@ -276,7 +280,7 @@ fn comes_to_nothing(
 fn reports(
     rt: &(impl Abort + AllocGlobal),
     report: &MemSink,
-    acts: u32,
+    acts: usize,
     close: &str,
 ) -> Result<(), Fail> {
     let mut want = String::from_str(rt.alloc(), "dc-report 1\n")?;
@@ -405,6 +409,10 @@ fn other_words_are_not_a_command(rt: HostRuntime) -> Result<(), Fail> {
         "dc",
         "dc run",
         "dc run plan plan",
+        "dc asm",
+        "dc asm source source",
+        "dc Asm source",
+        "dc asm --help",
         "dc check plan",
         "dc run -x",
         "dc Run plan",
@@ -528,7 +536,7 @@ fn a_failing_sink_ends_the_run_at_its_line(rt: HostRuntime) -> Result<(), Fail> 
         case.failing_writes.push(failing)?;
         case.room = room;
         let (outcome, report) = comes_to(&rt, what, case, &OUT_FAILED, shown)?;
-        let acts = outcome.acts.as_slice().len() as u32;
+        let acts = outcome.acts.as_slice().len();
         reports(&rt, &report, acts, close)?;
         assert_eq!(rt;
             outcome.marks.as_slice().len() + 1,
@@ -937,7 +945,7 @@ fn runs(
     case.schedule = Some("0 0 0\n".repeat(rt.alloc(), turns)?);
     let (outcome, out, report) = call(rt.alloc(), case)?;
     assert_eq!(rt; out.bytes(), shown.as_bytes(), "{close}");
-    let acts = outcome.acts.as_slice().len() as u32;
+    let acts = outcome.acts.as_slice().len();
     reports(rt, &report, acts, close)
 }
 
@@ -995,5 +1003,145 @@ fn guests_trap(rt: HostRuntime) -> Result<(), Fail> {
     for (word, shown) in traps {
         runs(&rt, &[word], 1, shown, "close 0 1 1 1")?;
     }
+    Ok(())
+}
+
+/// A call that assembles this source.
+fn assembling(alloc: Global, source: &str) -> Result<Case, AllocError> {
+    let mut case = hi(alloc)?;
+    case.words = words_of(alloc, &["dc", "asm", "source"])?;
+    case.guest_name = String::from_str(alloc, "source")?;
+    case.guest = source.as_bytes().to_vec(alloc)?;
+    Ok(case)
+}
+
+#[test]
+fn an_assembled_source_is_its_file(rt: HostRuntime) -> Result<(), Fail> {
+    let case = assembling(rt.alloc(), "addi x10,x0,1\n")?;
+    let (outcome, out, report) = call(rt.alloc(), case)?;
+    assert_eq!(rt; outcome.verdict, Verdict::Done);
+    assert_eq!(rt; outcome.status(), 0);
+    assert_eq!(rt; outcome.did, Did::Assembled(88));
+    assert!(rt; outcome.acts.as_slice().is_empty());
+    assert!(rt; report.bytes().is_empty());
+    assert_eq!(rt;
+        out.bytes(),
+        file_of(rt.alloc(), &[0x0010_0513])?.as_slice()
+    );
+    let mut line = MemSink::new(rt.alloc(), 200, Vec::new(rt.alloc()))?;
+    outcome.write_line(&mut line)?;
+    assert_eq!(rt; line.bytes(), b"dc: done 88 bytes\n".as_slice());
+    Ok(())
+}
+
+#[test]
+fn an_assembled_guest_runs(rt: HostRuntime) -> Result<(), Fail> {
+    let source = "# shows rez, and ends with 7
+    addi x17,x0,2
+    addi x10,x0,word
+    addi x11,x0,3
+    ecall
+    addi x17,x0,1
+    addi x10,x0,7
+    ecall
+word:
+    .word 8021362 # the bytes of rez, the lowest first
+";
+    let case = assembling(rt.alloc(), source)?;
+    let (assembled, file, _) = call(rt.alloc(), case)?;
+    assert_eq!(rt; assembled.did, Did::Assembled(116));
+    let mut case = hi(rt.alloc())?;
+    case.guest = file.bytes().to_vec(rt.alloc())?;
+    let (outcome, report) = comes_to(
+        &rt,
+        "assembled",
+        case,
+        &HI_DONE,
+        "out 0 0 72657a\nend 0 1 7\n",
+    )?;
+    reports(&rt, &report, outcome.acts.as_slice().len(), "close 0 7 7 2")
+}
+
+#[test]
+fn says_what_is_faulty_in_a_source(rt: HostRuntime) -> Result<(), Fail> {
+    let faulty = [
+        (
+            "add x1,x2",
+            1,
+            AsmKind::Word,
+            "dc: source line 1 refused: word\n",
+        ),
+        (
+            "\nadd x1,x2,x32",
+            2,
+            AsmKind::Register,
+            "dc: source line 2 refused: register\n",
+        ),
+        (
+            "addi x10,x0,2048",
+            1,
+            AsmKind::Immediate,
+            "dc: source line 1 refused: immediate\n",
+        ),
+        (
+            "jal x0,away",
+            1,
+            AsmKind::Label,
+            "dc: source line 1 refused: label\n",
+        ),
+        (
+            "a:\na:",
+            2,
+            AsmKind::Twice,
+            "dc: source line 2 refused: twice\n",
+        ),
+    ];
+    for (source, line, kind, said) in faulty {
+        let answer = Answer {
+            verdict: Verdict::AsmRefused(AsmFault { line, kind }),
+            status: 14,
+            line: said,
+        };
+        comes_to_nothing(&rt, source, assembling(rt.alloc(), source)?, &answer)?;
+    }
+    let source = "ecall\n".repeat(rt.alloc(), 16001)?;
+    let answer = Answer {
+        verdict: Verdict::AsmRefused(AsmFault {
+            line: 16001,
+            kind: AsmKind::TooLong,
+        }),
+        status: 14,
+        line: "dc: source line 16001 refused: too long\n",
+    };
+    comes_to_nothing(&rt, "too long", assembling(rt.alloc(), &source)?, &answer)
+}
+
+#[test]
+fn a_source_is_missing_or_not_fetched(rt: HostRuntime) -> Result<(), Fail> {
+    let mut case = assembling(rt.alloc(), "ecall")?;
+    case.guest_name = String::from_str(rt.alloc(), "other")?;
+    let answer = missing(Which::Source, "dc: missing: source\n");
+    comes_to_nothing(&rt, "missing", case, &answer)?;
+
+    let mut case = assembling(rt.alloc(), "ecall")?;
+    case.failing_fetches.push(1)?;
+    let answer = Answer {
+        verdict: Verdict::LibraryFault(Which::Source),
+        status: 6,
+        line: "dc: library failed: source\n",
+    };
+    comes_to_nothing(&rt, "not fetched", case, &answer)
+}
+
+#[test]
+fn a_failing_sink_has_a_front_of_the_file(rt: HostRuntime) -> Result<(), Fail> {
+    let mut case = assembling(rt.alloc(), "ecall")?;
+    case.room = 50;
+    let (outcome, out, report) = call(rt.alloc(), case)?;
+    assert_eq!(rt; outcome.verdict, Verdict::SinkFault(Outlet::Out));
+    assert_eq!(rt; outcome.status(), 8);
+    assert_eq!(rt; out.bytes().len(), 50);
+    assert!(rt; file_of(rt.alloc(), &[ECALL])?.starts_with(out.bytes()));
+    assert!(rt; report.bytes().is_empty());
     Ok(())
 }

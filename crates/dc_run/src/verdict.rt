@@ -1,7 +1,8 @@
+use dc_asm::AsmFault;
 use dc_elf::ElfFault;
 use thiserror::Error;
 
-/// A file of a run.
+/// A file of a command.
 #[derive(Clone, Copy, Debug, PartialEq, Eq)]
 pub enum Which {
     /// The plan.
@@ -10,12 +11,14 @@ pub enum Which {
     Guest(u32),
     /// The schedule.
     Schedule,
+    /// The source of a guest.
+    Source,
 }
 
-/// A sink of a run.
+/// A sink of a command.
 #[derive(Clone, Copy, Debug, PartialEq, Eq)]
 pub enum Outlet {
-    /// The sink of the lines.
+    /// The sink of the lines, or of an assembled file.
     Out,
     /// The sink of the report.
     Report,
@@ -65,10 +68,19 @@ pub enum Unread {
     Refused(ScheduleFault),
 }
 
+/// What a call of the program did.
+#[derive(Clone, Copy, Debug, PartialEq, Eq)]
+pub enum Did {
+    /// It ran a plan, or came to no command's work.
+    Run,
+    /// It assembled a source to a file of so many bytes.
+    Assembled(u64),
+}
+
 /// What a call of the program came to.
 #[derive(Clone, Copy, Debug, PartialEq, Eq)]
 pub enum Verdict {
-    /// The schedule is used up and every guest has ended.
+    /// A run's schedule is used up and every guest has ended; or a source was assembled and its file written.
     Done,
     /// The schedule is used up and some guest has not ended.
     Unfinished,
@@ -84,8 +96,10 @@ pub enum Verdict {
     LibraryFault(Which),
     /// That sink failed.
     SinkFault(Outlet),
-    /// There was no memory to open the run.
+    /// There was no memory to open the run, or to assemble the source.
     WantOfMemory,
     /// The schedule's first faulty line.
     ScheduleRefused(ScheduleFault),
+    /// The source's first faulty line.
+    AsmRefused(AsmFault),
 }

@@ -8,11 +8,11 @@ ghost use Rattle.dc_run.specs.Schedules.{process_of};
 ghost use Rattle.dc_plain.specs.Guest.{guests_of};
 ghost use Rattle.dc_plain.specs.declared.entry.Entry.{Entry as Entries};
 
-use crate::Verdict;
 use crate::guest::Guest;
 use crate::memory::words_in;
 use crate::outcome::Outcome;
 use crate::reserved::Reserved;
+use crate::{Did, Verdict};
 use dc_media::{Sink, SinkFailed, write_whole};
 use dc_plain::{Act, Entry, Idle, Mark, Taken, Visible, line_of};
 use std::alloc::{AllocError, Global};
@@ -140,10 +140,11 @@ impl World {
 
     /// The outcome of a run that came to this verdict.
     pub fn outcome(self, verdict: Verdict) -> Outcome
-        ensures { result ≡ record { verdict = verdict; acts = self.acts; marks = self.marks; lines = self.lines } }
+        ensures { result ≡ record { verdict = verdict; did = Did.Run; acts = self.acts; marks = self.marks; lines = self.lines } }
     {
         Outcome {
             verdict,
+            did: Did::Run,
             acts: self.acts,
             marks: self.marks,
             lines: self.lines,

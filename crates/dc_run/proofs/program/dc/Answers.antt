@@ -1,11 +1,22 @@
-use Rattle.dc_run.specs.Settings.{setting_of}
-use Rattle.dc_run.proofs.Headlines.{reported_for}
-use Rattle.dc_run.proofs.Openings.{refused_opened}
+use Rattle.std.proofs.Common.{◌≡◌, ◌⊎◌, Some, rules}
+use Rattle.dc_run.specs.Command.{asked_of}
+use Rattle.dc_run.specs.Command.Asked.{ToRun, ToAssemble}
+use Rattle.dc_run.specs.declared.verdict.Verdict.TheVariants.{Usage, WantOfMemory}
+use Rattle.dc_run.proofs.Commands.{run_exact, run_asks, assembly_exact, unasked_opened}
 use Rattle.dc_run.proofs.program.dc.Goals as goal
 
-pub returns-in-Err-clause-opened : goal.returns-in-Err-clause-opened
-returns-in-Err-clause-opened g c = refused_opened _ c.args.words.now c.in-Err.verdict _ c.refused.ensures.verdict c.in-Err.ensures.closed c.in-Err.ensures.told
+pub returns-in-Ok-Run-clause-refused : goal.returns-in-Ok-Run-clause-refused
+returns-in-Ok-Run-clause-refused g c refusal is = let asked : asked_of c.args.words.now ≡ Some (ToRun c.in-Ok-Run.plan.now) = search rules in
+    run_exact _ c.args.words.now _ asked _ refusal (c.run_plan.ensures.refused refusal is)
 
-pub returns-in-Ok-carry_out-clause-headline : goal.returns-in-Ok-carry_out-clause-headline
-returns-in-Ok-carry_out-clause-headline g c = λ opened. reported_for _ c.args.words.now (setting_of c.in-Ok.setting) c.in-Ok-carry_out.outcome c.reported.result _ _ _ _ _ _
-    c.in-Ok.ensures.told c.in-Ok-carry_out.ensures.headline c.reported.ensures.told c.reported.ensures.acts c.reported.ensures.marks c.reported.ensures.lines
+pub returns-in-Ok-Run-clause-library_asked : goal.returns-in-Ok-Run-clause-library_asked
+returns-in-Ok-Run-clause-library_asked g c which = let asked : asked_of c.args.words.now ≡ Some (ToRun c.in-Ok-Run.plan.now) = search rules in
+    run_asks _ c.args.words.now _ asked _ which (c.run_plan.ensures.library_asked which)
+
+pub returns-in-Ok-Assemble-clause-refused : goal.returns-in-Ok-Assemble-clause-refused
+returns-in-Ok-Assemble-clause-refused g c refusal is = let asked : asked_of c.args.words.now ≡ Some (ToAssemble c.in-Ok-Assemble.source.now) = search rules in
+    assembly_exact _ c.args.words.now _ asked _ refusal (c.assemble_source.ensures.refused refusal is)
+
+pub returns-in-Err-clause-opened : goal.returns-in-Err-clause-opened
+returns-in-Err-clause-opened g c = let fault : (c.in-Err.verdict ≡ Usage) ⊎ (c.in-Err.verdict ≡ WantOfMemory) = search rules in
+    unasked_opened _ c.args.words.now c.in-Err.verdict _ c.idle.ensures.verdict (λ is. c.in-Err.ensures.usage (search rules)) fault

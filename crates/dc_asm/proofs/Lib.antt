@@ -1,0 +1,5 @@
+pub mod Counts
+pub mod Naming
+pub mod Passes
+pub mod Loads
+pub mod Single

@@ -1,0 +1,89 @@
+-- What a source stands for: its words' instructions, or its first faulty line.
+use Rattle.std.specs.Prelude.{◌≡◌, ℕ, suc, ◌+◌, List, [], ◌∷◌, ◌++◌, Option, None, Some, Result, Ok, Err, if◌then◌else◌, nat_lt, Vec}
+use Rattle.std.specs.declared.alloc.Global.{Global}
+use Rattle.dc_words.specs.Texts.{lines_of}
+use Rattle.dc_asm.specs.declared.faults.AsmError.{AsmError}
+use Rattle.dc_asm.specs.declared.faults.AsmError.TheVariants as error
+use Rattle.dc_asm.specs.declared.faults.AsmFault.{AsmFault}
+use Rattle.dc_asm.specs.declared.faults.AsmKind.{AsmKind}
+use Rattle.dc_asm.specs.declared.faults.AsmKind.TheVariants as kind
+use Rattle.dc_asm.specs.declared.forms.Meant.{Meant}
+use Rattle.dc_asm.specs.declared.names.Place.{Place}
+use Rattle.dc_asm.specs.Source.{bare, defined}
+use Rattle.dc_asm.specs.Names.{place_in}
+use Rattle.dc_asm.specs.Operands.{◌>>=◌}
+use Rattle.dc_asm.specs.Forms.{IsWordOf, meaning}
+use Rattle.dc_asm.specs.Elf.{elf_of}
+
+-- a name is defined twice where its first definition stands in an earlier line
+abbrev pub is_earlier : ℕ → Option Place → Result (Option Meant) AsmKind
+is_earlier number None = Ok None
+is_earlier number (Some place) = if nat_lt place.line number then Err kind.Twice else Ok None
+
+-- a source has at most 16,000 words
+abbrev pub counted : ℕ → Meant → Result (Option Meant) AsmKind
+counted word meant = if nat_lt word 16000 then Ok (Some meant) else Err kind.TooLong
+
+abbrev pub defines_or : (List ℕ → Option Place) → ℕ → ℕ → List ℕ → Option (List ℕ) → Result (Option Meant) AsmKind
+defines_or places number word line (Some name) = is_earlier number (places name)
+defines_or places number word line None = meaning places word line >>= counted word
+
+-- the line of a number, without its comment, behind so many words: a word, none, or a fault
+unfoldable pub line_meaning : (List ℕ → Option Place) → ℕ → ℕ → List ℕ → Result (Option Meant) AsmKind
+line_meaning places number word [] = Ok None
+line_meaning places number word (c ∷ line) = defines_or places number word (c ∷ line) (defined (c ∷ line))
+
+-- a line's word in front, or the line's fault
+abbrev pub with_front : Option Meant → Result (List Meant) AsmFault → Result (List Meant) AsmFault
+with_front None rest = rest
+with_front (Some meant) (Ok others) = Ok (meant ∷ others)
+with_front (Some meant) (Err fault) = Err fault
+
+abbrev pub count_of : Option Meant → ℕ
+count_of None = 0
+count_of (Some meant) = 1
+
+abbrev pub line_then : ℕ → Result (Option Meant) AsmKind → (Option Meant → Result (List Meant) AsmFault) → Result (List Meant) AsmFault
+line_then number (Err kind) rest = Err (record { line = number; kind = kind })
+line_then number (Ok found) rest = rest found
+
+-- the lines from this number on, behind so many words
+unfoldable pub program_from : (List ℕ → Option Place) → ℕ → ℕ → List (List ℕ) → Result (List Meant) AsmFault
+program_from places number word [] = Ok []
+program_from places number word (line ∷ lines) = line_then number (line_meaning places number word (bare line))
+    (λ found. with_front found (program_from places (suc number) (word + count_of found) lines))
+
+unfoldable pub program_of : List ℕ → Result (List Meant) AsmFault
+program_of source = program_from (place_in source) 1 0 (lines_of source)
+
+-- the words, one for each
+abbrev pub AreWordsOf : List Meant → List ℕ → Type 0
+AreWordsOf [] [] = Unit {0}
+AreWordsOf (meant ∷ others) (w ∷ words) = IsWordOf meant w × AreWordsOf others words
+AreWordsOf [] (w ∷ words) = ⊥
+AreWordsOf (meant ∷ others) [] = ⊥
+
+-- the ELF file of a program's words
+pub record IsFileOf (program : List Meant) (file : List ℕ) : Type 0 where
+  pub words : List ℕ
+  pub are_words : AreWordsOf program words
+  pub is_file : file ≡ elf_of words
+
+-- with these in front
+abbrev pub prefixed : List Meant → Result (List Meant) AsmFault → Result (List Meant) AsmFault
+prefixed front (Ok others) = Ok (front ++ others)
+prefixed front (Err fault) = Err fault
+
+-- what an assembler made of a source's program: its file or its first fault, unless it wanted memory
+abbrev pub Assembles : Result (Vec ℕ Global) AsmError → Result (List Meant) AsmFault → Type 0
+Assembles (Ok file) (Ok program) = IsFileOf program file.items
+Assembles (Ok file) (Err fault) = ⊥
+Assembles (Err (error.Refused fault)) told = told ≡ Err fault
+Assembles (Err error.Memory) told = Unit {0}
+
+-- the same of the words alone
+abbrev pub Words : Result (Vec ℕ Global) AsmError → Result (List Meant) AsmFault → Type 0
+Words (Ok words) (Ok program) = AreWordsOf program words.items
+Words (Ok words) (Err fault) = ⊥
+Words (Err (error.Refused fault)) told = told ≡ Err fault
+Words (Err error.Memory) told = Unit {0}

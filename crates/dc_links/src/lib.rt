@@ -1,0 +1,11 @@
+//! The messages that a process has sent and still keeps, by receiver and number.
+#![tactic(auto)]
+
+mod link;
+mod links;
+mod message;
+#[cfg(test)]
+mod tests;
+
+pub use links::Links;
+pub use message::{MESSAGE_ROOM, Message};

@@ -1,0 +1,38 @@
+-- How what a command was answered follows from what its work was.
+use Rattle.std.proofs.Common.{◌≡◌, ◌⊎◌, inl, inr, ℕ, List, Option, None, Some, IfSome, Err, String, ap, sym, subst}
+use Rattle.std.specs.declared.alloc.Global.{Global}
+use Rattle.dc_run.specs.Assembling.{program_in}
+use Rattle.dc_run.specs.Command.{asked_of}
+use Rattle.dc_run.specs.Command.Asked.{ToRun, ToAssemble}
+use Rattle.dc_run.specs.Commands.{Asks, IsExact, IsOpenedFor, work_of}
+use Rattle.dc_run.specs.Commands.Work.{Run, Assembly}
+use Rattle.dc_run.specs.Opening.{Files, AsksToRun, opening_of}
+use Rattle.dc_run.specs.Settings.{is_free, was_opened}
+use Rattle.dc_run.specs.declared.verdict.Verdict.{Verdict}
+use Rattle.dc_run.specs.declared.verdict.Verdict.TheVariants.{LibraryFault, Usage, WantOfMemory}
+use Rattle.dc_run.specs.declared.verdict.Which.{Which}
+use Rattle.dc_run.proofs.Works.{exact_named, for_known, refused_work}
+
+pub run_exact : (known : Option Files) (words : List (String Global)) (plan : List ℕ) → asked_of words ≡ Some (ToRun plan) → (v refusal : Verdict)
+    → IfSome known (λ files. IsExact v refusal (opening_of files plan)) → IfSome known (λ files. IsExact v refusal (work_of files words))
+run_exact None words plan asked v refusal is = tt
+run_exact (Some files) words plan asked v refusal is = rw asked (exact_named Run v refusal (opening_of files plan) is)
+
+pub assembly_exact : (known : Option Files) (words : List (String Global)) (source : List ℕ) → asked_of words ≡ Some (ToAssemble source) → (v refusal : Verdict)
+    → IfSome known (λ files. IsExact v refusal (program_in files source)) → IfSome known (λ files. IsExact v refusal (work_of files words))
+assembly_exact None words source asked v refusal is = tt
+assembly_exact (Some files) words source asked v refusal is = rw asked (exact_named Assembly v refusal (program_in files source) is)
+
+pub run_asks : (known : Option Files) (words : List (String Global)) (plan : List ℕ) → asked_of words ≡ Some (ToRun plan) → (v : Verdict) (which : Which)
+    → IfSome known (λ files. v ≡ LibraryFault which → AsksToRun files plan which) → IfSome known (λ files. v ≡ LibraryFault which → Asks files words which)
+run_asks None words plan asked v which asks = tt
+run_asks (Some files) words plan asked v which asks = λ is. rw asked (asks is)
+
+-- words that ask for nothing, or no memory to read them
+pub unasked_opened : (known : Option Files) (words : List (String Global)) (v answered : Verdict) → answered ≡ v → (v ≡ Usage → asked_of words ≡ None)
+    → (v ≡ Usage) ⊎ (v ≡ WantOfMemory) → IfSome known (λ files. IsOpenedFor answered (work_of files words))
+unasked_opened known words v answered same usage fault = for_known known (λ files here. subst (λ w. IsOpenedFor w (work_of files words)) (sym same) (by files fault))
+  where
+    by : (files : Files) → (v ≡ Usage) ⊎ (v ≡ WantOfMemory) → IsOpenedFor v (work_of files words)
+    by files (inl is) = refused_work v (work_of files words) (ap was_opened is) (inr (rw (usage is) (ap (λ (w : Verdict). Err w) (sym is))))
+    by files (inr is) = refused_work v (work_of files words) (ap was_opened is) (inl (ap is_free is))

@@ -1,0 +1,45 @@
+-- What is answered for work that the told files give or refuse.
+use Rattle.std.proofs.Common.{◌≡◌, ◌∙◌, ◌⊎◌, inl, inr, Bool, true, false, not, ◌&&◌, Option, None, Some, IfSome, Result, Ok, Err, ap, refl, sym}
+use Rattle.std.proofs.lemmas.Bool.{true≢false}
+use Rattle.dc_run.specs.Commands.{IsExact, IsOpenedFor}
+use Rattle.dc_run.specs.Opening.{◌>>=◌, Files}
+use Rattle.dc_run.specs.Settings.{is_free, is_refusal, was_opened}
+use Rattle.dc_run.specs.declared.verdict.Verdict.{Verdict}
+
+pub for_known : (known : Option Files) {P : Files → Type 0} → ((files : Files) → known ≡ Some files → P files) → IfSome known P
+for_known None at = tt
+for_known (Some files) at = at files refl
+
+-- a refusal is no free verdict, and none of work that was carried out
+refusal_bound : (free opened : Bool) → (not free && not opened) ≡ true → (free ≡ false) × (opened ≡ false)
+refusal_bound true opened e = absurd (true≢false (sym e))
+refusal_bound false true e = absurd (true≢false (sym e))
+refusal_bound false false e = (refl, refl)
+
+pub no_refusal : (v refusal : Verdict) → is_refusal refusal ≡ true → (was_opened v ≡ true) ⊎ (is_free v ≡ true) → v ≡ refusal → ⊥
+no_refusal v refusal is (inl opened) e = true≢false (sym opened ∙ ap was_opened e ∙ (refusal_bound (is_free refusal) (was_opened refusal) is).1)
+no_refusal v refusal is (inr free) e = true≢false (sym free ∙ ap is_free e ∙ (refusal_bound (is_free refusal) (was_opened refusal) is).0)
+
+-- a refusal that was answered for the told one, or a free verdict
+pub exact_refusal : {A : Type 0} (v refusal : Verdict) (told : Result A Verdict) → is_refusal refusal ≡ true → (is_free v ≡ true) ⊎ (told ≡ Err v) → IsExact v refusal told
+exact_refusal v refusal told is (inl free) = record { only = λ e. absurd (no_refusal v refusal is (inr free) e); where_told = λ e. inr free }
+exact_refusal v refusal told is (inr agrees) = record { only = λ e. agrees ∙ ap Err e; where_told = λ e. inl (let same : v ≡ refusal = cc in same) }
+
+pub refused_work : {A : Type 0} (v : Verdict) (told : Result A Verdict) → was_opened v ≡ false → (is_free v ≡ true) ⊎ (told ≡ Err v) → IsOpenedFor v told
+refused_work v (Ok x) closed (inl free) = inr free
+refused_work v (Ok x) closed (inr e) = absurd (let never : ⊥ = cc in never)
+refused_work v (Err refusal) closed agrees = λ opened. true≢false (sym opened ∙ closed)
+
+-- work that is there was carried out, but for a free verdict
+pub exact_work : {A : Type 0} (v refusal : Verdict) (told : Result A Verdict) (x : A) → is_refusal refusal ≡ true → told ≡ Ok x → (was_opened v ≡ true) ⊎ (is_free v ≡ true) → IsExact v refusal told
+exact_work v refusal told x is there done = record { only = λ e. absurd (no_refusal v refusal is done e); where_told = λ e. absurd (let never : ⊥ = cc in never) }
+
+pub opened_work : {A : Type 0} (v : Verdict) (told : Result A Verdict) (x : A) → told ≡ Ok x → (was_opened v ≡ true) ⊎ (is_free v ≡ true) → IsOpenedFor v told
+opened_work v (Ok y) x there done = done
+opened_work v (Err refusal) x there done = absurd (let never : ⊥ = cc in never)
+
+-- the same of the work under its name
+module _ {A B : Type 0} (f : A → B) (v refusal : Verdict) where
+  pub exact_named : (told : Result A Verdict) → IsExact v refusal told → IsExact v refusal (told >>= λ x. Ok (f x))
+  exact_named (Ok x) is = record { only = λ e. absurd (let never : ⊥ = let no : ◌≡◌ {A = Result A Verdict} (Ok x) (Err refusal) = is.only e in cc in never); where_told = λ e. absurd (let never : ⊥ = cc in never) }
+  exact_named (Err told) is = record { only = λ e. let same : ◌≡◌ {A = Result A Verdict} (Err told) (Err refusal) = is.only e in cc; where_told = λ e. is.where_told (let same : told ≡ refusal = cc in ap Err same) }

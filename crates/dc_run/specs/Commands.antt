@@ -1,0 +1,54 @@
+-- What a command comes to, by the words and the told files.
+use Rattle.std.specs.Prelude.{◌≡◌, ◌≢◌, ◌⊎◌, true, List, IsSomeAnd, Result, Ok, Err, String}
+use Rattle.std.specs.declared.alloc.Global.{Global}
+use Rattle.dc_asm.specs.declared.forms.Meant.{Meant}
+use Rattle.dc_run.specs.Assembling.{program_in}
+use Rattle.dc_run.specs.Command.{Asked, asked_of}
+use Rattle.dc_run.specs.Command.Asked.{ToRun, ToAssemble}
+use Rattle.dc_run.specs.Opening.{◌>>=◌, Files, Setting, AsksToRun, opening_of, or_refused}
+use Rattle.dc_run.specs.Settings.{is_free, was_opened}
+use Rattle.dc_run.specs.declared.verdict.Verdict.{Verdict}
+use Rattle.dc_run.specs.declared.verdict.Verdict.TheVariants.{Usage}
+use Rattle.dc_run.specs.declared.verdict.Which.{Which}
+use Rattle.dc_run.specs.declared.verdict.Which.TheVariants.{Source}
+
+-- what there is to carry out: a run that is opened, or a source's program
+pub data Work : Type 0 where
+  Run : (setting : Setting) → Work
+  Assembly : (program : List Meant) → Work
+
+abbrev pub work_by : Files → Asked → Result Work Verdict
+work_by files (ToRun plan) = opening_of files plan >>= (λ setting. Ok (Run setting))
+work_by files (ToAssemble source) = program_in files source >>= (λ program. Ok (Assembly program))
+
+-- the words, then what their command wants: the first that is refused decides
+abbrev pub work_of : Files → List (String Global) → Result Work Verdict
+work_of files words = or_refused Usage (asked_of words) >>= work_by files
+
+-- the work is a run of which this holds
+abbrev pub IfRun : Work → (Setting → Type 0) → Type 0
+IfRun (Run setting) P = P setting
+IfRun (Assembly program) P = Unit {0}
+
+-- the work is an assembly of which this holds
+abbrev pub IfAssembly : Work → (List Meant → Type 0) → Type 0
+IfAssembly (Run setting) P = Unit {0}
+IfAssembly (Assembly program) P = P program
+
+-- which files a command asks for
+abbrev pub AsksFor : Files → Asked → Which → Type 0
+AsksFor files (ToRun plan) which = AsksToRun files plan which
+AsksFor files (ToAssemble source) which = which ≡ Source
+
+abbrev pub Asks : Files → List (String Global) → Which → Type 0
+Asks files words which = IsSomeAnd (asked_of words) (λ asked. AsksFor files asked which)
+
+-- a refusal is answered exactly where the told files give it first; a free verdict may take its place
+pub record IsExact {A : Type 0} (verdict refusal : Verdict) (told : Result A Verdict) : Type 0 where
+  pub only : verdict ≡ refusal → told ≡ Err refusal
+  pub where_told : told ≡ Err refusal → (verdict ≡ refusal) ⊎ (is_free verdict ≡ true)
+
+-- where nothing is refused the work is carried out, but for a free verdict
+abbrev pub IsOpenedFor : {A : Type 0} → Verdict → Result A Verdict → Type 0
+IsOpenedFor verdict (Ok work) = (was_opened verdict ≡ true) ⊎ (is_free verdict ≡ true)
+IsOpenedFor verdict (Err refusal) = was_opened verdict ≢ true
