@@ -336,3 +336,194 @@ fn a_fault_is_told_in_words(rt: HostRuntime) -> Result<(), Fail> {
     assert_eq!(rt; told.as_str(), "line 7: too long");
     Ok(())
 }
+
+/// Guests and their words, as GNU as 2.40 and GNU ld 2.40 give them with the code at 1024 (an immediate's name written out as its address).
+const GUESTS: [(&str, &[u32]); 11] = [
+    (
+        "addi x17,x0,2\naddi x10,x0,msg\naddi x11,x0,2\necall\naddi x17,x0,1\naddi x10,x0,0\necall\nmsg:\n.word 26984",
+        &[
+            0x0020_0893,
+            0x41c0_0513,
+            0x0020_0593,
+            0x0000_0073,
+            0x0010_0893,
+            0x0000_0513,
+            0x0000_0073,
+            0x0000_6968,
+        ],
+    ),
+    (
+        "addi x17,x0,4\necall\nsw x10,512(x0)\naddi x17,x0,2\naddi x10,x0,512\naddi x11,x0,1\necall\naddi x17,x0,1\naddi x10,x0,0\necall",
+        &[
+            0x0040_0893,
+            0x0000_0073,
+            0x20a0_2023,
+            0x0020_0893,
+            0x2000_0513,
+            0x0010_0593,
+            0x0000_0073,
+            0x0010_0893,
+            0x0000_0513,
+            0x0000_0073,
+        ],
+    ),
+    (
+        "addi x17,x0,2\naddi x10,x0,512\naddi x11,x0,0\necall\naddi x10,x0,512\naddi x11,x0,256\necall\naddi x10,x0,512\naddi x11,x0,257\necall\naddi x17,x0,1\necall",
+        &[
+            0x0020_0893,
+            0x2000_0513,
+            0x0000_0593,
+            0x0000_0073,
+            0x2000_0513,
+            0x1000_0593,
+            0x0000_0073,
+            0x2000_0513,
+            0x1010_0593,
+            0x0000_0073,
+            0x0010_0893,
+            0x0000_0073,
+        ],
+    ),
+    (
+        "addi x17,x0,2\naddi x10,x0,msg\naddi x11,x0,2\necall\naddi x10,x0,msg\necall\naddi x17,x0,1\naddi x10,x0,0\necall\nmsg:\n.word 26984",
+        &[
+            0x0020_0893,
+            0x4240_0513,
+            0x0020_0593,
+            0x0000_0073,
+            0x4240_0513,
+            0x0000_0073,
+            0x0010_0893,
+            0x0000_0513,
+            0x0000_0073,
+            0x0000_6968,
+        ],
+    ),
+    (
+        "addi x17,x0,3\naddi x10,x0,512\naddi x11,x0,64\necall\naddi x11,x10,0\naddi x10,x0,512\naddi x17,x0,2\necall\naddi x17,x0,1\naddi x10,x0,0\necall",
+        &[
+            0x0030_0893,
+            0x2000_0513,
+            0x0400_0593,
+            0x0000_0073,
+            0x0005_0593,
+            0x2000_0513,
+            0x0020_0893,
+            0x0000_0073,
+            0x0010_0893,
+            0x0000_0513,
+            0x0000_0073,
+        ],
+    ),
+    (
+        "addi x17,x0,4\necall\naddi x17,x0,3\naddi x10,x0,512\naddi x11,x0,64\necall\naddi x11,x10,0\naddi x10,x0,512\naddi x17,x0,2\necall\naddi x17,x0,1\naddi x10,x0,0\necall",
+        &[
+            0x0040_0893,
+            0x0000_0073,
+            0x0030_0893,
+            0x2000_0513,
+            0x0400_0593,
+            0x0000_0073,
+            0x0005_0593,
+            0x2000_0513,
+            0x0020_0893,
+            0x0000_0073,
+            0x0010_0893,
+            0x0000_0513,
+            0x0000_0073,
+        ],
+    ),
+    (
+        "addi x17,x0,6\naddi x10,x0,1\naddi x11,x0,msg\naddi x12,x0,2\necall\naddi x17,x0,1\naddi x10,x0,0\necall\nmsg:\n.word 26984",
+        &[
+            0x0060_0893,
+            0x0010_0513,
+            0x4200_0593,
+            0x0020_0613,
+            0x0000_0073,
+            0x0010_0893,
+            0x0000_0513,
+            0x0000_0073,
+            0x0000_6968,
+        ],
+    ),
+    (
+        "loop:\naddi x17,x0,7\naddi x10,x0,512\naddi x11,x0,64\necall\nblt x10,x0,loop\naddi x11,x10,0\naddi x10,x0,512\naddi x17,x0,2\necall\njal x0,loop",
+        &[
+            0x0070_0893,
+            0x2000_0513,
+            0x0400_0593,
+            0x0000_0073,
+            0xfe05_48e3,
+            0x0005_0593,
+            0x2000_0513,
+            0x0020_0893,
+            0x0000_0073,
+            0xfddf_f06f,
+        ],
+    ),
+    (
+        "addi x17,x0,6\nloop:\naddi x10,x0,1\naddi x11,x0,msg\naddi x12,x0,2\necall\njal x0,loop\nmsg:\n.word 26984",
+        &[
+            0x0060_0893,
+            0x0010_0513,
+            0x4180_0593,
+            0x0020_0613,
+            0x0000_0073,
+            0xff1f_f06f,
+            0x0000_6968,
+        ],
+    ),
+    (
+        "addi x17,x0,7\nloop:\naddi x10,x0,512\naddi x11,x0,64\necall\njal x0,loop",
+        &[
+            0x0070_0893,
+            0x2000_0513,
+            0x0400_0593,
+            0x0000_0073,
+            0xff5f_f06f,
+        ],
+    ),
+    (
+        "loop:\naddi x17,x0,8\necall\naddi x10,x10,1\nblt x10,x11,go\naddi x10,x0,0\ngo:\naddi x11,x0,512\naddi x12,x0,4\naddi x17,x0,6\necall\naddi x17,x0,4\necall\nsw x10,512(x0)\nrecv:\naddi x17,x0,7\naddi x10,x0,576\naddi x11,x0,64\necall\nblt x10,x0,recv\naddi x11,x10,0\naddi x10,x0,576\naddi x17,x0,2\necall\njal x0,loop",
+        &[
+            0x0080_0893,
+            0x0000_0073,
+            0x0015_0513,
+            0x00b5_4463,
+            0x0000_0513,
+            0x2000_0593,
+            0x0040_0613,
+            0x0060_0893,
+            0x0000_0073,
+            0x0040_0893,
+            0x0000_0073,
+            0x20a0_2023,
+            0x0070_0893,
+            0x2400_0513,
+            0x0400_0593,
+            0x0000_0073,
+            0xfe05_48e3,
+            0x0005_0593,
+            0x2400_0513,
+            0x0020_0893,
+            0x0000_0073,
+            0xfadf_f06f,
+        ],
+    ),
+];
+
+#[test]
+fn guests_have_their_words_and_load(rt: HostRuntime) -> Result<(), Fail> {
+    for (source, words) in GUESTS {
+        assert_words(&rt, rt.alloc(), source.as_bytes(), words)?;
+        let file = assemble(rt.alloc(), source.as_bytes())?;
+        let image = load(rt.alloc(), &file, 4096)?;
+        assert_eq!(rt; image.entry, 1024);
+        assert_eq!(rt;
+            image.memory.get(1024..1024 + 4 * words.len()),
+            file.get(84..)
+        );
+    }
+    Ok(())
+}
