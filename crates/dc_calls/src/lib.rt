@@ -7,4 +7,4 @@ mod reply;
 mod tests;
 
 pub use call::{Call, read_call};
-pub use reply::{BAD_ARGUMENT, Reply, UNKNOWN, answer};
+pub use reply::{BAD_ARGUMENT, END_OF_INPUT, NOTHING_YET, Reply, UNKNOWN, answer};

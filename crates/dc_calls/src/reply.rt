@@ -3,6 +3,12 @@ ghost use Rattle.dc_calls.specs.Calls.{answered_x};
 
 use dc_isa::Regs;
 
+/// The result where there is no record and no message yet: -1.
+pub const NOTHING_YET: u32 = 0xffff_ffff;
+
+/// The result at the end of the input: -2.
+pub const END_OF_INPUT: u32 = 0xffff_fffe;
+
 /// The result of a call whose arguments are refused: -3.
 pub const BAD_ARGUMENT: u32 = 0xffff_fffd;
 

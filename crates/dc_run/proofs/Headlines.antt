@@ -3,7 +3,7 @@ use Rattle.std.proofs.Common.{IfSome, IsOkAnd, None, Ok, ◌≡◌, ◌≢◌, �
 use Rattle.std.proofs.lemmas.List.{append-nil, reverse-append, reverse-reverse, length-reverse}
 use Rattle.dc_media.proofs.Becoming.{Becomes-weaker}
 use Rattle.dc_plain.specs.Drawn.{Drawn}
-use Rattle.dc_plain.specs.Guest.{Guest, call_at, call_event, coming, event_of}
+use Rattle.dc_plain.specs.Guest.{Guest, coming, event_of, next_of}
 use Rattle.dc_plain.specs.Headline.{RepeatsEqual}
 use Rattle.dc_plain.specs.Led.{IsLed}
 use Rattle.dc_plain.specs.Lines.{text_of, visible_line}
@@ -12,11 +12,10 @@ use Rattle.dc_plain.specs.World.{Local}
 use Rattle.dc_plain.specs.World.Event.{AtEnd}
 use Rattle.dc_plain.specs.declared.act.Taken.{Taken}
 use Rattle.dc_plain.specs.declared.entry.Entry.{Entry}
-use Rattle.dc_calls.specs.declared.call.Call.{Call}
-use Rattle.dc_calls.specs.declared.call.Call.TheVariants.{Exit, Output, BadArgument, Unknown}
-use Rattle.dc_rv32.specs.Machine.{stepped}
-use Rattle.dc_rv32.specs.declared.machine.Stepped.{Stepped}
-use Rattle.dc_rv32.specs.declared.machine.Stepped.TheVariants as step
+use Rattle.dc_calls.specs.declared.call.Call.TheVariants.{Exit, Output, Input, Clock, Random, Send, Receive, Own, BadArgument, Unknown}
+use Rattle.dc_events.specs.declared.event.Next.{Next}
+use Rattle.dc_events.specs.declared.event.Next.TheVariants as next
+use Rattle.dc_rv32.specs.Machine.{Machine}
 use Rattle.dc_plain.specs.declared.mark.Mark.{Mark}
 use Rattle.dc_plain.specs.declared.mark.Mark.TheVariants as mark
 use Rattle.dc_plain.proofs.Leading.{leads_follow, leads_well, stands_last}
@@ -32,24 +31,27 @@ use Rattle.dc_run.specs.declared.verdict.Outlet.TheVariants.{Out}
 use Rattle.dc_run.specs.declared.verdict.Verdict.{Verdict}
 use Rattle.dc_run.specs.declared.verdict.Verdict.TheVariants.{Done, Unfinished, SinkFault}
 
--- a call and a step come with an event
-call_comes : (c : Call) (memory : List ℕ) → call_event c memory ≢ AtEnd
-call_comes (Exit code) memory e = cc
-call_comes (Output from count) memory e = cc
-call_comes BadArgument memory e = cc
-call_comes Unknown memory e = cc
-
-step_comes : (s : Stepped) (g : Guest) → event_of s g ≢ AtEnd
-step_comes step.Retired g e = cc
-step_comes step.Call g e = call_comes (call_at g) g.machine.memory e
-step_comes (step.Trap cause) g e = cc
+-- what a guest does next comes with an event
+next_comes : (n : Next) (m : Machine) → event_of n m ≢ AtEnd
+next_comes next.Retire m e = cc
+next_comes (next.Trap cause) m e = cc
+next_comes (next.Call (Exit code)) m e = cc
+next_comes (next.Call (Output from count)) m e = cc
+next_comes (next.Call (Input to room)) m e = cc
+next_comes (next.Call Clock) m e = cc
+next_comes (next.Call Random) m e = cc
+next_comes (next.Call (Send q from count)) m e = cc
+next_comes (next.Call (Receive to room)) m e = cc
+next_comes (next.Call Own) m e = cc
+next_comes (next.Call BadArgument) m e = cc
+next_comes (next.Call Unknown) m e = cc
 
 live_or_not : (g : Guest) → g.ended ≡ false → coming g ≢ AtEnd
-live_or_not g live at = step_comes (stepped g.machine).1 g (sym (ap (λ (b : Bool). if b then AtEnd else event_of (stepped g.machine).1 g) live) ∙ at)
+live_or_not g live at = next_comes (next_of g) g.machine (sym (ap (λ (b : Bool). if b then AtEnd else event_of (next_of g) g.machine) live) ∙ at)
 
 -- the end of a run without a fault
-module _ (setting : Setting) (guest : Guest) (shown : ℕ) (acts : List Taken) (marks : List Mark) (lines : ℕ) (before after : Option (List ℕ))
-    (r : RunsAs (guests setting) setting.schedule guest shown acts marks lines before after) (used : length marks ≡ length setting.schedule) where
+module _ (setting : Setting) (guest : Guest) (inputs : List (List ℕ)) (place shown : ℕ) (acts : List Taken) (marks : List Mark) (lines : ℕ) (before after : Option (List ℕ))
+    (r : RunsAs (guests setting) setting.schedule guest inputs place shown acts marks lines before after) (used : length marks ≡ length setting.schedule) where
   abbrev well : IsLed (guests setting) setting.schedule (reverse marks) r.core
   well = leads_well (guests setting) setting.schedule (reverse marks) r.core r.led
 
@@ -118,11 +120,11 @@ is_cut_off setting acts marks lines before after t =
 module _ (setting : Setting) (schedule : List Entry) (is : schedule ≡ setting.schedule) (w : World') (o : Outcome) (before after : Option (List ℕ)) where
   pub told_done : o ≡ record { verdict = Done; did = Run; acts = w.acts; marks = w.marks; lines = w.lines } → IsRunning (guests setting) schedule w before after → length w.marks.items ≡ length schedule → w.guest.ended ≡ true
       → IsHeadline setting o.verdict o.acts.items o.marks.items o.lines before after
-  told_done o_is r used ended = rw o_is (is_done setting w.guest w.shown w.acts.items w.marks.items w.lines before after (subst (λ (s : List Entry). IsRunning (guests setting) s w before after) is r) (used ∙ ap length is) ended)
+  told_done o_is r used ended = rw o_is (is_done setting w.guest w.inputs.items w.place w.shown w.acts.items w.marks.items w.lines before after (subst (λ (s : List Entry). IsRunning (guests setting) s w before after) is r) (used ∙ ap length is) ended)
 
   pub told_unfinished : o ≡ record { verdict = Unfinished; did = Run; acts = w.acts; marks = w.marks; lines = w.lines } → IsRunning (guests setting) schedule w before after → length w.marks.items ≡ length schedule → w.guest.ended ≡ false
       → IsHeadline setting o.verdict o.acts.items o.marks.items o.lines before after
-  told_unfinished o_is r used live = rw o_is (is_unfinished setting w.guest w.shown w.acts.items w.marks.items w.lines before after (subst (λ (s : List Entry). IsRunning (guests setting) s w before after) is r) (used ∙ ap length is) live)
+  told_unfinished o_is r used live = rw o_is (is_unfinished setting w.guest w.inputs.items w.place w.shown w.acts.items w.marks.items w.lines before after (subst (λ (s : List Entry). IsRunning (guests setting) s w before after) is r) (used ∙ ap length is) live)
 
   pub told_cut_off : o ≡ record { verdict = SinkFault Out; did = Run; acts = w.acts; marks = w.marks; lines = w.lines } → IsTorn (guests setting) schedule w before after
       → IsHeadline setting o.verdict o.acts.items o.marks.items o.lines before after

@@ -1,16 +1,16 @@
 -- How a run goes on by one entry.
-use Rattle.std.proofs.Common.{◌≡◌, ◌∙◌, ◌+◌, ◌≤◌, ℕ, true, List, [], ◌∷◌, ◌++◌, length, reverse, take, Option, None, Some, ap, sym, subst, refl, arith, slice_get, append_assoc}
+use Rattle.std.proofs.Common.{◌≢◌, ◌==◌, ◌||◌, ◌%◌, Bool, false, if◌then◌else◌, ◌≡◌, ◌∙◌, ◌+◌, ◌≤◌, ℕ, true, List, [], ◌∷◌, ◌++◌, length, reverse, take, Option, None, Some, ap, sym, subst, refl, arith, slice_get, append_assoc}
 use Rattle.std.proofs.lemmas.List.{append-nil, reverse-append, length-reverse}
 use Rattle.std.proofs.lemmas.Option.{slice_get_within}
 use Rattle.dc_media.specs.Told.{Becomes}
 use Rattle.dc_media.proofs.Becoming.{Becomes-then}
-use Rattle.dc_plain.specs.Core.{Core, opened_core, LeadsTo, Turned, stands, coming_at, drawn, drawn_answer, after_event, after_turn}
-use Rattle.dc_plain.specs.Guest.{Guest, guests_of, started, coming, after_answer}
+use Rattle.dc_plain.specs.Core.{Core, opened_core, LeadsTo, Turned, stands, coming_at, drawn, drawn_answer, after_event, after_turn, mark_of, receive_answer}
+use Rattle.dc_plain.specs.Guest.{Guest, guests_of, started, coming, after_answer, event_of, next_of}
 use Rattle.dc_elf.specs.Images.{Image}
 use Rattle.dc_plain.specs.Lines.{text_of, visible_line}
-use Rattle.dc_plain.specs.Plain.{reported}
-use Rattle.dc_plain.specs.World.{Event, Guests, Local, moved, shown, shows, record_of}
-use Rattle.dc_plain.specs.World.Event.{AtEnd, AtInternal, AtVisible}
+use Rattle.dc_plain.specs.Plain.{act_of, reported}
+use Rattle.dc_plain.specs.World.{Answer, Event, Guests, took_input, Local, moved, shown, shows, record_of}
+use Rattle.dc_plain.specs.World.Event.{AtEnd, AtInternal, AtClock, AtRandom, AtInput, AtReceive, AtVisible, AtSend}
 use Rattle.dc_plain.specs.World.{Answer as answer}
 use Rattle.dc_plain.specs.declared.act.Act.TheVariants as act
 use Rattle.dc_plain.specs.declared.act.Taken.{Taken}
@@ -22,7 +22,16 @@ use Rattle.dc_plain.specs.declared.mark.Mark.TheVariants as mark
 use Rattle.dc_plain.specs.declared.visible.Body.{Body}
 use Rattle.dc_plain.specs.declared.visible.Visible.{Visible}
 use Rattle.dc_plain.proofs.Leading.{leads_follow, stands_event}
-use Rattle.dc_run.specs.Running.{RunsAs, TornAs}
+use Rattle.dc_calls.specs.declared.call.Call.TheVariants as calls
+use Rattle.dc_events.specs.Kinds.{kind_of}
+use Rattle.dc_events.specs.declared.event.Next.{Next}
+use Rattle.dc_events.specs.declared.event.Next.TheVariants as next
+use Rattle.dc_rv32.specs.Machine.{Machine}
+use Rattle.std.proofs.lemmas.Bool.Decides.{nat_tests}
+use Rattle.dc_run.specs.Answers.{Draw, alone, turn_draws}
+use Rattle.dc_run.specs.Guests.{IsQuiet}
+use Rattle.dc_run.specs.Running.{IsRunning, RunsAs, Takes, TornAs, answer_at}
+use Rattle.dc_run.specs.declared.world.World.{World}
 use Rattle.dc_run.specs.Schedules.{process_of}
 
 reverse_end : {A : Type 0} (m : A) (ms : List A) → reverse (ms ++ m ∷ []) ≡ m ∷ reverse ms
@@ -34,6 +43,28 @@ reverse_more x xs = reverse-append (x ∷ []) xs
 text_end : (records : List Visible) (x : Visible) → text_of (records ++ x ∷ []) ≡ text_of records ++ visible_line x
 text_end [] x = append-nil (visible_line x)
 text_end (y ∷ records) x = ap (λ text. visible_line y ++ text) (text_end records x) ∙ sym (append_assoc (visible_line y) (text_of records) (visible_line x))
+
+-- an event that shows nothing is marked as stepped
+quiet_is : (p k : ℕ) (e : Event) → IsQuiet e → (mark_of e k ≡ mark.Stepped) × (shows e ≡ 0) × (record_of p k e ≡ []) × (e ≢ AtEnd)
+quiet_is p k AtEnd quiet = absurd quiet
+quiet_is p k AtInternal quiet = (refl, refl, refl, λ e. cc)
+quiet_is p k AtClock quiet = (refl, refl, refl, λ e. cc)
+quiet_is p k AtRandom quiet = (refl, refl, refl, λ e. cc)
+quiet_is p k AtInput quiet = (refl, refl, refl, λ e. cc)
+quiet_is p k AtReceive quiet = (refl, refl, refl, λ e. cc)
+quiet_is p k (AtVisible body) quiet = absurd quiet
+quiet_is p k (AtSend to message) quiet = (refl, refl, refl, λ e. cc)
+
+-- a process that has not ended takes its event
+after_live : {Mc : Type 0} (G : Guests Mc) (c : Core) (t p : ℕ) (a : Answer) (e : Event) → e ≢ AtEnd → after_turn G c t p a e ≡ after_event G c t p a
+after_live G c t p a AtEnd live = absurd (live refl)
+after_live G c t p a AtInternal live = refl
+after_live G c t p a AtClock live = refl
+after_live G c t p a AtRandom live = refl
+after_live G c t p a AtInput live = refl
+after_live G c t p a AtReceive live = refl
+after_live G c t p a (AtVisible body) live = refl
+after_live G c t p a (AtSend to message) live = refl
 
 -- an entry of the process leads on
 module _ (images : List Image) (inputs : List (List (List ℕ))) (schedule : List Entry) (marks : List Mark) (c : Core) (led : LeadsTo (guests_of images inputs) schedule (reverse marks) c) (word clock : ℕ) (is : slice_get schedule (length marks) ≡ Some (Turn 0 word clock)) where
@@ -55,154 +86,237 @@ module _ (images : List Image) (inputs : List (List (List ℕ))) (schedule : Lis
   after_at : (e : Event) → coming_at G c 0 ≡ e → after_turn G c turn 0 (drawn_answer G c 0 word clock e) e ≡ after_turn G c turn 0 (drawn G c 0 word clock) (coming_at G c 0)
   after_at e at = sym (ap (λ x. after_turn G c turn 0 (drawn_answer G c 0 word clock x) x) at)
 
-  leads_stepped : coming_at G c 0 ≡ AtInternal → LeadsTo G schedule (reverse (marks ++ mark.Stepped ∷ [])) (after_event G c turn 0 answer.Plain)
-  leads_stepped at = rw (reverse_end {A = Mark} mark.Stepped marks) (leads_on mark.Stepped (after_event G c turn 0 answer.Plain) (rw at refl, after_at AtInternal at))
+  leads_event : (e : Event) → e ≢ AtEnd → coming_at G c 0 ≡ e
+      → LeadsTo G schedule (mark_of e (stands G c 0).said ∷ reverse marks) (after_event G c turn 0 (drawn_answer G c 0 word clock e))
+  leads_event e live at = leads_on (mark_of e (stands G c 0).said) (after_event G c turn 0 (drawn_answer G c 0 word clock e))
+      (sym (ap (λ x. mark_of x (stands G c 0).said) at), sym (after_live G c turn 0 (drawn_answer G c 0 word clock e) e live) ∙ after_at e at)
 
-  leads_showed : (body : Body) → coming_at G c 0 ≡ AtVisible body → LeadsTo G schedule (mark.Showed (stands G c 0).said ∷ reverse marks) (after_event G c turn 0 answer.Plain)
-  leads_showed body at = leads_on (mark.Showed (stands G c 0).said) (after_event G c turn 0 answer.Plain) (rw at refl, after_at (AtVisible body) at)
+  stands_on : (a : Answer) → stands G (after_event G c turn 0 a) 0 ≡ moved G (stands G c 0) a
+  stands_on a = stands_event G c turn 0 a ((leads_follow G schedule (reverse marks) c led).at_end 0)
 
-  stands_on : stands G (after_event G c turn 0 answer.Plain) 0 ≡ moved G (stands G c 0) answer.Plain
-  stands_on = stands_event G c turn 0 answer.Plain ((leads_follow G schedule (reverse marks) c led).at_end 0)
+-- what a guest alone is answered is what its turn draws
+module _ (images : List Image) (inputs : List (List (List ℕ))) (c : Core) (word clock : ℕ) (one : (guests_of images inputs).count ≡ 1) where
+  abbrev G₁ : Guests Guest
+  G₁ = guests_of images inputs
+
+  -- a word modulo 2 names nobody or the receiver
+  nobody : (n : ℕ) → (n % 2 == 1 || n % 2 == 0) ≡ true
+  nobody n = grind (arith, nat_tests)
+
+  receives : drawn_answer G₁ c 0 word clock AtReceive ≡ answer.ReceiveNone
+  receives = ap (λ n. if (word % (n + 1) == n || word % (n + 1) == 0) then answer.ReceiveNone
+      else receive_answer (word % (n + 1)) (slice_get ((stands G₁ c (word % (n + 1))).sent 0) ((stands G₁ c 0).got (word % (n + 1))))) one
+      ∙ ap (λ (b : Bool). if b then answer.ReceiveNone else receive_answer (word % 2) (slice_get ((stands G₁ c (word % 2)).sent 0) ((stands G₁ c 0).got (word % 2)))) (nobody word)
+
+  drawn_alone : (n : Next) (m : Machine) → drawn_answer G₁ c 0 word clock (event_of n m)
+      ≡ alone (record { word = word; clock = clock; next = slice_get (G₁.inputs 0) (stands G₁ c 0).place }) (kind_of n)
+  drawn_alone next.Retire m = refl
+  drawn_alone (next.Trap cause) m = refl
+  drawn_alone (next.Call (calls.Exit code)) m = refl
+  drawn_alone (next.Call (calls.Output from count)) m = refl
+  drawn_alone (next.Call (calls.Input to room)) m = refl
+  drawn_alone (next.Call calls.Clock) m = refl
+  drawn_alone (next.Call calls.Random) m = refl
+  drawn_alone (next.Call (calls.Send q from count)) m = refl
+  drawn_alone (next.Call (calls.Receive to room)) m = receives
+  drawn_alone (next.Call calls.Own) m = refl
+  drawn_alone (next.Call calls.BadArgument) m = refl
+  drawn_alone (next.Call calls.Unknown) m = refl
 
 -- what a run has come to, and where its next entry leads
-module _ (images : List Image) (inputs : List (List (List ℕ))) (schedule : List Entry) (guest : Guest) (shown : ℕ) (acts : List Taken) (marks : List Mark) (lines : ℕ) (first held : Option (List ℕ)) (word clock : ℕ) (is : slice_get schedule (length marks) ≡ Some (Turn 0 word clock)) (run : RunsAs (guests_of images inputs) schedule guest shown acts marks lines first held) where
+module _ (images : List Image) (rest : List (List (List ℕ))) (schedule : List Entry) (guest : Guest) (inputs : List (List ℕ)) (place shown : ℕ) (acts : List Taken) (marks : List Mark) (lines : ℕ)
+    (first held : Option (List ℕ)) (word clock : ℕ) (is : slice_get schedule (length marks) ≡ Some (Turn 0 word clock))
+    (run : RunsAs (guests_of images rest) schedule guest inputs place shown acts marks lines first held) where
   abbrev G' : Guests Guest
-  G' = guests_of images inputs
+  G' = guests_of images rest
 
   abbrev now : Core
   now = run.core
 
-  abbrev later : Core
-  later = after_event G' now (length (reverse marks)) 0 answer.Plain
+  -- what the turn draws
+  abbrev draw : Draw
+  draw = record { word = word; clock = clock; next = slice_get inputs place }
 
   comes_at : (e : Event) → coming guest ≡ e → coming_at G' now 0 ≡ e
   comes_at e at = ap coming run.guest_is ∙ at
 
-  stands_later : stands G' later 0 ≡ moved G' (stands G' now 0) answer.Plain
-  stands_later = stands_on images inputs schedule marks now run.led word clock is
-
-  guest_later : (stands G' later 0).machine ≡ after_answer guest answer.Plain
-  guest_later = ap (λ (l : Local Guest). l.machine) stands_later ∙ ap (λ (g : Guest). after_answer g answer.Plain) run.guest_is
-
-  said_later : (e : Event) → coming_at G' now 0 ≡ e → (stands G' later 0).said ≡ shown + shows e
-  said_later e at = ap (λ (l : Local Guest). l.said) stands_later ∙ rw (at, run.said) refl
-
-  acts_later : reported later.acts ≡ acts ++ record { t = length marks; p = 0; act = act.Plain } ∷ []
-  acts_later = rw (run.acts_are, length-reverse marks) refl
-
-  lines_later : (e : Event) → coming_at G' now 0 ≡ e → later.lines ≡ record_of 0 shown e ++ now.lines
-  lines_later e at = rw (at, run.said) refl
-
-  pub idle_runs : guest.ended ≡ true → RunsAs G' schedule guest shown acts (marks ++ mark.Idle Ended ∷ []) lines first held
+  pub idle_runs : guest.ended ≡ true → RunsAs G' schedule guest inputs place shown acts (marks ++ mark.Idle Ended ∷ []) lines first held
   idle_runs ended = record {
     core = now;
-    led = leads_idle images inputs schedule marks now run.led word clock is (comes_at AtEnd (rw ended refl));
+    one = run.one;
+    inputs_are = run.inputs_are;
+    led = leads_idle images rest schedule marks now run.led word clock is (comes_at AtEnd (rw ended refl));
     guest_is = run.guest_is;
+    place_is = run.place_is;
     said = run.said;
     acts_are = run.acts_are;
     count = run.count;
     shows = run.shows;
   }
 
-  pub stepped_runs : coming guest ≡ AtInternal → RunsAs G' schedule (after_answer guest answer.Plain) shown (acts ++ record { t = length marks; p = 0; act = act.Plain } ∷ []) (marks ++ mark.Stepped ∷ []) lines first held
-  stepped_runs at = let e = comes_at AtInternal at in record {
-    core = later;
-    led = leads_stepped images inputs schedule marks now run.led word clock is e;
-    guest_is = guest_later;
-    said = said_later AtInternal e ∙ omega arith;
-    acts_are = acts_later;
-    count = ap length (lines_later AtInternal e) ∙ run.count;
-    shows = rw (lines_later AtInternal e) run.shows;
-  }
+  module _ (live : guest.ended ≡ false) where
+    -- the answer that is drawn
+    abbrev a : Answer
+    a = alone draw (kind_of (next_of guest))
 
-  module _ (body : Body) (at : coming guest ≡ AtVisible body) (held' : Option (List ℕ)) where
-    abbrev record_now : Visible
-    record_now = record { p = 0; k = shown; body = body }
+    abbrev later : Core
+    later = after_event G' now (length (reverse marks)) 0 a
 
-    e : coming_at G' now 0 ≡ AtVisible body
-    e = comes_at (AtVisible body) at
+    event_is : coming guest ≡ event_of (next_of guest) guest.machine
+    event_is = ap (λ (b : Bool). if b then AtEnd else event_of (next_of guest) guest.machine) live
 
-    led_showed : LeadsTo G' schedule (mark.Showed shown ∷ reverse marks) later
-    led_showed = subst (λ k. LeadsTo G' schedule (mark.Showed k ∷ reverse marks) later) run.said (leads_showed images inputs schedule marks now run.led word clock is body e)
+    answer_is : drawn_answer G' now 0 word clock (coming guest) ≡ a
+    answer_is = ap (drawn_answer G' now 0 word clock) event_is ∙ drawn_alone images rest now word clock run.one (next_of guest) guest.machine
+        ∙ ap (λ (xs : List (List ℕ)). alone (record { word = word; clock = clock; next = slice_get xs (stands G' now 0).place }) (kind_of (next_of guest))) run.inputs_are
+        ∙ ap (λ k. alone (record { word = word; clock = clock; next = slice_get inputs k }) (kind_of (next_of guest))) run.place_is
 
-    lines_showed : later.lines ≡ record_now ∷ now.lines
-    lines_showed = lines_later (AtVisible body) e
+    led_later : coming guest ≢ AtEnd → LeadsTo G' schedule (mark_of (coming guest) shown ∷ reverse marks) later
+    led_later going = subst (λ (x : Answer). LeadsTo G' schedule (mark_of (coming guest) shown ∷ reverse marks) (after_event G' now (length (reverse marks)) 0 x)) answer_is
+        (subst (λ k. LeadsTo G' schedule (mark_of (coming guest) k ∷ reverse marks) (after_event G' now (length (reverse marks)) 0 (drawn_answer G' now 0 word clock (coming guest)))) run.said
+        (leads_event images rest schedule marks now run.led word clock is (coming guest) going (comes_at (coming guest) refl)))
 
-    text_showed : text_of (reverse now.lines) ++ visible_line record_now ≡ text_of (reverse later.lines)
-    text_showed = sym (ap (λ xs. text_of (reverse xs)) lines_showed ∙ ap text_of (reverse_more record_now now.lines) ∙ text_end (reverse now.lines) record_now)
+    stands_later : stands G' later 0 ≡ moved G' (stands G' now 0) a
+    stands_later = stands_on images rest schedule marks now run.led word clock is a
 
-    pub showed_runs : Becomes held held' (λ x y. y ≡ x ++ visible_line record_now)
-        → RunsAs G' schedule (after_answer guest answer.Plain) (shown + 1) (acts ++ record { t = length marks; p = 0; act = act.Plain } ∷ []) (marks ++ mark.Showed shown ∷ []) (lines + 1) first held'
-    showed_runs writes = record {
-      core = later;
-      led = rw (reverse_end {A = Mark} (mark.Showed shown) marks) led_showed;
-      guest_is = guest_later;
-      said = said_later (AtVisible body) e;
-      acts_are = acts_later;
-      count = ap length lines_showed ∙ omega (arith, run.count);
-      shows = Becomes-then first held held' _ _ _ (λ x y z old new. new ∙ ap (λ w. w ++ visible_line record_now) old ∙ append_assoc x (text_of (reverse now.lines)) (visible_line record_now) ∙ ap (λ w. x ++ w) text_showed) run.shows writes;
-    }
+    guest_later : (stands G' later 0).machine ≡ after_answer guest a
+    guest_later = ap (λ (l : Local Guest). l.machine) stands_later ∙ ap (λ (g : Guest). after_answer g a) run.guest_is
 
-    pub showing_breaks : (n : ℕ) × (n ≤ length (visible_line record_now)) × Becomes held held' (λ x y. y ≡ x ++ take n (visible_line record_now))
-        → TornAs G' schedule (acts ++ record { t = length marks; p = 0; act = act.Plain } ∷ []) marks lines first held'
-    showing_breaks writes = record {
-      core = later;
-      torn = record_now;
-      whole = now.lines;
-      led = led_showed;
-      acts_are = acts_later;
-      lines_are = lines_showed;
-      count = run.count;
-      early = slice_get_within schedule (length marks) (Turn 0 word clock) is;
-      shows = (writes.0, writes.1, Becomes-then first held held' _ _ _ (λ x y z old new. new ∙ ap (λ w. w ++ take writes.0 (visible_line record_now)) old) run.shows writes.2);
-    }
+    place_later : (stands G' later 0).place ≡ place + took_input a
+    place_later = ap (λ (l : Local Guest). l.place) stands_later ∙ ap (λ n. n + took_input a) run.place_is
 
--- the same, as the code says it: what it found is named apart, and equal
-module _ (images : List Image) (inputs : List (List (List ℕ))) (schedule : List Entry) (guest guest' : Guest) (shown : ℕ) (acts acts' : List Taken) (marks : List Mark) (lines t p : ℕ) (first held held' : Option (List ℕ))
-    (guest_is : guest' ≡ after_answer guest answer.Plain) (acts_are : acts' ≡ acts ++ record { t = t; p = p; act = act.Plain } ∷ []) (t_is : t ≡ length marks) where
-  acts_at : p ≡ 0 → acts' ≡ acts ++ record { t = length marks; p = 0; act = act.Plain } ∷ []
-  acts_at zero = acts_are ∙ ap (λ n. acts ++ record { t = n; p = p; act = act.Plain } ∷ []) t_is ∙ ap (λ n. acts ++ record { t = length marks; p = n; act = act.Plain } ∷ []) zero
+    said_later : (stands G' later 0).said ≡ shown + shows (coming guest)
+    said_later = ap (λ (l : Local Guest). l.said) stands_later ∙ ap (λ (g : Guest). (stands G' now 0).said + shows (coming g)) run.guest_is ∙ ap (λ n. n + shows (coming guest)) run.said
 
-  pub stepped_on : (entry : Entry) (marks' : List Mark) → process_of entry ≡ 0 → p ≡ process_of entry → coming guest ≡ AtInternal → marks' ≡ marks ++ mark.Stepped ∷ []
-      → slice_get schedule (length marks) ≡ Some entry → RunsAs (guests_of images inputs) schedule guest shown acts marks lines first held → RunsAs (guests_of images inputs) schedule guest' shown acts' marks' lines first held
-  stepped_on (Turn q word clock) marks' zero p_is at marks_are is run =
-      let is' : slice_get schedule (length marks) ≡ Some (Turn 0 word clock) = is ∙ ap (λ n. Some (Turn n word clock)) zero in
-      rw (guest_is, acts_at (p_is ∙ zero), marks_are) (stepped_runs images inputs schedule guest shown acts marks lines first held word clock is' run at)
+    acts_later : reported later.acts ≡ acts ++ record { t = length marks; p = 0; act = act_of a } ∷ []
+    acts_later = rw (run.acts_are, length-reverse marks) refl
 
-  pub showed_on : (entry : Entry) (marks' : List Mark) (body : Body) → process_of entry ≡ 0 → p ≡ process_of entry → coming guest ≡ AtVisible body → marks' ≡ marks ++ mark.Showed shown ∷ []
-      → Becomes held held' (λ x y. y ≡ x ++ visible_line (record { p = p; k = shown; body = body }))
-      → slice_get schedule (length marks) ≡ Some entry → RunsAs (guests_of images inputs) schedule guest shown acts marks lines first held → RunsAs (guests_of images inputs) schedule guest' (shown + 1) acts' marks' (lines + 1) first held'
-  showed_on (Turn q word clock) marks' body zero p_is at marks_are writes is run =
-      let is' : slice_get schedule (length marks) ≡ Some (Turn 0 word clock) = is ∙ ap (λ n. Some (Turn n word clock)) zero in
-      let writes' = subst (λ n. Becomes held held' (λ x y. y ≡ x ++ visible_line (record { p = n; k = shown; body = body }))) (p_is ∙ zero) writes in
-      rw (guest_is, acts_at (p_is ∙ zero), marks_are) (showed_runs images inputs schedule guest shown acts marks lines first held word clock is' run body at held' writes')
+    lines_later : later.lines ≡ record_of 0 shown (coming guest) ++ now.lines
+    lines_later = ap (λ (g : Guest). record_of 0 (stands G' now 0).said (coming g) ++ now.lines) run.guest_is ∙ ap (λ n. record_of 0 n (coming guest) ++ now.lines) run.said
 
-  pub breaks_on : (entry : Entry) (body : Body) → process_of entry ≡ 0 → p ≡ process_of entry → coming guest ≡ AtVisible body
-      → (n : ℕ) × (n ≤ length (visible_line (record { p = p; k = shown; body = body }))) × Becomes held held' (λ x y. y ≡ x ++ take n (visible_line (record { p = p; k = shown; body = body })))
-      → slice_get schedule (length marks) ≡ Some entry → RunsAs (guests_of images inputs) schedule guest shown acts marks lines first held → TornAs (guests_of images inputs) schedule acts' marks lines first held'
-  breaks_on (Turn q word clock) body zero p_is at writes is run =
-      let is' : slice_get schedule (length marks) ≡ Some (Turn 0 word clock) = is ∙ ap (λ n. Some (Turn n word clock)) zero in
-      let writes' = subst (λ r. (n : ℕ) × (n ≤ length (visible_line (record { p = r; k = shown; body = body }))) × Becomes held held' (λ x y. y ≡ x ++ take n (visible_line (record { p = r; k = shown; body = body })))) (p_is ∙ zero) writes in
-      rw (acts_at (p_is ∙ zero)) (showing_breaks images inputs schedule guest shown acts marks lines first held word clock is' run body at held' writes')
+    pub stepped_runs : IsQuiet (coming guest)
+        → RunsAs G' schedule (after_answer guest a) inputs (place + took_input a) shown (acts ++ record { t = length marks; p = 0; act = act_of a } ∷ []) (marks ++ mark.Stepped ∷ []) lines first held
+    stepped_runs quiet = let facts = quiet_is 0 shown (coming guest) quiet in
+        let same : later.lines ≡ now.lines = lines_later ∙ ap (λ xs. xs ++ now.lines) facts.2 in record {
+          core = later;
+          one = run.one;
+          inputs_are = run.inputs_are;
+          led = rw (reverse_end {A = Mark} mark.Stepped marks) (subst (λ (m : Mark). LeadsTo G' schedule (m ∷ reverse marks) later) facts.0 (led_later facts.3));
+          guest_is = guest_later;
+          place_is = place_later;
+          said = said_later ∙ ap (λ n. shown + n) facts.1 ∙ omega arith;
+          acts_are = acts_later;
+          count = ap length same ∙ run.count;
+          shows = rw same run.shows;
+        }
 
-pub idle_on : (images : List Image) (inputs : List (List (List ℕ))) (schedule : List Entry) (guest : Guest) (shown : ℕ) (acts : List Taken) (marks marks' : List Mark) (lines : ℕ) (first held : Option (List ℕ)) (entry : Entry)
+    module _ (body : Body) (at : coming guest ≡ AtVisible body) (held' : Option (List ℕ)) where
+      abbrev record_now : Visible
+      record_now = record { p = 0; k = shown; body = body }
+
+      led_showed : LeadsTo G' schedule (mark.Showed shown ∷ reverse marks) later
+      led_showed = subst (λ (e : Event). LeadsTo G' schedule (mark_of e shown ∷ reverse marks) later) at (led_later (λ ended. let never : AtVisible body ≡ AtEnd = sym at ∙ ended in cc))
+
+      lines_showed : later.lines ≡ record_now ∷ now.lines
+      lines_showed = lines_later ∙ ap (λ (e : Event). record_of 0 shown e ++ now.lines) at
+
+      text_showed : text_of (reverse now.lines) ++ visible_line record_now ≡ text_of (reverse later.lines)
+      text_showed = sym (ap (λ xs. text_of (reverse xs)) lines_showed ∙ ap text_of (reverse_more record_now now.lines) ∙ text_end (reverse now.lines) record_now)
+
+      pub showed_runs : Becomes held held' (λ x y. y ≡ x ++ visible_line record_now)
+          → RunsAs G' schedule (after_answer guest a) inputs (place + took_input a) (shown + 1) (acts ++ record { t = length marks; p = 0; act = act_of a } ∷ []) (marks ++ mark.Showed shown ∷ []) (lines + 1) first held'
+      showed_runs writes = record {
+        core = later;
+        one = run.one;
+        inputs_are = run.inputs_are;
+        led = rw (reverse_end {A = Mark} (mark.Showed shown) marks) led_showed;
+        guest_is = guest_later;
+        place_is = place_later;
+        said = said_later ∙ ap (λ (e : Event). shown + shows e) at;
+        acts_are = acts_later;
+        count = ap length lines_showed ∙ omega (arith, run.count);
+        shows = Becomes-then first held held' _ _ _ (λ x y z old new. new ∙ ap (λ w. w ++ visible_line record_now) old ∙ append_assoc x (text_of (reverse now.lines)) (visible_line record_now) ∙ ap (λ w. x ++ w) text_showed) run.shows writes;
+      }
+
+      pub showing_breaks : (n : ℕ) × (n ≤ length (visible_line record_now)) × Becomes held held' (λ x y. y ≡ x ++ take n (visible_line record_now))
+          → TornAs G' schedule (acts ++ record { t = length marks; p = 0; act = act_of a } ∷ []) marks lines first held'
+      showing_breaks writes = record {
+        core = later;
+        torn = record_now;
+        whole = now.lines;
+        led = led_showed;
+        acts_are = acts_later;
+        lines_are = lines_showed;
+        count = run.count;
+        early = slice_get_within schedule (length marks) (Turn 0 word clock) is;
+        shows = (writes.0, writes.1, Becomes-then first held held' _ _ _ (λ x y z old new. new ∙ ap (λ w. w ++ take writes.0 (visible_line record_now)) old) run.shows writes.2);
+      }
+
+-- the same, as the code says it: `w` is the run after the event was taken
+module _ (images : List Image) (rest : List (List (List ℕ))) (schedule : List Entry) (old w : World) (first held held' : Option (List ℕ)) (entry : Entry)
+    (zero : process_of entry ≡ 0) (takes : Takes old w entry) (live : old.guest.ended ≡ false) (is : slice_get schedule (length old.marks.items) ≡ Some entry)
+    (run : IsRunning (guests_of images rest) schedule old first held) where
+  abbrev answer_now : Entry → Answer
+  answer_now e = answer_at old e
+
+  abbrev acts_now : Entry → List Taken
+  acts_now e = old.acts.items ++ record { t = length old.marks.items; p = 0; act = act_of (answer_now e) } ∷ []
+
+  acts_at : w.acts.items ≡ acts_now entry
+  acts_at = takes.acts ∙ ap (λ n. old.acts.items ++ record { t = length old.marks.items; p = n; act = act_of (answer_now entry) } ∷ []) zero
+
+  pub stepped_on : (marks : List Mark) → IsQuiet (coming old.guest) → marks ≡ w.marks.items ++ mark.Stepped ∷ []
+      → RunsAs (guests_of images rest) schedule w.guest w.inputs.items w.place w.shown w.acts.items marks w.lines first held
+  stepped_on marks quiet marks_are =
+      rw (takes.guest, takes.place, acts_at, takes.inputs, takes.shown, takes.lines, marks_are, takes.marks) (by entry zero is)
+    where
+      by : (e : Entry) → process_of e ≡ 0 → slice_get schedule (length old.marks.items) ≡ Some e
+          → RunsAs (guests_of images rest) schedule (after_answer old.guest (answer_now e)) old.inputs.items (old.place + took_input (answer_now e)) old.shown (acts_now e) (old.marks.items ++ mark.Stepped ∷ []) old.lines first held
+      by (Turn q word clock) none there = stepped_runs images rest schedule old.guest old.inputs.items old.place old.shown old.acts.items old.marks.items old.lines first held word clock
+          (there ∙ ap (λ n. Some (Turn n word clock)) none) run live quiet
+
+  module _ (body : Body) (at : coming old.guest ≡ AtVisible body) (visible : Visible) (visible_is : visible ≡ record { p = 0; k = old.shown; body = body }) where
+    pub showed_on : (marks : List Mark) → marks ≡ w.marks.items ++ mark.Showed old.shown ∷ [] → Becomes held held' (λ x y. y ≡ x ++ visible_line visible)
+        → RunsAs (guests_of images rest) schedule w.guest w.inputs.items w.place (w.shown + 1) w.acts.items marks (w.lines + 1) first held'
+    showed_on marks marks_are writes =
+        rw (takes.guest, takes.place, acts_at, takes.inputs, takes.shown, takes.lines, marks_are, takes.marks) (by entry zero is)
+      where
+        by : (e : Entry) → process_of e ≡ 0 → slice_get schedule (length old.marks.items) ≡ Some e
+            → RunsAs (guests_of images rest) schedule (after_answer old.guest (answer_now e)) old.inputs.items (old.place + took_input (answer_now e)) (old.shown + 1) (acts_now e) (old.marks.items ++ mark.Showed old.shown ∷ []) (old.lines + 1) first held'
+        by (Turn q word clock) none there = showed_runs images rest schedule old.guest old.inputs.items old.place old.shown old.acts.items old.marks.items old.lines first held word clock
+            (there ∙ ap (λ n. Some (Turn n word clock)) none) run live body at held' (subst (λ (v : Visible). Becomes held held' (λ x y. y ≡ x ++ visible_line v)) visible_is writes)
+
+    pub breaks_on : (n : ℕ) × (n ≤ length (visible_line visible)) × Becomes held held' (λ x y. y ≡ x ++ take n (visible_line visible))
+        → TornAs (guests_of images rest) schedule w.acts.items w.marks.items w.lines first held'
+    breaks_on writes = rw (acts_at, takes.lines, takes.marks) (by entry zero is)
+      where
+        by : (e : Entry) → process_of e ≡ 0 → slice_get schedule (length old.marks.items) ≡ Some e
+            → TornAs (guests_of images rest) schedule (acts_now e) old.marks.items old.lines first held'
+        by (Turn q word clock) none there = showing_breaks images rest schedule old.guest old.inputs.items old.place old.shown old.acts.items old.marks.items old.lines first held word clock
+            (there ∙ ap (λ n. Some (Turn n word clock)) none) run live body at held'
+            (subst (λ (v : Visible). (n : ℕ) × (n ≤ length (visible_line v)) × Becomes held held' (λ x y. y ≡ x ++ take n (visible_line v))) visible_is writes)
+
+pub idle_on : (images : List Image) (rest : List (List (List ℕ))) (schedule : List Entry) (guest : Guest) (inputs : List (List ℕ)) (place shown : ℕ) (acts : List Taken) (marks marks' : List Mark) (lines : ℕ) (first held : Option (List ℕ)) (entry : Entry)
     → process_of entry ≡ 0 → guest.ended ≡ true → marks' ≡ marks ++ mark.Idle Ended ∷ []
-    → slice_get schedule (length marks) ≡ Some entry → RunsAs (guests_of images inputs) schedule guest shown acts marks lines first held → RunsAs (guests_of images inputs) schedule guest shown acts marks' lines first held
-idle_on images inputs schedule guest shown acts marks marks' lines first held (Turn q word clock) zero ended marks_are is run =
-    rw marks_are (idle_runs images inputs schedule guest shown acts marks lines first held word clock (is ∙ ap (λ n. Some (Turn n word clock)) zero) run ended)
+    → slice_get schedule (length marks) ≡ Some entry → RunsAs (guests_of images rest) schedule guest inputs place shown acts marks lines first held → RunsAs (guests_of images rest) schedule guest inputs place shown acts marks' lines first held
+idle_on images rest schedule guest inputs place shown acts marks marks' lines first held (Turn q word clock) zero ended marks_are is run =
+    rw marks_are (idle_runs images rest schedule guest inputs place shown acts marks lines first held word clock (is ∙ ap (λ n. Some (Turn n word clock)) zero) run ended)
 
 nothing_written : (held : Option (List ℕ)) → Becomes held held (λ x y. y ≡ x ++ [])
 nothing_written None = tt
 nothing_written (Some x) = sym (append-nil x)
 
 -- a run at its beginning
-pub begins : (memory : List ℕ) (entry : ℕ) (inputs : List (List (List ℕ))) (schedule : List Entry) (held : Option (List ℕ)) (guest : Guest) (acts : List Taken) (marks : List Mark)
+pub begins : (memory : List ℕ) (entry : ℕ) (inputs : List (List ℕ)) (all : List (List (List ℕ))) (schedule : List Entry) (held : Option (List ℕ)) (guest : Guest) (acts : List Taken) (marks : List Mark)
     → guest ≡ started 0 1 (Some (record { memory = memory; entry = entry })) → acts ≡ [] → marks ≡ []
-    → RunsAs (guests_of (record { memory = memory; entry = entry } ∷ []) inputs) schedule guest 0 acts marks 0 held held
-begins memory entry inputs schedule held guest acts marks guest_is acts_are marks_are = rw (guest_is, acts_are, marks_are) (record {
+    → (guests_of (record { memory = memory; entry = entry } ∷ []) all).inputs 0 ≡ inputs
+    → RunsAs (guests_of (record { memory = memory; entry = entry } ∷ []) all) schedule guest inputs 0 0 acts marks 0 held held
+begins memory entry inputs all schedule held guest acts marks guest_is acts_are marks_are inputs_are = rw (guest_is, acts_are, marks_are) (record {
   core = opened_core;
+  one = refl;
+  inputs_are = inputs_are;
   led = refl;
   guest_is = refl;
+  place_is = refl;
   said = refl;
   acts_are = refl;
   count = refl;

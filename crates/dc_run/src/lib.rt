@@ -1,6 +1,7 @@
 //! The program's call: a guest runs under a schedule, and what users see is what the guest shows when nothing fails.
 #![tactic(auto)]
 
+mod answer;
 mod assembling;
 mod command;
 mod guest;

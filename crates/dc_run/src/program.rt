@@ -120,7 +120,7 @@ fn carry_out<O: Sink>(alloc: Global, setting: Setting, out: &mut O) -> Result<Ou
         entry,
         schedule,
     } = setting;
-    let mut world = World::open(alloc, memory, entry, schedule.len())?;
+    let mut world = World::open(alloc, memory, entry, Vec::new(alloc), schedule.len())?;
     match world.run(&schedule, out) {
         Err(_) => Ok(world.outcome(Verdict::SinkFault(Outlet::Out))),
         Ok(()) => {

@@ -1,26 +1,34 @@
-ghost use Rattle.std.specs.Prelude.{◌≡◌, ◌≤◌, ◌<◌, ◌+◌, ◌%◌, ◌∷◌, [], ℕ, All, List, Option, length, IfOk, OnOk, OnErr};
+ghost use Rattle.std.specs.Prelude.{false, ◌≡◌, ◌≤◌, ◌<◌, ◌+◌, ◌%◌, ◌∷◌, [], ℕ, All, List, Option, length, slice_get, IfOk, OnOk, OnErr};
 ghost use Rattle.dc_media.specs.Causes.{HasCause};
 ghost use Rattle.dc_media.specs.Sinks.{TakesWhole};
 ghost use Rattle.dc_media.specs.Told.{TellsOn};
 ghost use Rattle.dc_plain.specs.Lines.{visible_line};
-ghost use Rattle.dc_run.specs.Running.{GoesOn, BreaksOff, HasRoom, IsRunning, RunsOn, RunsInto};
+ghost use Rattle.dc_run.specs.Answers.{draw_of, turn_draws};
+ghost use Rattle.dc_run.specs.Guests.{IsShownBy};
+ghost use Rattle.dc_run.specs.Running.{Takes, GoesOn, BreaksOff, HasRoom, IsRunning, RunsOn, RunsInto};
 ghost use Rattle.dc_run.specs.Schedules.{process_of};
-ghost use Rattle.dc_plain.specs.Guest.{guests_of};
+ghost use Rattle.dc_plain.specs.Guest.{coming, guests_of};
 ghost use Rattle.dc_plain.specs.declared.entry.Entry.{Entry as Entries};
 
+use crate::answer::Draw;
 use crate::guest::Guest;
 use crate::memory::words_in;
 use crate::outcome::Outcome;
 use crate::reserved::Reserved;
 use crate::{Did, Verdict};
+use dc_links::Message;
 use dc_media::{Sink, SinkFailed, write_whole};
-use dc_plain::{Act, Entry, Idle, Mark, Taken, Visible, line_of};
+use dc_plain::{Body, Entry, Idle, Mark, Taken, Visible, line_of};
 use std::alloc::{AllocError, Global};
 
 /// The guest of a run, with what it did so far.
 #[derive(Drop)]
 pub struct World {
     pub guest: Guest,
+    /// The records of its input.
+    pub inputs: Vec<Message>,
+    /// How many of them it has taken.
+    pub place: u32,
     /// How many records it has shown.
     pub shown: u32,
     pub acts: Reserved<Taken>,
@@ -38,6 +46,15 @@ fn process(entry: &Entry) -> u32
     }
 }
 
+/// What a turn is answered from, where this record of the input is the next.
+fn draw(entry: &Entry, next: Option<Message>) -> Draw
+    ensures { draw_of result ≡ turn_draws entry.now next }
+{
+    match *entry {
+        Entry::Turn { word, clock, .. } => Draw { word, clock, next },
+    }
+}
+
 /// Writes the line of a visible record.
 fn show<O: Sink>(visible: &Visible, out: &mut O) -> Result<(), SinkFailed>
     ensures held { TakesWhole (visible_line visible.now) result (O.held out.old) (O.held out.new) }
@@ -48,18 +65,19 @@ fn show<O: Sink>(visible: &Visible, out: &mut O) -> Result<(), SinkFailed>
 }
 
 impl World {
-    /// A guest that begins with this memory at this entry, with room for so many turns.
+    /// A guest that begins with this memory at this entry, with these records as its input, and with room for so many turns.
     pub fn open(
         alloc: Global,
         memory: Vec<u8>,
         entry: u32,
+        inputs: Vec<Message>,
         entries: usize,
     ) -> Result<World, AllocError>
         requires long { length memory.items ≡ 65536 }
         requires aligned { entry % 4 ≡ 0 }
         requires few { entries ≤ 1000000 }
-        ensures begins { IfOk result (λ w. (inputs : List (List (List ℕ))) (schedule : List Entries) (held : Option (List ℕ)) →
-            IsRunning (guests_of (record { memory = memory.items; entry = entry } ∷ []) inputs) schedule w held held) }
+        ensures begins { IfOk result (λ w. (all : List (List (List ℕ))) (schedule : List Entries) (held : Option (List ℕ)) →
+            let G = guests_of (record { memory = memory.items; entry = entry } ∷ []) all in G.inputs 0 ≡ inputs.items → IsRunning G schedule w held held) }
         ensures unmarked { IfOk result (λ w. length w.marks.items ≡ 0) }
         ensures room { IfOk result (λ w. HasRoom w entries) }
     {
@@ -69,12 +87,42 @@ impl World {
         let mut marks = Reserved::new(alloc);
         marks.reserve(entries)?;
         Ok(World {
-            guest: Guest::new(words, entry),
+            guest: Guest::new(0, 1, words, entry),
+            inputs,
+            place: 0,
             shown: 0,
             acts,
             marks,
             lines: 0,
         })
+    }
+
+    /// The record of its input that the guest takes next, if there is one.
+    fn next_input(&self) -> Option<Message>
+        ensures { result ≡ slice_get self.now.inputs.items self.now.place }
+    {
+        self.inputs.get(self.place as usize).copied()
+    }
+
+    /// Takes the guest's next event at an entry of its own: adds the act, and says what the event shows.
+    fn take(&mut self, entry: &Entry) -> Option<Body>
+        requires live { self.old.guest.ended ≡ false }
+        requires room { HasRoom self.old 1 }
+        ensures taken { Takes self.old self.new entry.now }
+        ensures shown { IsShownBy result (coming self.old.guest) }
+        ensures few { self.new.place ≤ self.old.place + 1 }
+        ensures room { self.old.acts.room ≤ self.new.acts.room }
+    {
+        let t = self.marks.as_slice().len() as u32;
+        let next = self.next_input();
+        let (answer, body) = self.guest.turn(&draw(entry, next));
+        self.acts.push(Taken {
+            t,
+            p: process(entry),
+            act: answer.act(),
+        });
+        self.place += answer.records();
+        body
     }
 
     /// One entry. After a fault of the sink the act stands and the entry has no mark.
@@ -93,21 +141,14 @@ impl World {
             self.marks.push(Mark::Idle(Idle::Ended));
             return Ok(());
         }
-        let t = self.marks.as_slice().len() as u32;
-        let p = process(entry);
-        self.acts.push(Taken {
-            t,
-            p,
-            act: Act::Plain,
-        });
-        match self.guest.turn() {
+        match self.take(entry) {
             None => {
                 self.marks.push(Mark::Stepped);
                 Ok(())
             }
             Some(body) => {
                 let visible = Visible {
-                    p,
+                    p: process(entry),
                     k: self.shown,
                     body,
                 };

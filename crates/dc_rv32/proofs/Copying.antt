@@ -1,6 +1,7 @@
 -- Bytes copied one after the other.
-use Rattle.std.proofs.Common.{◌≡◌, ◌∙◌, ◌+◌, ◌-◌, ◌<◌, ◌≤◌, ◌∷◌, ◌++◌, ℕ, List, [], length, drop, take, set, slice_index, ap, sym, arith, length-drop, length-take-le}
-use Rattle.std.proofs.lemmas.List.{append_assoc, drop_more, get_or-drop, set_at, take_more}
+use Rattle.std.proofs.Common.{◌≡◌, ◌∙◌, ◌+◌, ◌-◌, ◌<◌, ◌≤◌, ◌∷◌, ◌++◌, ℕ, List, [], length, drop, take, set, slice_index, ap, sym, arith, length-append, length-drop, length-take-le}
+use Rattle.std.proofs.lemmas.List.{append-nil, append_assoc, drop-drop, drop_at, drop_more, get_or-drop, set_at, take-append-drop, take_at, take_more}
+use Rattle.dc_rv32.specs.Words.{with_bytes}
 
 -- one byte more
 pub read_more : (bytes to old : List ℕ) (from i x : ℕ) → i < length old → from + length old ≤ length bytes → x ≡ slice_index bytes (from + i)
@@ -19,3 +20,37 @@ read_more bytes to old from i x more within is so_far =
 
     long : length (take i (drop from bytes)) ≡ i
     long = length-take-le i (drop from bytes) (omega (arith, inside))
+
+-- bytes written in two parts
+pub with_more : (memory front rest : List ℕ) (a : ℕ) → a + length front ≤ length memory
+    → with_bytes memory a (front ++ rest) ≡ with_bytes (with_bytes memory a front) (a + length front) rest
+with_more memory front rest a within =
+    ap (λ xs. xs ++ drop (a + length (front ++ rest)) memory) (sym (append_assoc (take a memory) front rest))
+    ∙ ap (λ xs. (take a memory ++ front) ++ rest ++ xs) (ap (λ n. drop n memory) ends ∙ sym left)
+    ∙ ap (λ xs. xs ++ rest ++ drop (a + length front + length rest) (with_bytes memory a front)) (sym (take_at (take a memory ++ front) _ _ begins))
+  where
+    begins : length (take a memory ++ front) ≡ a + length front
+    begins = length-append (take a memory) front ∙ ap (λ n. n + length front) (length-take-le a memory (omega (arith, within)))
+
+    ends : a + length (front ++ rest) ≡ a + length front + length rest
+    ends = omega (arith, length-append front rest)
+
+    left : drop (a + length front + length rest) (with_bytes memory a front) ≡ drop (a + length front + length rest) memory
+    left = sym (drop-drop (length rest) (a + length front) (with_bytes memory a front))
+        ∙ ap (drop (length rest)) (drop_at (take a memory ++ front) (drop (a + length front) memory) (a + length front) begins)
+        ∙ drop-drop (length rest) (a + length front) memory
+
+-- the next part written
+pub part_written : (first now new bytes rest front back : List ℕ) (start at count : ℕ)
+    → with_bytes first start bytes ≡ with_bytes now at rest → rest ≡ front ++ back → length front ≡ count → at + length front ≤ length now
+    → new ≡ with_bytes now at front → with_bytes first start bytes ≡ with_bytes new (at + count) back
+part_written first now new bytes rest front back start at count whole parts long within written =
+    whole ∙ ap (with_bytes now at) parts ∙ with_more now front back at within
+    ∙ ap (λ m. with_bytes m (at + length front) back) (sym written) ∙ ap (λ n. with_bytes new (at + n) back) long
+
+-- nothing written
+pub nothing_left : (memory : List ℕ) (a : ℕ) → with_bytes memory a [] ≡ memory
+nothing_left memory a = ap (λ n. take a memory ++ [] ++ drop n memory) none ∙ ap (λ xs. xs ++ drop a memory) (append-nil (take a memory)) ∙ take-append-drop a memory
+  where
+    none : a + 0 ≡ a
+    none = omega arith

@@ -1,8 +1,9 @@
-ghost use Rattle.std.specs.Prelude.{◌≡◌, ◌≤◌, ◌<◌, ◌+◌, ◌*◌, ◌^◌, drop, length, slice_index, take};
-ghost use Rattle.dc_words.specs.Words.{bytes_in};
+ghost use Rattle.std.specs.Prelude.{◌≡◌, ◌≤◌, ◌<◌, ◌+◌, ◌*◌, ◌%◌, ◌^◌, OnErr, OnOk, drop, length, slice_index, take};
+ghost use Rattle.dc_rv32.specs.Words.{with_bytes};
+ghost use Rattle.dc_words.specs.Words.{bytes_in, word_at, word_bytes};
 
 use crate::Bus;
-use crate::memory::bits_at;
+use crate::memory::{bits_at, put};
 
 /// The byte at an address.
 fn byte_at<B: Bus>(bus: &B, at: u32) -> u8
@@ -21,4 +22,66 @@ pub fn read_bytes<B: Bus>(bus: &B, from: u32, to: &mut [u8])
     for (i, byte) in to.iter_mut().enumerate() {
         *byte = byte_at(bus, from + i as u32);
     }
+}
+
+/// The word at an address, the lowest byte first. Where the address is a multiple of four it is one word of the memory.
+pub fn word_from<B: Bus>(bus: &B, at: u32) -> u32
+    requires within { at + 4 ≤ 4 * length (B.memory bus.now) }
+    requires short { at + 4 < 2 ^ 32 }
+    ensures { result ≡ word_at (bytes_in (B.memory bus.now)) at }
+{
+    if at % 4 == 0 {
+        return bits_at(bus, at);
+    }
+    let mut bytes = [0; 4];
+    read_bytes(bus, at, &mut bytes);
+    u32::from_le_bytes(bytes)
+}
+
+/// Stores bytes that lie in one word.
+fn put_bytes<B: Bus>(bus: &mut B, at: u32, bytes: &[u8]) -> Result<(), B::Stop>
+    requires some { 0 < length bytes.now }
+    requires one_word { at % 4 + length bytes.now ≤ 4 }
+    requires within { at < 4 * length (B.memory bus.old) }
+    ensures written { OnOk result (bytes_in (B.memory bus.new) ≡ with_bytes (bytes_in (B.memory bus.old)) at bytes.now) }
+    ensures long { length (B.memory bus.new) ≡ length (B.memory bus.old) }
+    ensures stopped { OnErr result (B.stops bus.old < B.stops bus.new) }
+    ensures later { B.stops bus.old ≤ B.stops bus.new }
+{
+    put(bus, at, packed(bytes), bytes.len() as u32)
+}
+
+/// The word whose first bytes these are, the lowest first, the others being zero.
+fn packed(bytes: &[u8]) -> u32
+    requires word { length bytes.now ≤ 4 }
+    ensures { take (length bytes.now) (word_bytes result) ≡ bytes.now }
+{
+    match *bytes {
+        [] => 0,
+        [a] => u32::from_le_bytes([a, 0, 0, 0]),
+        [a, b] => u32::from_le_bytes([a, b, 0, 0]),
+        [a, b, c] => u32::from_le_bytes([a, b, c, 0]),
+        [a, b, c, d, ..] => u32::from_le_bytes([a, b, c, d]),
+    }
+}
+
+/// Puts bytes into the memory from an address on: one store for each word that they touch, the lowest first.
+pub fn write_bytes<B: Bus>(bus: &mut B, at: u32, bytes: &[u8]) -> Result<(), B::Stop>
+    requires within { at + length bytes.now ≤ 4 * length (B.memory bus.old) }
+    requires short { at + length bytes.now < 2 ^ 32 }
+    ensures written { OnOk result (bytes_in (B.memory bus.new) ≡ with_bytes (bytes_in (B.memory bus.old)) at bytes.now) }
+    ensures long { length (B.memory bus.new) ≡ length (B.memory bus.old) }
+    ensures stopped { OnErr result (B.stops bus.old < B.stops bus.new) }
+    ensures later { B.stops bus.old ≤ B.stops bus.new }
+{
+    let mut at = at;
+    let mut rest = bytes;
+    while !rest.is_empty() {
+        let count = rest.len().min(4 - at as usize % 4);
+        let (piece, after) = rest.split_at(count);
+        put_bytes(bus, at, piece)?;
+        at += count as u32;
+        rest = after;
+    }
+    Ok(())
 }

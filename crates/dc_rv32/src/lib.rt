@@ -11,5 +11,5 @@ mod memory;
 mod tests;
 
 pub use bus::Bus;
-pub use bytes::read_bytes;
+pub use bytes::{read_bytes, write_bytes};
 pub use machine::{Stepped, step};

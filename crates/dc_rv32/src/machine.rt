@@ -6,6 +6,7 @@ ghost use Rattle.dc_rv32.specs.Machine.{machine_of, meaning, stepped, written, U
 use crate::Bus;
 use crate::arithmetic::{of_immediate, of_registers, of_shift, of_upper, sign_extended};
 use crate::branches::{branch, is_taken, jump};
+use crate::bytes::word_from;
 use crate::memory::{load, store};
 use dc_isa::{Instr, Regs, decode};
 
@@ -112,22 +113,21 @@ fn run<B: Bus>(regs: &mut Regs, bus: &mut B, instr: &Instr) -> Result<Stepped, B
     }
 }
 
-/// One step of the machine. Its pc is a multiple of four, before and after.
+/// One step of the machine. A pc that is a multiple of four stays one.
 pub fn step<B: Bus>(regs: &mut Regs, bus: &mut B) -> Result<Stepped, B::Stop>
-    requires { regs.old.pc % 4 ≡ 0 }
     ensures stepped { IfOk result (λ s. (machine_of regs.new (B.memory bus.new), s) ≡ stepped (machine_of regs.old (B.memory bus.old))) }
     ensures long { length (B.memory bus.new) ≡ length (B.memory bus.old) }
     ensures stopped { OnErr result (B.stops bus.old < B.stops bus.new) }
     ensures later { B.stops bus.old ≤ B.stops bus.new }
     ensures kept { OnErr result (regs.new ≡ regs.old) }
-    ensures aligned { OnOk result (regs.new.pc % 4 ≡ 0) }
+    ensures aligned { regs.old.pc % 4 ≡ 0 → regs.new.pc % 4 ≡ 0 }
     ensures zero { slice_index regs.old.x 0 ≡ 0 → slice_index regs.new.x 0 ≡ 0 }
     ensures unchanged { IfOk result (λ s. UnlessRetired s ((regs.new ≡ regs.old) × (B.memory bus.new ≡ B.memory bus.old))) }
 {
     if u64::from(regs.pc) + 4 > u64::from(bus.size()) {
         return Ok(Stepped::Trap(NO_WORD));
     }
-    match decode(bus.load(regs.pc / 4)) {
+    match decode(word_from(bus, regs.pc)) {
         Some(instr) => run(regs, bus, &instr),
         None => Ok(Stepped::Trap(ILLEGAL)),
     }

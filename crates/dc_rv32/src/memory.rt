@@ -1,5 +1,5 @@
-ghost use Rattle.std.specs.Prelude.{◌≡◌, ◌<◌, ◌≤◌, ◌+◌, ◌-◌, ◌*◌, ◌%◌, ◌^◌, length, nat_lt, slice_index, IfOk, OnOk, OnErr};
-ghost use Rattle.dc_words.specs.Words.{bytes_in, half_at, word_at};
+ghost use Rattle.std.specs.Prelude.{◌≡◌, ◌<◌, ◌≤◌, ℕ, ◌+◌, ◌-◌, ◌*◌, ◌%◌, ◌^◌, length, nat_lt, take, slice_index, IfOk, OnOk, OnErr};
+ghost use Rattle.dc_words.specs.Words.{bytes_in, half_at, word_at, word_bytes};
 ghost use Rattle.dc_rv32.specs.Access.{load_width, loaded, store_width, stored};
 ghost use Rattle.dc_rv32.specs.Machine.{machine_of, loading, storing, UnlessRetired};
 ghost use Rattle.dc_rv32.specs.Words.{with_bytes};
@@ -33,6 +33,7 @@ fn load_width(op: LoadOp) -> u32
 fn store_width(op: StoreOp) -> u32
     ensures width { result ≡ store_width op }
     ensures some { 0 < result }
+    ensures one_word { (a : ℕ) → a % result ≡ 0 → a % 4 + result ≤ 4 }
 {
     match op {
         StoreOp::Sb => 1,
@@ -41,14 +42,17 @@ fn store_width(op: StoreOp) -> u32
     }
 }
 
-/// The bits of the bytes that a store writes.
-fn store_mask(op: StoreOp) -> u32
-    ensures { result ≡ 2 ^ (8 * store_width op) - 1 }
+/// The bits of the first bytes of a word, so many of them.
+fn mask_of(width: u32) -> u32
+    requires some { 0 < width }
+    requires word { width ≤ 4 }
+    ensures { result ≡ 2 ^ (8 * width) - 1 }
 {
-    match op {
-        StoreOp::Sb => 0xff,
-        StoreOp::Sh => 0xffff,
-        StoreOp::Sw => 0xffff_ffff,
+    match width {
+        1 => 0xff,
+        2 => 0xffff,
+        3 => 0xff_ffff,
+        _ => 0xffff_ffff,
     }
 }
 
@@ -79,18 +83,19 @@ fn loaded<B: Bus>(bus: &B, op: LoadOp, a: u32) -> u32
     }
 }
 
-/// Stores bytes of a word at an address.
+/// Stores the first bytes of a word at an address, so many of them, where they lie in one word.
 #[tactic(auto, using(crate::proofs::Writing::after_store))]
-fn put<B: Bus>(bus: &mut B, op: StoreOp, a: u32, w: u32) -> Result<(), B::Stop>
-    requires aligned { a % store_width op ≡ 0 }
+pub fn put<B: Bus>(bus: &mut B, a: u32, w: u32, width: u32) -> Result<(), B::Stop>
+    requires some { 0 < width }
+    requires one_word { a % 4 + width ≤ 4 }
     requires within { a < 4 * length (B.memory bus.old) }
-    ensures stored { OnOk result (bytes_in (B.memory bus.new) ≡ with_bytes (bytes_in (B.memory bus.old)) a (stored op w)) }
+    ensures stored { OnOk result (bytes_in (B.memory bus.new) ≡ with_bytes (bytes_in (B.memory bus.old)) a (take width (word_bytes w))) }
     ensures long { length (B.memory bus.new) ≡ length (B.memory bus.old) }
     ensures stopped { OnErr result (B.stops bus.old < B.stops bus.new) }
     ensures later { B.stops bus.old ≤ B.stops bus.new }
 {
     let place = 8 * (a % 4);
-    bus.store(a / 4, w << place, store_mask(op) << place)
+    bus.store(a / 4, w << place, mask_of(width) << place)
 }
 
 /// Whether an access goes past the memory.
@@ -144,6 +149,6 @@ pub fn store<B: Bus>(
     if is_past(bus, a, width) {
         return Ok(Stepped::Trap(STORE_FAULT));
     }
-    put(bus, op, a, w)?;
+    put(bus, a, w, width)?;
     Ok(advance(regs))
 }

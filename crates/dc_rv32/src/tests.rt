@@ -1,6 +1,6 @@
 ghost use Rattle.std.specs.Prelude.{◌≡◌, ◌-◌, ◌^◌};
 
-use crate::{Bus, Stepped, read_bytes, step};
+use crate::{Bus, Stepped, read_bytes, step, write_bytes};
 use dc_isa::Regs;
 
 /// A store that was stopped.
@@ -353,4 +353,38 @@ fn bytes_are_read_from_any_address(rt: HostRuntime) {
     read_bytes(&memory, 15, &mut last);
     assert_eq!(rt; last, [0x80]);
     read_bytes(&memory, 16, &mut []);
+}
+
+#[test]
+fn bytes_are_written_to_any_address(rt: HostRuntime) {
+    // The bytes 44 33 22 11, dd cc bb aa, 04 03 02 01, 00 00 00 80.
+    let words = [0x1122_3344, 0xaabb_ccdd, 0x0102_0304, 0x8000_0000];
+    let mut memory = holding(words);
+    assert_eq!(rt; write_bytes(&mut memory, 3, &[1, 2, 3, 4, 5, 6]), Ok(()));
+    assert_eq!(rt;
+        memory.words,
+        [0x0122_3344, 0x0504_0302, 0x0102_0306, 0x8000_0000]
+    );
+    assert_eq!(rt; write_bytes(&mut memory, 13, &[7, 8]), Ok(()));
+    assert_eq!(rt; memory.words[3], 0x8008_0700);
+    assert_eq!(rt; write_bytes(&mut memory, 16, &[]), Ok(()));
+    assert_eq!(rt; memory.words[3], 0x8008_0700);
+}
+
+#[test]
+fn a_stopped_write_says_so(rt: HostRuntime) {
+    let mut memory = Memory {
+        words: [0, 0, 0, 0],
+        stops_to_come: 1,
+    };
+    assert_eq!(rt; write_bytes(&mut memory, 0, &[1, 2, 3, 4, 5]), Err(Stopped));
+}
+
+#[test]
+fn a_step_runs_the_word_at_any_pc(rt: HostRuntime) {
+    // At 2, over two words of the memory: addi x5, x6, 1
+    let mut memory = holding([0x0293_0000, 0x0000_0013, 0, 0]);
+    let mut regs = start(7, 0, 2);
+    assert_eq!(rt; step(&mut regs, &mut memory), Ok(Stepped::Retired));
+    assert_eq!(rt; regs, with_x5(8, 7, 0, 6));
 }

@@ -1,4 +1,4 @@
-use Rattle.std.proofs.Common.{arith, ◌∙◌, ap, sym, rules, Option}
+use Rattle.std.proofs.Common.{◌∙◌, ap, sym, rules, Option}
 use Rattle.std.proofs.lemmas.Result.{IfOk-weaker}
 use Rattle.dc_isa.specs.Decoded.{decoded}
 use Rattle.dc_isa.specs.declared.instr.Instr.{Instr}
@@ -13,8 +13,8 @@ pub returns-in-Some-clause-stepped : goal.returns-in-Some-clause-stepped
 returns-in-Some-clause-stepped g c =
     let regs = c.args.regs.now in
     let words = g.B.Bus.memory c.args.bus.now in
-    let word = at_word regs words (let r = c.load.type_inv in let e = c.load.ensures in omega (arith, r, e)) c.requires (search rules) in
-    let coded = ap decoded (sym c.load.ensures) ∙ sym c.in-Some.ensures.exact in
+    let word = at_word regs words (search rules) in
+    let coded = ap decoded (sym c.word_from.ensures) ∙ sym c.in-Some.ensures.exact in
     let after = sym (word ∙ ap (λ (o : Option Instr). meaning_or_trap o (machine_of regs words)) coded) in
     IfOk-weaker c.run.result _ _ (λ s is. is ∙ after) c.run.ensures.meaning
 
@@ -22,6 +22,6 @@ pub returns-in-None-clause-stepped : goal.returns-in-None-clause-stepped
 returns-in-None-clause-stepped g c =
     let regs = c.args.regs.now in
     let words = g.B.Bus.memory c.args.bus.now in
-    let word = at_word regs words (let r = c.load.type_inv in let e = c.load.ensures in omega (arith, r, e)) c.requires (search rules) in
-    let coded = ap decoded (sym c.load.ensures) ∙ sym c.in-None.ensures.exact in
+    let word = at_word regs words (search rules) in
+    let coded = ap decoded (sym c.word_from.ensures) ∙ sym c.in-None.ensures.exact in
     sym (word ∙ ap (λ (o : Option Instr). meaning_or_trap o (machine_of regs words)) coded)

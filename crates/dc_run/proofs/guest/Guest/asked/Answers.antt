@@ -6,8 +6,8 @@ use Rattle.dc_run.proofs.guest.Guest.asked.Goals as goal
 
 pub returns : goal.returns
 returns c = rw (← c.self.view_is) (record {
-  exact = c.read_call.ensures.exact ∙ ap (λ n. call_of c.self.inside.regs.x n 0 1) (sym size);
-  fits = subst (λ n. Fits n c.read_call.result) (sym size) c.read_call.ensures.fits;
+  exact = c.read_call.ensures.exact ∙ ap (λ n. call_of c.self.inside.regs.x n c.self.inside.number c.self.inside.count) (sym size);
+  fits = subst (λ n. Fits n c.self.inside.number c.self.inside.count c.read_call.result) (sym size) c.read_call.ensures.fits;
 })
   where
     size : length (bytes_in c.self.inside.memory.words.items) ≡ 65536

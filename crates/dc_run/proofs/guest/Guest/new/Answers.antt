@@ -13,8 +13,8 @@ returns c = ap begun (sym size)
     -- by the size of the memory
     begun : ℕ → Guest
     begun n = record {
-      number = 0;
-      count = 1;
+      number = c.args.number;
+      count = c.args.count;
       machine = record { registers = slice_set (replicate 32 0) 2 (n - 16); pc = c.args.entry; memory = bytes_in c.args.words.items };
       ended = false;
     }

@@ -1,0 +1,44 @@
+-- What a guest that runs alone is answered.
+use Rattle.std.specs.Prelude.{ℕ, ◌%◌, ◌==◌, List, Option, if◌then◌else◌}
+use Rattle.dc_events.specs.declared.event.Kind.{Kind}
+use Rattle.dc_events.specs.declared.event.Kind.TheVariants as kind
+use Rattle.dc_plain.specs.Core.{input_answer}
+use Rattle.dc_plain.specs.declared.entry.Entry.{Entry}
+use Rattle.dc_plain.specs.declared.entry.Entry.TheVariants.{Turn}
+use Rattle.dc_plain.specs.World.{Answer}
+use Rattle.dc_plain.specs.World.Answer.{Plain, Clock, Random, InputNone, InputNext, InputEnd, ReceiveNone, ReceiveFrom}
+use Rattle.dc_run.specs.declared.answer.Answer.{Answer as Code}
+use Rattle.dc_run.specs.declared.answer.Answer.TheVariants as code
+use Rattle.dc_run.specs.declared.answer.Draw as declared
+
+-- an answer as the failure-free world has it
+abbrev pub answer_of : Code → Answer
+answer_of code.Plain = Plain
+answer_of (code.Clock v) = Clock v
+answer_of (code.Random v) = Random v
+answer_of code.InputNone = InputNone
+answer_of (code.InputNext bytes) = InputNext bytes
+answer_of code.InputEnd = InputEnd
+answer_of code.ReceiveNone = ReceiveNone
+answer_of (code.ReceiveFrom s message) = ReceiveFrom s message
+
+-- a turn's word and clock, and the next record of the input
+pub record Draw : Type 0 where
+  pub word : ℕ
+  pub clock : ℕ
+  pub next : Option (List ℕ)
+
+abbrev pub draw_of : declared.Draw → Draw
+draw_of d = record { word = d.word; clock = d.clock; next = d.next }
+
+-- what a turn is answered from
+abbrev pub turn_draws : Entry → Option (List ℕ) → Draw
+turn_draws (Turn p word clock) next = record { word = word; clock = clock; next = next }
+
+-- what an event of a kind is answered where no other guest can have sent a message
+abbrev pub alone : Draw → Kind → Answer
+alone d kind.Clock = Clock d.clock
+alone d kind.Random = Random d.word
+alone d kind.Input = if d.word % 2 == 1 then input_answer d.next else InputNone
+alone d kind.Receive = ReceiveNone
+alone d _ = Plain
