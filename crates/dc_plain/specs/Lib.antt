@@ -1,6 +1,9 @@
 pub mod World
 pub mod Guest
 pub mod Plain
+pub mod Answers
+pub mod Guests
+pub mod Playing
 pub mod Lines
 pub mod Drawn
 pub mod Core

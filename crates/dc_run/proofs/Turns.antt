@@ -1,10 +1,13 @@
 -- How a run goes on by one entry.
-use Rattle.std.proofs.Common.{◌≢◌, ◌==◌, ◌||◌, ◌%◌, Bool, false, if◌then◌else◌, ◌≡◌, ◌∙◌, ◌+◌, ◌≤◌, ℕ, true, List, [], ◌∷◌, ◌++◌, length, reverse, take, Option, None, Some, ap, sym, subst, refl, arith, slice_get, append_assoc}
+use Rattle.std.proofs.Common.{⊎_elim, ◌⊎◌, ◌≢◌, ◌==◌, ◌||◌, ◌%◌, Bool, false, if◌then◌else◌, ◌≡◌, ◌∙◌, ◌+◌, ◌≤◌, ℕ, true, List, [], ◌∷◌, ◌++◌, length, reverse, take, Option, None, Some, ap, sym, subst, refl, arith, slice_get, append_assoc}
 use Rattle.std.proofs.lemmas.List.{append-nil, reverse-append, length-reverse}
 use Rattle.std.proofs.lemmas.Option.{slice_get_within}
 use Rattle.dc_media.specs.Told.{Becomes}
 use Rattle.dc_media.proofs.Becoming.{Becomes-then}
 use Rattle.dc_plain.specs.Core.{Core, opened_core, LeadsTo, Turned, stands, coming_at, drawn, drawn_answer, after_event, after_turn, mark_of, receive_answer}
+use Rattle.dc_plain.specs.Answers.{effect_of}
+use Rattle.dc_plain.specs.declared.effect.Effect.{Effect}
+use Rattle.dc_plain.specs.declared.effect.Effect.TheVariants.{Nothing, Shows, Sends}
 use Rattle.dc_plain.specs.Guest.{Guest, guests_of, started, coming, after_answer, event_of, next_of}
 use Rattle.dc_elf.specs.Images.{Image}
 use Rattle.dc_plain.specs.Lines.{text_of, visible_line}
@@ -12,7 +15,6 @@ use Rattle.dc_plain.specs.Plain.{act_of, reported}
 use Rattle.dc_plain.specs.World.{Answer, Event, Guests, took_input, Local, moved, shown, shows, record_of}
 use Rattle.dc_plain.specs.World.Event.{AtEnd, AtInternal, AtClock, AtRandom, AtInput, AtReceive, AtVisible, AtSend}
 use Rattle.dc_plain.specs.World.{Answer as answer}
-use Rattle.dc_plain.specs.declared.act.Act.TheVariants as act
 use Rattle.dc_plain.specs.declared.act.Taken.{Taken}
 use Rattle.dc_plain.specs.declared.entry.Entry.{Entry}
 use Rattle.dc_plain.specs.declared.entry.Entry.TheVariants.{Turn}
@@ -21,6 +23,7 @@ use Rattle.dc_plain.specs.declared.mark.Mark.{Mark}
 use Rattle.dc_plain.specs.declared.mark.Mark.TheVariants as mark
 use Rattle.dc_plain.specs.declared.visible.Body.{Body}
 use Rattle.dc_plain.specs.declared.visible.Visible.{Visible}
+use Rattle.dc_plain.proofs.Fitting.{live_coming, not_ended}
 use Rattle.dc_plain.proofs.Leading.{leads_follow, stands_event}
 use Rattle.dc_calls.specs.declared.call.Call.TheVariants as calls
 use Rattle.dc_events.specs.Kinds.{kind_of}
@@ -28,8 +31,7 @@ use Rattle.dc_events.specs.declared.event.Next.{Next}
 use Rattle.dc_events.specs.declared.event.Next.TheVariants as next
 use Rattle.dc_rv32.specs.Machine.{Machine}
 use Rattle.std.proofs.lemmas.Bool.Decides.{nat_tests}
-use Rattle.dc_run.specs.Answers.{Draw, alone, turn_draws}
-use Rattle.dc_run.specs.Guests.{IsQuiet}
+use Rattle.dc_run.specs.Answers.{Draw, alone}
 use Rattle.dc_run.specs.Running.{IsRunning, RunsAs, Takes, TornAs, answer_at}
 use Rattle.dc_run.specs.declared.world.World.{World}
 use Rattle.dc_run.specs.Schedules.{process_of}
@@ -43,6 +45,42 @@ reverse_more x xs = reverse-append (x ∷ []) xs
 text_end : (records : List Visible) (x : Visible) → text_of (records ++ x ∷ []) ≡ text_of records ++ visible_line x
 text_end [] x = append-nil (visible_line x)
 text_end (y ∷ records) x = ap (λ text. visible_line y ++ text) (text_end records x) ∙ sym (append_assoc (visible_line y) (text_of records) (visible_line x))
+
+-- an event that shows nothing, of a guest that has not ended
+abbrev pub IsQuiet : Event → Type 0
+IsQuiet AtEnd = ⊥
+IsQuiet (AtVisible body) = ⊥
+IsQuiet _ = Unit {0}
+
+-- of which nothing, or a message, is seen
+quiet_by : (e : Event) (effect : Effect) → e ≢ AtEnd → effect ≡ effect_of e → ((body : Body) → effect ≢ Shows body) → IsQuiet e
+quiet_by AtEnd effect live is unshown = absurd (live refl)
+quiet_by AtInternal effect live is unshown = tt
+quiet_by AtClock effect live is unshown = tt
+quiet_by AtRandom effect live is unshown = tt
+quiet_by AtInput effect live is unshown = tt
+quiet_by AtReceive effect live is unshown = tt
+quiet_by (AtVisible body) effect live is unshown = absurd (unshown body is)
+quiet_by (AtSend to message) effect live is unshown = tt
+
+pub quiet_coming : (g : Guest) (effect : Effect) → g.ended ≡ false → effect ≡ effect_of (coming g) → ((body : Body) → effect ≢ Shows body) → IsQuiet (coming g)
+quiet_coming g effect live is unshown = quiet_by (coming g) effect (λ ended. not_ended (next_of g) g.machine (sym (live_coming g live) ∙ ended)) is unshown
+
+-- an effect that is not a record
+pub unshown : (effect : Effect) → (effect ≡ Nothing) ⊎ ((q : ℕ) × (message : List ℕ) × (effect ≡ Sends q message)) → (body : Body) → effect ≢ Shows body
+unshown effect is body shown = ⊎_elim
+    (λ (nothing : effect ≡ Nothing). let never : Nothing ≡ Shows body = sym nothing ∙ shown in cc)
+    (λ (sends : (q : ℕ) × (message : List ℕ) × (effect ≡ Sends q message)). let never : Sends sends.0 sends.1 ≡ Shows body = sym sends.2 ∙ shown in cc) is
+
+pub visible_by : (e : Event) (body : Body) → Shows body ≡ effect_of e → e ≡ AtVisible body
+visible_by AtEnd body is = absurd cc
+visible_by AtInternal body is = absurd cc
+visible_by AtClock body is = absurd cc
+visible_by AtRandom body is = absurd cc
+visible_by AtInput body is = absurd cc
+visible_by AtReceive body is = absurd cc
+visible_by (AtVisible shown) body is = let same : shown ≡ body = cc in ap AtVisible same
+visible_by (AtSend to message) body is = absurd cc
 
 -- an event that shows nothing is marked as stepped
 quiet_is : (p k : ℕ) (e : Event) → IsQuiet e → (mark_of e k ≡ mark.Stepped) × (shows e ≡ 0) × (record_of p k e ≡ []) × (e ≢ AtEnd)
@@ -163,7 +201,7 @@ module _ (images : List Image) (rest : List (List (List ℕ))) (schedule : List 
     later = after_event G' now (length (reverse marks)) 0 a
 
     event_is : coming guest ≡ event_of (next_of guest) guest.machine
-    event_is = ap (λ (b : Bool). if b then AtEnd else event_of (next_of guest) guest.machine) live
+    event_is = live_coming guest live
 
     answer_is : drawn_answer G' now 0 word clock (coming guest) ≡ a
     answer_is = ap (drawn_answer G' now 0 word clock) event_is ∙ drawn_alone images rest now word clock run.one (next_of guest) guest.machine

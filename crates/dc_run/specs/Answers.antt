@@ -6,21 +6,8 @@ use Rattle.dc_plain.specs.Core.{input_answer}
 use Rattle.dc_plain.specs.declared.entry.Entry.{Entry}
 use Rattle.dc_plain.specs.declared.entry.Entry.TheVariants.{Turn}
 use Rattle.dc_plain.specs.World.{Answer}
-use Rattle.dc_plain.specs.World.Answer.{Plain, Clock, Random, InputNone, InputNext, InputEnd, ReceiveNone, ReceiveFrom}
-use Rattle.dc_run.specs.declared.answer.Answer.{Answer as Code}
-use Rattle.dc_run.specs.declared.answer.Answer.TheVariants as code
-use Rattle.dc_run.specs.declared.answer.Draw as declared
-
--- an answer as the failure-free world has it
-abbrev pub answer_of : Code → Answer
-answer_of code.Plain = Plain
-answer_of (code.Clock v) = Clock v
-answer_of (code.Random v) = Random v
-answer_of code.InputNone = InputNone
-answer_of (code.InputNext bytes) = InputNext bytes
-answer_of code.InputEnd = InputEnd
-answer_of code.ReceiveNone = ReceiveNone
-answer_of (code.ReceiveFrom s message) = ReceiveFrom s message
+use Rattle.dc_plain.specs.World.Answer.{Plain, Clock, Random, InputNone, ReceiveNone}
+use Rattle.dc_run.specs.declared.draw.Draw as declared
 
 -- a turn's word and clock, and the next record of the input
 pub record Draw : Type 0 where

@@ -2,7 +2,6 @@ pub mod Command
 pub mod Plans
 pub mod Schedules
 pub mod Answers
-pub mod Guests
 pub mod Headline
 pub mod Outcomes
 pub mod Reserved

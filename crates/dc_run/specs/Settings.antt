@@ -1,7 +1,5 @@
 -- How the code's opening stands to the told files.
 use Rattle.std.specs.Prelude.{◌≡◌, ◌⊎◌, Bool, true, false, not, ◌&&◌, Result, Ok, Err}
-use Rattle.dc_elf.specs.Images.{Image}
-use Rattle.dc_elf.specs.declared.image.Image as loaded
 use Rattle.dc_run.specs.Opening.{Setting}
 use Rattle.dc_run.specs.declared.setting.Setting as code
 use Rattle.dc_run.specs.declared.verdict.Verdict.{Verdict}
@@ -28,10 +26,6 @@ is_refusal v = not (is_free v) && not (was_opened v)
 abbrev pub Agrees : {A X : Type 0} → (X → A) → Result X Verdict → Result A Verdict → Type 0
 Agrees view (Ok x) told = told ≡ Ok (view x)
 Agrees view (Err v) told = (is_free v ≡ true) ⊎ (told ≡ Err v)
-
--- an image as the definitions have it
-abbrev pub image_view : loaded.Image → Image
-image_view image = record { memory = image.memory.items; entry = image.entry }
 
 abbrev pub setting_of : code.Setting → Setting
 setting_of s = record { image = record { memory = s.memory.items; entry = s.entry }; schedule = s.schedule.items }

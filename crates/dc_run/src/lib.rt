@@ -1,11 +1,9 @@
 //! The program's call: a guest runs under a schedule, and what users see is what the guest shows when nothing fails.
 #![tactic(auto)]
 
-mod answer;
 mod assembling;
 mod command;
-mod guest;
-mod memory;
+mod draw;
 mod opening;
 mod outcome;
 mod plan;

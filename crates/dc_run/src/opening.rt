@@ -4,10 +4,10 @@ ghost use Rattle.dc_elf.specs.Files.{fault_of};
 ghost use Rattle.dc_run.specs.Opening.{AsksAtGuest, AsksAtPlan, AsksToRun, Files, file_in, opening_of, opening_at_plan, opening_at_guest, opening_at_end, guest_in};
 ghost use Rattle.dc_run.specs.Plans.{names_of};
 ghost use Rattle.dc_run.specs.Schedules.{process_of};
-ghost use Rattle.dc_run.specs.Settings.{Agrees, image_view, setting_of, was_opened};
+ghost use Rattle.dc_run.specs.Settings.{Agrees, setting_of, was_opened};
+ghost use Rattle.dc_plain.specs.Playing.{seen_image};
 ghost use Rattle.dc_run.specs.declared.verdict.Which.{Which as Whose};
 
-use crate::guest::SIZE;
 use crate::plan::{Plan, read_plan};
 use crate::schedule::read_schedule;
 use crate::setting::Setting;
@@ -15,6 +15,9 @@ use crate::{PlanFault, Unread, Verdict, Which};
 use dc_elf::{Image, LoadFault, load};
 use dc_media::{Fetch, Library};
 use std::alloc::Global;
+
+/// How many bytes of memory a guest has.
+const SIZE: u32 = 65_536;
 
 /// All the bytes of a file of the command.
 pub fn fetch<L: Library>(
@@ -41,7 +44,7 @@ pub fn fetch<L: Library>(
 
 /// The image of the guest's file.
 fn image_in(alloc: Global, file: &[u8]) -> Result<Image, Verdict>
-    ensures told { Agrees image_view result (guest_in file.now) }
+    ensures told { Agrees seen_image result (guest_in file.now) }
     ensures long { IfOk result (λ image. length image.memory.items ≡ 65536) }
     ensures aligned { IfOk result (λ image. image.entry % 4 ≡ 0) }
     ensures right { OnOk result (fault_of file.now 65536 ≡ None) }
@@ -60,7 +63,7 @@ fn image_in(alloc: Global, file: &[u8]) -> Result<Image, Verdict>
 fn settle(alloc: Global, image: Image, text: &[u8]) -> Result<Setting, Verdict>
     requires long { length image.memory.items ≡ 65536 }
     requires aligned { image.entry % 4 ≡ 0 }
-    ensures told { Agrees setting_of result (opening_at_end (image_view image) text.now) }
+    ensures told { Agrees setting_of result (opening_at_end (seen_image image) text.now) }
     ensures closed { IfErr result (λ v. was_opened v ≡ false) }
     ensures asked { ¬ (result ≡ Err Verdict.Usage) }
     ensures sound { (w : Whose) → IsErrOf result (Verdict.LibraryFault w) → ⊥ }

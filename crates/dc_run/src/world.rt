@@ -2,23 +2,21 @@ ghost use Rattle.std.specs.Prelude.{false, ◌≡◌, ◌≤◌, ◌<◌, ◌+�
 ghost use Rattle.dc_media.specs.Causes.{HasCause};
 ghost use Rattle.dc_media.specs.Sinks.{TakesWhole};
 ghost use Rattle.dc_media.specs.Told.{TellsOn};
+ghost use Rattle.dc_plain.specs.Answers.{effect_of};
 ghost use Rattle.dc_plain.specs.Lines.{visible_line};
 ghost use Rattle.dc_run.specs.Answers.{draw_of, turn_draws};
-ghost use Rattle.dc_run.specs.Guests.{IsShownBy};
 ghost use Rattle.dc_run.specs.Running.{Takes, GoesOn, BreaksOff, HasRoom, IsRunning, RunsOn, RunsInto};
 ghost use Rattle.dc_run.specs.Schedules.{process_of};
 ghost use Rattle.dc_plain.specs.Guest.{coming, guests_of};
 ghost use Rattle.dc_plain.specs.declared.entry.Entry.{Entry as Entries};
 
-use crate::answer::Draw;
-use crate::guest::Guest;
-use crate::memory::words_in;
+use crate::draw::Draw;
 use crate::outcome::Outcome;
 use crate::reserved::Reserved;
 use crate::{Did, Verdict};
 use dc_links::Message;
 use dc_media::{Sink, SinkFailed, write_whole};
-use dc_plain::{Body, Entry, Idle, Mark, Taken, Visible, line_of};
+use dc_plain::{Effect, Entry, Guest, Idle, Mark, Taken, Visible, line_of, words_in};
 use std::alloc::{AllocError, Global};
 
 /// The guest of a run, with what it did so far.
@@ -104,25 +102,25 @@ impl World {
         self.inputs.get(self.place as usize).copied()
     }
 
-    /// Takes the guest's next event at an entry of its own: adds the act, and says what the event shows.
-    fn take(&mut self, entry: &Entry) -> Option<Body>
+    /// Takes the guest's next event at an entry of its own: adds the act, and says what others see of the event.
+    fn take(&mut self, entry: &Entry) -> Effect
         requires live { self.old.guest.ended ≡ false }
         requires room { HasRoom self.old 1 }
         ensures taken { Takes self.old self.new entry.now }
-        ensures shown { IsShownBy result (coming self.old.guest) }
+        ensures effect { result ≡ effect_of (coming self.old.guest) }
         ensures few { self.new.place ≤ self.old.place + 1 }
         ensures room { self.old.acts.room ≤ self.new.acts.room }
     {
         let t = self.marks.as_slice().len() as u32;
         let next = self.next_input();
-        let (answer, body) = self.guest.turn(&draw(entry, next));
+        let (answer, effect) = self.guest.turn(&draw(entry, next));
         self.acts.push(Taken {
             t,
             p: process(entry),
             act: answer.act(),
         });
         self.place += answer.records();
-        body
+        effect
     }
 
     /// One entry. After a fault of the sink the act stands and the entry has no mark.
@@ -142,11 +140,11 @@ impl World {
             return Ok(());
         }
         match self.take(entry) {
-            None => {
+            Effect::Nothing | Effect::Sends(_, _) => {
                 self.marks.push(Mark::Stepped);
                 Ok(())
             }
-            Some(body) => {
+            Effect::Shows(body) => {
                 let visible = Visible {
                     p: process(entry),
                     k: self.shown,

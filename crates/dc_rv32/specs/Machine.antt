@@ -1,6 +1,6 @@
 -- The machine: 32 registers, a pc and a memory of bytes from address 0; what each instruction does to it
 -- (RISC-V unprivileged manual, RV32I 2.1).
-use Rattle.std.specs.Prelude.{ℕ, ◌+◌, ◌*◌, ◌/◌, ◌%◌, ◌==◌, Bool, List, length, Option, None, Some, if◌then◌else◌, not, nat_lt, slice_index, slice_set}
+use Rattle.std.specs.Prelude.{ℕ, ◌+◌, ◌*◌, ◌/◌, ◌%◌, ◌==◌, Bool, false, true, List, length, Option, None, Some, Result, Ok, Err, if◌then◌else◌, not, nat_lt, slice_index, slice_set}
 use Rattle.dc_isa.specs.Fields.{extended}
 use Rattle.dc_isa.specs.Decoded.{decoded}
 use Rattle.dc_isa.specs.declared.instr.LoadOp.{LoadOp}
@@ -84,8 +84,18 @@ meaning_or_trap (Some i) m = meaning i m
 unfoldable pub stepped : Machine → Machine × Stepped
 stepped m = if nat_lt (length m.memory) (m.pc + 4) then (m, Trap 1) else meaning_or_trap (decoded (word_at m.memory m.pc)) m
 
+-- the same, where the instruction at pc or the cause of the trap there was found
+abbrev pub after_fetch : Result Instr ℕ → Machine → Machine × Stepped
+after_fetch (Ok i) m = meaning i m
+after_fetch (Err cause) m = (m, Trap cause)
+
 -- a fact that holds of a call and of a trap
 abbrev pub UnlessRetired : Stepped → Type 0 → Type 0
 UnlessRetired Retired fact = Unit {0}
 UnlessRetired Call fact = fact
 UnlessRetired (Trap cause) fact = fact
+
+-- whether a step is a call
+abbrev pub is_call : Stepped → Bool
+is_call Call = true
+is_call _ = false

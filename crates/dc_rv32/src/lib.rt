@@ -12,4 +12,4 @@ mod tests;
 
 pub use bus::Bus;
 pub use bytes::{read_bytes, write_bytes};
-pub use machine::{Stepped, step};
+pub use machine::{Stepped, is_call, step};

@@ -1,7 +1,7 @@
 ghost use Rattle.std.specs.Prelude.{◌≡◌, ◌≤◌, ◌<◌, ◌+◌, ◌*◌, ◌/◌, ◌%◌, ◌^◌, ℕ, List, length, IfOk, OnErr, OnOk, slice_index};
 ghost use Rattle.dc_isa.specs.Fields.{extended};
 ghost use Rattle.dc_isa.specs.Table.{Fits};
-ghost use Rattle.dc_rv32.specs.Machine.{machine_of, meaning, stepped, written, UnlessRetired};
+ghost use Rattle.dc_rv32.specs.Machine.{after_fetch, is_call, machine_of, meaning, stepped, written, UnlessRetired};
 
 use crate::Bus;
 use crate::arithmetic::{of_immediate, of_registers, of_shift, of_upper, sign_extended};
@@ -113,6 +113,30 @@ fn run<B: Bus>(regs: &mut Regs, bus: &mut B, instr: &Instr) -> Result<Stepped, B
     }
 }
 
+/// The instruction at pc, or the cause of the trap there.
+fn fetch<B: Bus>(regs: &Regs, bus: &B) -> Result<Instr, u32>
+    ensures fetched { let m = machine_of regs.now (B.memory bus.now) in stepped m ≡ after_fetch result m }
+    ensures fits { IfOk result Fits }
+{
+    if u64::from(regs.pc) + 4 > u64::from(bus.size()) {
+        return Err(NO_WORD);
+    }
+    match decode(word_from(bus, regs.pc)) {
+        Some(instr) => Ok(instr),
+        None => Err(ILLEGAL),
+    }
+}
+
+/// Whether the next step is a call. It looks at the word at pc and runs nothing.
+pub fn is_call<B: Bus>(regs: &Regs, bus: &B) -> bool
+    ensures { result ≡ is_call (stepped (machine_of regs.now (B.memory bus.now))).1 }
+{
+    match fetch(regs, bus) {
+        Ok(Instr::Ecall) => true,
+        _ => false,
+    }
+}
+
 /// One step of the machine. A pc that is a multiple of four stays one.
 pub fn step<B: Bus>(regs: &mut Regs, bus: &mut B) -> Result<Stepped, B::Stop>
     ensures stepped { IfOk result (λ s. (machine_of regs.new (B.memory bus.new), s) ≡ stepped (machine_of regs.old (B.memory bus.old))) }
@@ -124,11 +148,8 @@ pub fn step<B: Bus>(regs: &mut Regs, bus: &mut B) -> Result<Stepped, B::Stop>
     ensures zero { slice_index regs.old.x 0 ≡ 0 → slice_index regs.new.x 0 ≡ 0 }
     ensures unchanged { IfOk result (λ s. UnlessRetired s ((regs.new ≡ regs.old) × (B.memory bus.new ≡ B.memory bus.old))) }
 {
-    if u64::from(regs.pc) + 4 > u64::from(bus.size()) {
-        return Ok(Stepped::Trap(NO_WORD));
-    }
-    match decode(word_from(bus, regs.pc)) {
-        Some(instr) => run(regs, bus, &instr),
-        None => Ok(Stepped::Trap(ILLEGAL)),
+    match fetch(regs, bus) {
+        Ok(instr) => run(regs, bus, &instr),
+        Err(cause) => Ok(Stepped::Trap(cause)),
     }
 }

@@ -1,6 +1,6 @@
 ghost use Rattle.std.specs.Prelude.{◌≡◌, ◌-◌, ◌^◌};
 
-use crate::{Bus, Stepped, read_bytes, step, write_bytes};
+use crate::{Bus, Stepped, is_call, read_bytes, step, write_bytes};
 use dc_isa::Regs;
 
 /// A store that was stopped.
@@ -387,4 +387,13 @@ fn a_step_runs_the_word_at_any_pc(rt: HostRuntime) {
     let mut regs = start(7, 0, 2);
     assert_eq!(rt; step(&mut regs, &mut memory), Ok(Stepped::Retired));
     assert_eq!(rt; regs, with_x5(8, 7, 0, 6));
+}
+
+#[test]
+fn only_an_ecall_is_a_call(rt: HostRuntime) {
+    // An ECALL, an EBREAK, ADDI x5, x6, 1 and a word that codes nothing.
+    let memory = holding([0x0000_0073, 0x0010_0073, 0x0013_0293, 0]);
+    for (pc, want) in [(0, true), (4, false), (8, false), (12, false), (16, false)] {
+        assert_eq!(rt; is_call(&start(0, 0, pc), &memory), want);
+    }
 }

@@ -1,0 +1,243 @@
+-- Whether an answer fits what a guest does next, as the code tests it.
+use Rattle.std.proofs.Common.{◌≡◌, ◌≢◌, ◌==◌, ◌∙◌, ◌&&◌, ℕ, zero, suc, Bool, false, true, not, List, [], ◌∷◌, Option, None, Some, Vec, ap, arith, is_some, length, nat_lt, refl, slice_get, sym, unwrap_or, if◌then◌else◌}
+use Rattle.std.specs.Option.{option_map}
+use Rattle.std.specs.declared.alloc.Global.{Global}
+use Rattle.std.proofs.lemmas.Option.{slice_get-map}
+use Rattle.std.proofs.lemmas.Bool.{le-ltb, lt-ltb}
+use Rattle.std.proofs.lemmas.Bool.Decides.{nat_tests}
+use Rattle.std.proofs.lemmas.Slice.Eq.{bytes_eq-Decides}
+use Rattle.dc_calls.specs.declared.call.Call.TheVariants as calls
+use Rattle.dc_elf.specs.Images.{Image}
+use Rattle.dc_events.specs.Kinds.{kind_of}
+use Rattle.dc_events.specs.declared.event.Kind.{Kind}
+use Rattle.dc_events.specs.declared.event.Kind.TheVariants as kind
+use Rattle.dc_events.specs.declared.event.Next.{Next}
+use Rattle.dc_events.specs.declared.event.Next.TheVariants as next
+use Rattle.dc_plain.specs.Answers.{is_of}
+use Rattle.dc_plain.specs.Guest.{Guest, coming, event_of, guests_of, next_of}
+use Rattle.dc_plain.specs.Plain.{World, told}
+use Rattle.dc_plain.specs.Playing.{answer_to, can_be, ends_well, items_of, lists_of, local_at, local_of, procs_of}
+use Rattle.dc_plain.specs.World.{Answer, Event, Guests, Local, fits, is_clock, is_input, is_random, is_receive, is_record, is_sure}
+use Rattle.dc_plain.specs.World.Event.{AtEnd, AtInternal, AtClock, AtRandom, AtInput, AtReceive, AtVisible, AtSend}
+use Rattle.dc_plain.specs.World.{Answer as answer}
+use Rattle.dc_plain.specs.declared.process.Process.{Process}
+use Rattle.dc_plain.specs.declared.visible.Visible.{Visible}
+use Rattle.dc_plain.specs.declared.act.Act.{Act}
+use Rattle.dc_plain.specs.declared.act.Act.TheVariants as act
+use Rattle.dc_rv32.specs.Machine.{Machine}
+
+-- the test of an event, by an answer
+abbrev test : Answer → Event → Bool
+test answer.Plain = is_sure
+test (answer.Clock v) = is_clock
+test (answer.Random v) = is_random
+test answer.InputNone = is_input
+test (answer.InputNext bytes) = is_input
+test answer.InputEnd = is_input
+test answer.ReceiveNone = is_receive
+test (answer.ReceiveFrom s message) = is_receive
+
+-- the kind of an event that is not the end
+abbrev kind_at : Event → Kind
+kind_at AtClock = kind.Clock
+kind_at AtRandom = kind.Random
+kind_at AtInput = kind.Input
+kind_at AtReceive = kind.Receive
+kind_at (AtVisible body) = kind.Visible
+kind_at (AtSend to message) = kind.Send
+kind_at _ = kind.Internal
+
+by_kind : (n : Next) (m : Machine) → kind_of n ≡ kind_at (event_of n m)
+by_kind next.Retire m = refl
+by_kind (next.Trap cause) m = refl
+by_kind (next.Call (calls.Exit code)) m = refl
+by_kind (next.Call (calls.Output from count)) m = refl
+by_kind (next.Call (calls.Input to room)) m = refl
+by_kind (next.Call calls.Clock) m = refl
+by_kind (next.Call calls.Random) m = refl
+by_kind (next.Call (calls.Send q from count)) m = refl
+by_kind (next.Call (calls.Receive to room)) m = refl
+by_kind (next.Call calls.Own) m = refl
+by_kind (next.Call calls.BadArgument) m = refl
+by_kind (next.Call calls.Unknown) m = refl
+
+by_answer : (a : Answer) (e : Event) → e ≢ AtEnd → test a e ≡ is_of a (kind_at e)
+by_answer a AtEnd live = absurd (live refl)
+by_answer answer.Plain AtInternal live = refl
+by_answer answer.Plain AtClock live = refl
+by_answer answer.Plain AtRandom live = refl
+by_answer answer.Plain AtInput live = refl
+by_answer answer.Plain AtReceive live = refl
+by_answer answer.Plain (AtVisible body) live = refl
+by_answer answer.Plain (AtSend to sent) live = refl
+by_answer (answer.Clock v) AtInternal live = refl
+by_answer (answer.Clock v) AtClock live = refl
+by_answer (answer.Clock v) AtRandom live = refl
+by_answer (answer.Clock v) AtInput live = refl
+by_answer (answer.Clock v) AtReceive live = refl
+by_answer (answer.Clock v) (AtVisible body) live = refl
+by_answer (answer.Clock v) (AtSend to sent) live = refl
+by_answer (answer.Random v) AtInternal live = refl
+by_answer (answer.Random v) AtClock live = refl
+by_answer (answer.Random v) AtRandom live = refl
+by_answer (answer.Random v) AtInput live = refl
+by_answer (answer.Random v) AtReceive live = refl
+by_answer (answer.Random v) (AtVisible body) live = refl
+by_answer (answer.Random v) (AtSend to sent) live = refl
+by_answer answer.InputNone AtInternal live = refl
+by_answer answer.InputNone AtClock live = refl
+by_answer answer.InputNone AtRandom live = refl
+by_answer answer.InputNone AtInput live = refl
+by_answer answer.InputNone AtReceive live = refl
+by_answer answer.InputNone (AtVisible body) live = refl
+by_answer answer.InputNone (AtSend to sent) live = refl
+by_answer (answer.InputNext bytes) AtInternal live = refl
+by_answer (answer.InputNext bytes) AtClock live = refl
+by_answer (answer.InputNext bytes) AtRandom live = refl
+by_answer (answer.InputNext bytes) AtInput live = refl
+by_answer (answer.InputNext bytes) AtReceive live = refl
+by_answer (answer.InputNext bytes) (AtVisible body) live = refl
+by_answer (answer.InputNext bytes) (AtSend to sent) live = refl
+by_answer answer.InputEnd AtInternal live = refl
+by_answer answer.InputEnd AtClock live = refl
+by_answer answer.InputEnd AtRandom live = refl
+by_answer answer.InputEnd AtInput live = refl
+by_answer answer.InputEnd AtReceive live = refl
+by_answer answer.InputEnd (AtVisible body) live = refl
+by_answer answer.InputEnd (AtSend to sent) live = refl
+by_answer answer.ReceiveNone AtInternal live = refl
+by_answer answer.ReceiveNone AtClock live = refl
+by_answer answer.ReceiveNone AtRandom live = refl
+by_answer answer.ReceiveNone AtInput live = refl
+by_answer answer.ReceiveNone AtReceive live = refl
+by_answer answer.ReceiveNone (AtVisible body) live = refl
+by_answer answer.ReceiveNone (AtSend to sent) live = refl
+by_answer (answer.ReceiveFrom s message) AtInternal live = refl
+by_answer (answer.ReceiveFrom s message) AtClock live = refl
+by_answer (answer.ReceiveFrom s message) AtRandom live = refl
+by_answer (answer.ReceiveFrom s message) AtInput live = refl
+by_answer (answer.ReceiveFrom s message) AtReceive live = refl
+by_answer (answer.ReceiveFrom s message) (AtVisible body) live = refl
+by_answer (answer.ReceiveFrom s message) (AtSend to sent) live = refl
+
+-- what a guest does next is never its end
+pub not_ended : (n : Next) (m : Machine) → event_of n m ≢ AtEnd
+not_ended next.Retire m = λ e. cc
+not_ended (next.Trap cause) m = λ e. cc
+not_ended (next.Call (calls.Exit code)) m = λ e. cc
+not_ended (next.Call (calls.Output from count)) m = λ e. cc
+not_ended (next.Call (calls.Input to room)) m = λ e. cc
+not_ended (next.Call calls.Clock) m = λ e. cc
+not_ended (next.Call calls.Random) m = λ e. cc
+not_ended (next.Call (calls.Send q from count)) m = λ e. cc
+not_ended (next.Call (calls.Receive to room)) m = λ e. cc
+not_ended (next.Call calls.Own) m = λ e. cc
+not_ended (next.Call calls.BadArgument) m = λ e. cc
+not_ended (next.Call calls.Unknown) m = λ e. cc
+
+pub live_coming : (g : Guest) → g.ended ≡ false → coming g ≡ event_of (next_of g) g.machine
+live_coming g live = ap (λ (b : Bool). if b then AtEnd else event_of (next_of g) g.machine) live
+
+-- the end has no answer
+at_end : (a : Answer) → test a AtEnd ≡ false
+at_end answer.Plain = refl
+at_end (answer.Clock v) = refl
+at_end (answer.Random v) = refl
+at_end answer.InputNone = refl
+at_end (answer.InputNext bytes) = refl
+at_end answer.InputEnd = refl
+at_end answer.ReceiveNone = refl
+at_end (answer.ReceiveFrom s message) = refl
+
+by_ended : (b : Bool) (n : Next) (m : Machine) (a : Answer) → test a (if b then AtEnd else event_of n m) ≡ (not b && is_of a (kind_of n))
+by_ended true n m a = at_end a
+by_ended false n m a = by_answer a (event_of n m) (not_ended n m) ∙ ap (is_of a) (sym (by_kind n m))
+
+tested : (g : Guest) (a : Answer) → test a (coming g) ≡ can_be g a
+tested g a = by_ended g.ended (next_of g) g.machine a
+
+and_true : (b : Bool) → b ≡ (b && true)
+and_true true = refl
+and_true false = refl
+
+left_some : (place : ℕ) (records : List (List ℕ)) → nat_lt place (length records) ≡ is_some (slice_get records place)
+left_some place [] = rw (le-ltb place 0 (omega arith)) refl
+left_some zero (x ∷ records) = rw (lt-ltb 0 (length (x ∷ records)) (omega arith)) refl
+left_some (suc place) (x ∷ records) = same ∙ left_some place records
+  where
+    same : nat_lt (suc place) (length (x ∷ records)) ≡ nat_lt place (length records)
+    same = grind (arith, nat_tests)
+
+-- the record that an answer hands over is the next one
+abbrev pub Hands : Answer → Option (List ℕ) → Type 0
+Hands a next = (bytes : List ℕ) → a ≡ answer.InputNext bytes → next ≡ Some bytes
+
+module _ (images : List Image) (inputs : List (List (List ℕ))) where
+  abbrev G : Guests Guest
+  G = guests_of images inputs
+
+  fits_by : (p : ℕ) (l : Local Guest) (a : Answer) → Hands a (slice_get (G.inputs p) l.place)
+      → fits G p l a ≡ (can_be l.machine a && ends_well a (slice_get (G.inputs p) l.place))
+  fits_by p l answer.Plain hands = tested l.machine answer.Plain ∙ and_true (can_be l.machine answer.Plain)
+  fits_by p l (answer.Clock v) hands = tested l.machine (answer.Clock v) ∙ and_true (can_be l.machine (answer.Clock v))
+  fits_by p l (answer.Random v) hands = tested l.machine (answer.Random v) ∙ and_true (can_be l.machine (answer.Random v))
+  fits_by p l answer.InputNone hands = tested l.machine answer.InputNone ∙ and_true (can_be l.machine answer.InputNone)
+  fits_by p l (answer.InputNext bytes) hands = ap (λ o. is_input (coming l.machine) && is_record bytes o) (hands bytes refl)
+      ∙ ap (λ b. is_input (coming l.machine) && b) ((bytes_eq-Decides bytes bytes).1 refl) ∙ ap (λ b. b && true) (tested l.machine (answer.InputNext bytes))
+  fits_by p l answer.InputEnd hands = ap (λ b. is_input (coming l.machine) && not b) (left_some l.place (G.inputs p))
+      ∙ ap (λ b. b && not (is_some (slice_get (G.inputs p) l.place))) (tested l.machine answer.InputEnd)
+  fits_by p l answer.ReceiveNone hands = tested l.machine answer.ReceiveNone ∙ and_true (can_be l.machine answer.ReceiveNone)
+  fits_by p l (answer.ReceiveFrom s message) hands = tested l.machine (answer.ReceiveFrom s message) ∙ and_true (can_be l.machine (answer.ReceiveFrom s message))
+
+  next_is : (o : Option (List ℕ)) (a : Answer) → option_map answer.InputNext o ≡ Some a → Hands a o
+  next_is None a is = cc
+  next_is (Some bytes) a is = λ taken same. let one : bytes ≡ taken = cc in ap (λ (xs : List ℕ). Some xs) one
+
+  told_hands : (w : World Guest) (p : ℕ) (b : Act) (a : Answer) → told G w p b ≡ Some a → Hands a (slice_get (G.inputs p) (w.procs p).place)
+  told_hands w p act.Plain a is = λ bytes same. absurd cc
+  told_hands w p (act.Clock v) a is = λ bytes same. absurd cc
+  told_hands w p (act.Random v) a is = λ bytes same. absurd cc
+  told_hands w p act.InputNone a is = λ bytes same. absurd cc
+  told_hands w p act.InputNext a is = next_is (slice_get (G.inputs p) (w.procs p).place) a is
+  told_hands w p act.InputEnd a is = λ bytes same. absurd cc
+  told_hands w p act.ReceiveNone a is = λ bytes same. absurd cc
+  told_hands w p (act.ReceiveFrom s) a is = from (s == p) (slice_get ((w.procs s).sent p) ((w.procs p).got s)) is
+    where
+      from : (b : Bool) (o : Option (List ℕ)) → (if b then None else option_map (answer.ReceiveFrom s) o) ≡ Some a → Hands a (slice_get (G.inputs p) (w.procs p).place)
+      from true o sent = cc
+      from false None sent = cc
+      from false (Some message) sent = λ bytes same. absurd cc
+
+  -- the answer of an act, where it fits
+  pub fits_told : (w : World Guest) (p : ℕ) (b : Act) (a : Answer) (fit : Bool) → told G w p b ≡ Some a
+      → fit ≡ (can_be (w.procs p).machine a && ends_well a (slice_get (G.inputs p) (w.procs p).place)) → answer_to G w p b ≡ (if fit then Some a else None)
+  fits_told w p b a fit is tests = rw is (ap (λ (c : Bool). if c then Some a else None) (fits_by p (w.procs p) a (told_hands w p b a is) ∙ sym tests))
+
+-- the records of a process are the items of its vector
+pub items_are : (vectors : List (Vec (List ℕ) Global)) (p : ℕ) → unwrap_or (slice_get (lists_of vectors) p) [] ≡ items_of (slice_get vectors p)
+items_are vectors p = ap (λ o. unwrap_or o []) (slice_get-map (λ v. v.items) vectors p) ∙ there (slice_get vectors p)
+  where
+    there : (o : Option (Vec (List ℕ) Global)) → unwrap_or (option_map (λ v. v.items) o) [] ≡ items_of o
+    there None = refl
+    there (Some v) = refl
+
+-- the same over the code's processes and inputs
+module _ (images : List Image) (inputs : List (Vec (List ℕ) Global)) (processes : List Process) (seen : List Visible) (p : ℕ) (b : Act) where
+  abbrev G' : Guests Guest
+  G' = guests_of images (lists_of inputs)
+
+  abbrev w' : World Guest
+  w' = record { procs = procs_of processes; seen = seen }
+
+  pub untold : told G' w' p b ≡ None → None ≡ answer_to G' w' p b
+  untold is = rw is refl
+
+  pub told_fits : (a : Answer) (process : Process) (next : Option (List ℕ)) (fit : Bool) → told G' w' p b ≡ Some a → slice_get processes p ≡ Some process
+      → next ≡ slice_get (items_of (slice_get inputs p)) process.place → fit ≡ (can_be process.guest a && ends_well a next)
+      → (if fit then Some a else None) ≡ answer_to G' w' p b
+  told_fits a process next fit is there next_is tests = sym (fits_told images (lists_of inputs) w' p b a fit is
+      (tests ∙ ap (λ o. can_be process.guest a && ends_well a o) (next_is ∙ ap (λ xs. slice_get xs process.place) (sym (items_are inputs p)))
+      ∙ ap (λ (l : Local Guest). can_be l.machine a && ends_well a (slice_get (G'.inputs p) l.place)) (sym here)))
+    where
+      here : procs_of processes p ≡ local_of process
+      here = ap (local_at (length processes) p) there
