@@ -1,5 +1,5 @@
 ghost use Rattle.std.specs.Prelude.{◌≡◌, ◌≢◌, ◌<◌, ◌≤◌, ◌-◌, ◌^◌, ◌↔◌, ℕ, Some, None, IfOk, IsTrue, length, option_copied, slice_get};
-ghost use Rattle.dc_links.specs.Links.{unused, message_numbered, with_sent, trimmed};
+ghost use Rattle.dc_links.specs.Links.{unused, message_numbered, none_kept, with_sent, trimmed};
 
 use crate::message::Message;
 use circular_buffer::HeapCircularBuffer;
@@ -102,5 +102,13 @@ impl Link {
         let dropped = upto.saturating_sub(self.sent - kept);
         let left = kept.saturating_sub(dropped);
         self.ring.truncate_front(left as usize);
+    }
+
+    /// Forgets the kept messages, and sets how many were ever sent.
+    pub fn restart(&mut self, sent: u32)
+        ensures { self.new ≡ none_kept sent }
+    {
+        self.sent = sent;
+        self.ring.clear();
     }
 }

@@ -1,5 +1,5 @@
 ghost use Rattle.std.specs.Prelude.{◌≡◌, ◌≢◌, ◌<◌, ◌≤◌, ◌+◌, ◌-◌, ◌^◌, ◌↔◌, ℕ, Some, None, IfOk, IsTrue, length, option_copied, slice_get, slice_set, replicate};
-ghost use Rattle.dc_links.specs.Links.{unused, link_to, message_numbered, with_sent, trimmed};
+ghost use Rattle.dc_links.specs.Links.{unused, link_to, message_numbered, none_kept, with_sent, trimmed};
 
 use crate::link::Link;
 use crate::message::Message;
@@ -107,5 +107,15 @@ impl Links {
         ensures left { (k : ℕ) → upto ≤ k → message_numbered (link_to self.new q) k ≡ message_numbered (link_to self.old q) k }
     {
         self.links[q as usize].trim(upto);
+    }
+
+    /// Forgets what is kept for receiver `q`, and sets how many messages were ever sent to it. The room for messages stays.
+    pub fn restart(&mut self, q: u32, sent: u32)
+        requires { q < length self.old }
+        ensures restarted { self.new ≡ slice_set self.old q (none_kept sent) }
+        ensures receivers { length self.new ≡ length self.old }
+        ensures others { (p : ℕ) → p ≢ q → link_to self.new p ≡ link_to self.old p }
+    {
+        self.links[q as usize].restart(sent);
     }
 }

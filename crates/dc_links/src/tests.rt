@@ -124,3 +124,20 @@ fn numbers_go_on_round_the_ring(rt: HostRuntime) -> Result<(), Fail> {
     assert_eq!(rt; links.sent(1), 1);
     Ok(())
 }
+
+#[test]
+fn a_link_restarts_at_a_number(rt: HostRuntime) -> Result<(), Fail> {
+    let mut links = Links::new(rt.alloc(), 2)?;
+    keep_each(&rt, &mut links, 0, &[0, 1, 2, 3, 4, 5, 6, 7]);
+    keep(&rt, &mut links, 1, b"other");
+    links.restart(0, 41);
+    assert_eq!(rt; links.sent(0), 41);
+    assert_eq!(rt; links.kept_count(0), 0);
+    assert!(rt; lacks(&links, 0, 7));
+    assert!(rt; lacks(&links, 0, 41));
+    keep(&rt, &mut links, 0, b"next");
+    assert!(rt; has(&links, 0, 41, b"next"));
+    assert!(rt; has(&links, 1, 0, b"other"));
+    assert_eq!(rt; links.sent(1), 1);
+    Ok(())
+}

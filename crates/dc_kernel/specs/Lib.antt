@@ -1,0 +1,5 @@
+pub mod Kernels
+pub mod Layout
+pub mod Texts
+pub mod Faults
+pub mod Readings

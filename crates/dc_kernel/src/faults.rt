@@ -1,0 +1,36 @@
+/// The first thing that is wrong with words as a kernel's text, in the order of testing.
+#[derive(Clone, Copy, Debug, PartialEq, Eq)]
+pub enum KernelFault {
+    /// They are not as many as a kernel of so many processes has.
+    Size,
+    /// They are of another version.
+    Version,
+    /// They are of another process or of another number of processes, more is kept for a process than there is room or than
+    /// was sent to it, a message is too long, something that stands for nothing is not 0, or the process has itself as a
+    /// sender or receiver.
+    Count,
+    /// The status, its code or the address of the next instruction is none.
+    Status,
+}
+
+/// What is wrong with a stored checkpoint.
+#[derive(Clone, Copy, Debug, PartialEq, Eq)]
+pub enum StoreFault {
+    /// Its header.
+    Header,
+    /// The log record of that number.
+    Record(u32),
+    /// Its kernel.
+    Kernel,
+}
+
+/// Why a checkpoint was not read or written.
+#[derive(Clone, Copy, Debug, PartialEq, Eq)]
+pub enum CheckFault {
+    /// The process was stopped inside the call.
+    Stopped,
+    /// The device failed.
+    Failed,
+    /// What was stored is no checkpoint.
+    Refused(StoreFault),
+}

@@ -1,0 +1,56 @@
+-- When a process commits and what it logs.
+use Rattle.std.specs.Prelude.{Bool, true, false, not, ◌&&◌, ◌||◌}
+use Rattle.dc_events.specs.declared.event.Kind.{Kind}
+use Rattle.dc_events.specs.declared.event.Kind.TheVariants.{Clock, Random, Input, Receive, Visible, Send}
+use Rattle.dc_protocols.specs.declared.protocol.Protocol.{Protocol}
+use Rattle.dc_protocols.specs.declared.protocol.Protocol.TheVariants.{Cand, CandLog, Cpvs, Cbndvs, CbndvsLog, Cpv2pc, Cbndv2pc}
+use Rattle.dc_protocols.specs.declared.protocol.Rule.{Rule}
+use Rattle.dc_protocols.specs.declared.protocol.Since.{Since}
+
+abbrev pub never : Bool
+never = false
+
+abbrev pub at_clock_and_random : Kind → Bool
+at_clock_and_random Clock = true
+at_clock_and_random Random = true
+at_clock_and_random _ = false
+
+-- requests for input and for messages
+abbrev pub at_inputs : Kind → Bool
+at_inputs Input = true
+at_inputs Receive = true
+at_inputs _ = false
+
+abbrev pub at_every_nondeterministic : Kind → Bool
+at_every_nondeterministic kind = at_clock_and_random kind || at_inputs kind
+
+abbrev pub at_visible : Kind → Bool
+at_visible Visible = true
+at_visible _ = false
+
+abbrev pub at_sends : Kind → Bool
+at_sends Send = true
+at_sends _ = false
+
+abbrev pub at_outputs : Kind → Bool
+at_outputs kind = at_visible kind || at_sends kind
+
+-- the table: a row for each protocol, with columns of where it commits before an event, where it logs the answer and where it commits after
+abbrev pub row_of : Protocol → Kind → Since → Rule
+row_of Cand kind since = record { before = never; log = never; after = at_every_nondeterministic kind }
+row_of CandLog kind since = record { before = at_inputs kind && since.full && not since.replay; log = at_inputs kind && not since.replay; after = at_clock_and_random kind }
+row_of Cpvs kind since = record { before = at_outputs kind; log = never; after = never }
+row_of Cbndvs kind since = record { before = at_outputs kind && since.own; log = never; after = never }
+row_of CbndvsLog kind since = record { before = (at_outputs kind && since.own) || (at_inputs kind && not since.own && since.full && not since.replay); log = at_inputs kind && not since.own && not since.replay; after = never }
+row_of Cpv2pc kind since = record { before = at_visible kind; log = never; after = never }
+row_of Cbndv2pc kind since = record { before = at_visible kind && since.any; log = never; after = never }
+
+-- the rule: in each row the eighth uncommitted receipt from one sender also has a commit after it, where none came before it
+abbrev pub rule_of : Protocol → Kind → Since → Rule
+rule_of protocol kind since = let row = row_of protocol kind since in record row { after = row.after || (since.eighth && not row.before) }
+
+-- each commit is one of all processes together
+abbrev pub IsGlobal : Protocol → Type 0
+IsGlobal Cpv2pc = Unit {0}
+IsGlobal Cbndv2pc = Unit {0}
+IsGlobal _ = ⊥
