@@ -6,7 +6,7 @@ use Rattle.dc_words.proofs.Splitting.{fields_some}
 use Rattle.dc_asm.specs.declared.faults.AsmKind.TheVariants as kind
 use Rattle.dc_asm.specs.declared.forms.Meant.{Meant}
 use Rattle.dc_asm.specs.Source.{operands_of, trimmed}
-use Rattle.dc_asm.specs.Operands.{◌>>=◌}
+use Rattle.dc_words.specs.Results.{◌>>=◌}
 use Rattle.dc_asm.specs.Forms.{bare_form, no_operands, one, two, three}
 
 abbrev parts : List ℕ → List (List ℕ)

@@ -1,12 +1,12 @@
 -- The file of words as a guest's file.
-use Rattle.std.proofs.Common.{◌≡◌, ◌∙◌, ◌+◌, ◌-◌, ◌*◌, ◌/◌, ◌%◌, ◌^◌, ◌<◌, ◌≤◌, ◌==◌, ◌&&◌, ◌||◌, not, ℕ, Bool, true, false, List, [], ◌∷◌, ◌++◌, Option, None, Some, ap, refl, arith, length, length-append, if◌then◌else◌, nat_lt, nat_le, slice_index, ⊎_elim, map}
+use Rattle.std.proofs.Common.{◌≡◌, ◌∙◌, ◌+◌, ◌-◌, ◌*◌, ◌^◌, ◌<◌, ◌≤◌, ◌==◌, ◌&&◌, ◌||◌, not, ℕ, Bool, true, false, List, [], ◌∷◌, ◌++◌, Option, None, Some, ap, refl, arith, length, length-append, if◌then◌else◌, nat_lt, nat_le, slice_index, ⊎_elim, map}
 use Rattle.std.specs.List.{range_with_len}
 use Rattle.std.proofs.Math.Path.{fun_ext}
 use Rattle.std.proofs.lemmas.Bool.{cases_Bool, le-ltb, lt-ltb, leb-true, ltb-true}
 use Rattle.std.proofs.lemmas.List.{get_or-append-add}
 use Rattle.std.proofs.lemmas.Grind.{flat_map-append}
-use Rattle.dc_words.specs.Words.{bytes_in, word_bytes, word_of_bytes}
-use Rattle.dc_words.proofs.Bytes.{bytes_long}
+use Rattle.dc_words.specs.Words.{bytes_in, word_bytes}
+use Rattle.dc_words.proofs.Bytes.{bytes_long, word_again}
 use Rattle.dc_elf.specs.declared.part.Part.{Part}
 use Rattle.dc_elf.specs.declared.faults.ElfFault.{ElfFault}
 use Rattle.dc_elf.specs.declared.faults.ElfFault.TheVariants.{Short, Entry}
@@ -14,10 +14,6 @@ use Rattle.dc_elf.specs.Files.{fault_if, fault_of, faulty_from, has_bad_entry, h
 use Rattle.dc_elf.specs.Images.{Image, byte_of, image_of}
 use Rattle.dc_asm.specs.Elf.{elf_of, header}
 use Rattle.dc_asm.specs.Loading.{image_with}
-
--- the size's word again
-size_again : (w : ℕ) → w < 2 ^ 32 → word_of_bytes (w % 256) (w / 2 ^ 8 % 256) (w / 2 ^ 16 % 256) (w / 2 ^ 24 % 256) ≡ w
-size_again w small = omega (arith, small)
 
 -- the one part
 abbrev part : ℕ → Part
@@ -43,7 +39,7 @@ module _ (count : ℕ) (rest : List ℕ) (small : 4 * count < 2 ^ 32) (long : le
   file_long = length-append (bytes_in (header count)) rest ∙ ap (λ n. 84 + n) long
 
   parts_are : parts_of file ≡ part (4 * count) ∷ []
-  parts_are = ap (λ (size : ℕ). part size ∷ []) (size_again (4 * count) small)
+  parts_are = ap (λ (size : ℕ). part size ∷ []) (word_again (4 * count) small)
 
   header_right : header_fault file ≡ None
   header_right = rw (le-ltb (length file) 84 (omega (arith, file_long))) refl

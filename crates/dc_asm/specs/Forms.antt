@@ -18,7 +18,8 @@ use Rattle.dc_asm.specs.declared.names.Place.{Place}
 use Rattle.dc_asm.specs.declared.table.Form.{Form}
 use Rattle.dc_asm.specs.declared.table.Form.TheVariants as form
 use Rattle.dc_asm.specs.Source.{is_high, operands_of, parts_of}
-use Rattle.dc_asm.specs.Operands.{◌>>=◌, or_fault, register, immediate, offset, unsigned, indirect}
+use Rattle.dc_words.specs.Results.{◌>>=◌, or_fault}
+use Rattle.dc_asm.specs.Operands.{register, immediate, offset, unsigned, indirect}
 use Rattle.dc_asm.specs.Table.{form_of}
 
 -- so many operands

@@ -2,26 +2,13 @@
 use Rattle.std.specs.Prelude.{ℕ, ◌-◌, ◌*◌, ◌%◌, ◌^◌, ◌==◌, ◌&&◌, List, [], ◌∷◌, Option, None, Some, option_map, option_and_then, Result, Ok, Err, if◌then◌else◌, nat_le, nat_lt}
 use Rattle.std.specs.Result.{result_ok}
 use Rattle.dc_words.specs.Numbers.{number_of}
+use Rattle.dc_words.specs.Results.{◌>>=◌, or_fault}
 use Rattle.dc_asm.specs.declared.faults.AsmKind.{AsmKind}
 use Rattle.dc_asm.specs.declared.faults.AsmKind.TheVariants as kind
 use Rattle.dc_asm.specs.declared.names.Place.{Place}
 use Rattle.dc_asm.specs.declared.operands.Value.{Value}
 use Rattle.dc_asm.specs.Source.{cut_at, ended_by, is_name}
 use Rattle.dc_asm.specs.Names.{address}
-
-infixl 10 ◌>>=◌
-abbrev pub ◌>>=◌ : {A B : Type 0} → Result A AsmKind → (A → Result B AsmKind) → Result B AsmKind
-(Ok x) >>= f = f x
-(Err e) >>= f = Err e
-
-abbrev pub or_fault : {A : Type 0} → AsmKind → Option A → Result A AsmKind
-or_fault fault (Some x) = Ok x
-or_fault fault None = Err fault
-
--- a result as contracts see it
-abbrev pub seen : {X Y : Type 0} → (X → Y) → Result X AsmKind → Result Y AsmKind
-seen view (Ok x) = Ok (view x)
-seen view (Err e) = Err e
 
 -- digits, up to the greatest number of 32 bits, over which no immediate lies
 abbrev pub size : List ℕ → Option ℕ

@@ -11,7 +11,7 @@ use Rattle.dc_asm.specs.declared.forms.Meant.{Meant}
 use Rattle.dc_asm.specs.declared.names.Place.{Place}
 use Rattle.dc_asm.specs.Source.{bare, defined}
 use Rattle.dc_asm.specs.Names.{place_in}
-use Rattle.dc_asm.specs.Operands.{◌>>=◌}
+use Rattle.dc_words.specs.Results.{◌>>=◌}
 use Rattle.dc_asm.specs.Forms.{IsWordOf, meaning}
 use Rattle.dc_asm.specs.Elf.{elf_of}
 

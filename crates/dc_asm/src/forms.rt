@@ -1,6 +1,6 @@
 ghost use Rattle.std.specs.Prelude.{◌≡◌, ◌<◌, ◌^◌, IfOk};
 ghost use Rattle.dc_asm.specs.Names.{found};
-ghost use Rattle.dc_asm.specs.Operands.{seen};
+ghost use Rattle.dc_words.specs.Results.{seen};
 ghost use Rattle.dc_asm.specs.Source.{operands_of};
 ghost use Rattle.dc_asm.specs.Forms.{HasFields, IsWordOf, bare_form, based, branch_form, immediate_form, jump_form, jump_register_form, load_form, meaning, meant_by, one, register_form, shift_form, store_form, three, two, upper_form, word_form};
 

@@ -2,6 +2,8 @@ ghost use Rattle.std.specs.Prelude.{◌≡◌, ◌<◌, ◌==◌, IfSome, length
 ghost use Rattle.std.specs.List.{list_all, list_any, position};
 ghost use Rattle.dc_asm.specs.Source.{bare, cut_at, defined, ended_by, is_blank, is_first, is_further, is_high, is_name, operands_of, parts_of, trimmed, without_end, without_front};
 
+use dc_words::place;
+
 fn is_blank(c: u8) -> bool
     ensures { result ≡ is_blank c }
 {
@@ -40,13 +42,6 @@ pub fn trimmed(text: &[u8]) -> &[u8]
     ensures { result.now ≡ trimmed text.now }
 {
     without_end(without_front(text))
-}
-
-fn place(stop: u8, text: &[u8]) -> Option<usize>
-    ensures place { result ≡ position (λ c. c == stop) text.now }
-    ensures within { IfSome result (λ i. i < length text.now) }
-{
-    text.iter().position(|c| *c == stop)
 }
 
 /// What stands before the first such byte, and what follows it.

@@ -1,9 +1,9 @@
 -- A run that has used up its schedule, or broken off, keeps the promise.
-use Rattle.std.proofs.Common.{IfSome, IsOkAnd, None, Ok, ◌≡◌, ◌≢◌, ◌∙◌, ◌≤◌, ℕ, zero, suc, Bool, true, false, if◌then◌else◌, List, [], ◌∷◌, ◌++◌, length, reverse, take, Option, Some, ap, sym, subst, refl, arith}
+use Rattle.std.proofs.Common.{IfSome, IsOkAnd, None, Ok, ◌≡◌, ◌≢◌, ◌∙◌, ◌≤◌, ℕ, zero, suc, true, false, List, [], ◌∷◌, ◌++◌, length, reverse, take, Option, Some, ap, sym, subst, refl, arith}
 use Rattle.std.proofs.lemmas.List.{append-nil, reverse-append, reverse-reverse, length-reverse}
 use Rattle.dc_media.proofs.Becoming.{Becomes-weaker}
 use Rattle.dc_plain.specs.Drawn.{Drawn}
-use Rattle.dc_plain.specs.Guest.{Guest, coming, event_of, next_of}
+use Rattle.dc_plain.specs.Guest.{Guest, coming, next_of}
 use Rattle.dc_plain.specs.Headline.{RepeatsEqual}
 use Rattle.dc_plain.specs.Led.{IsLed}
 use Rattle.dc_plain.specs.Lines.{text_of, visible_line}
@@ -12,12 +12,9 @@ use Rattle.dc_plain.specs.World.{Local}
 use Rattle.dc_plain.specs.World.Event.{AtEnd}
 use Rattle.dc_plain.specs.declared.act.Taken.{Taken}
 use Rattle.dc_plain.specs.declared.entry.Entry.{Entry}
-use Rattle.dc_calls.specs.declared.call.Call.TheVariants.{Exit, Output, Input, Clock, Random, Send, Receive, Own, BadArgument, Unknown}
-use Rattle.dc_events.specs.declared.event.Next.{Next}
-use Rattle.dc_events.specs.declared.event.Next.TheVariants as next
-use Rattle.dc_rv32.specs.Machine.{Machine}
 use Rattle.dc_plain.specs.declared.mark.Mark.{Mark}
 use Rattle.dc_plain.specs.declared.mark.Mark.TheVariants as mark
+use Rattle.dc_plain.proofs.Fitting.{live_coming, not_ended}
 use Rattle.dc_plain.proofs.Leading.{leads_follow, leads_well, stands_last}
 use Rattle.dc_run.specs.Opening.{Files, Setting, opening_of}
 use Rattle.dc_run.specs.Running.{RunsAs, TornAs, IsRunning, IsTorn}
@@ -31,23 +28,9 @@ use Rattle.dc_run.specs.declared.verdict.Outlet.TheVariants.{Out}
 use Rattle.dc_run.specs.declared.verdict.Verdict.{Verdict}
 use Rattle.dc_run.specs.declared.verdict.Verdict.TheVariants.{Done, Unfinished, SinkFault}
 
--- what a guest does next comes with an event
-next_comes : (n : Next) (m : Machine) → event_of n m ≢ AtEnd
-next_comes next.Retire m e = cc
-next_comes (next.Trap cause) m e = cc
-next_comes (next.Call (Exit code)) m e = cc
-next_comes (next.Call (Output from count)) m e = cc
-next_comes (next.Call (Input to room)) m e = cc
-next_comes (next.Call Clock) m e = cc
-next_comes (next.Call Random) m e = cc
-next_comes (next.Call (Send q from count)) m e = cc
-next_comes (next.Call (Receive to room)) m e = cc
-next_comes (next.Call Own) m e = cc
-next_comes (next.Call BadArgument) m e = cc
-next_comes (next.Call Unknown) m e = cc
-
+-- a guest that has not ended has an event to come
 live_or_not : (g : Guest) → g.ended ≡ false → coming g ≢ AtEnd
-live_or_not g live at = next_comes (next_of g) g.machine (sym (ap (λ (b : Bool). if b then AtEnd else event_of (next_of g) g.machine) live) ∙ at)
+live_or_not g live at = not_ended (next_of g) g.machine (sym (live_coming g live) ∙ at)
 
 -- the end of a run without a fault
 module _ (setting : Setting) (guest : Guest) (inputs : List (List ℕ)) (place shown : ℕ) (acts : List Taken) (marks : List Mark) (lines : ℕ) (before after : Option (List ℕ))

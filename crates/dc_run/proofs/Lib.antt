@@ -1,4 +1,3 @@
-mod PlanTexts
 mod ScheduleTexts
 mod Turns
 mod Works

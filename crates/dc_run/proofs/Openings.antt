@@ -1,6 +1,7 @@
 -- How a run's opening follows the told files.
-use Rattle.std.proofs.Common.{◌≡◌, ◌∙◌, ◌⊎◌, ◌↔◌, ℕ, true, false, List, length, Option, None, Some, IfSome, Result, Ok, Err, ap, refl, subst, sym}
+use Rattle.std.proofs.Common.{◌≡◌, ◌∙◌, ◌⊎◌, ◌↔◌, ℕ, true, false, ◌≤◌, List, [], ◌∷◌, String, string_bytes, map, slice_index_or, arith, length, Option, None, Some, IfSome, Result, Ok, Err, ap, refl, subst, sym}
 use Rattle.std.specs.Result.{result_ok}
+use Rattle.std.specs.declared.alloc.Global.{Global}
 use Rattle.std.proofs.lemmas.List.FromFn.{length-map-range_with_len}
 use Rattle.dc_elf.specs.Files.{parts_of}
 use Rattle.dc_elf.specs.Images.{Image, byte_of, image_of}
@@ -12,8 +13,10 @@ use Rattle.dc_run.specs.Commands.{IsExact, IsOpenedFor}
 use Rattle.dc_run.proofs.Works.{exact_refusal, for_known, refused_work}
 use Rattle.dc_run.specs.Settings.{is_free, is_refusal, was_opened}
 use Rattle.dc_run.specs.declared.verdict.Verdict.TheVariants.{GuestRefused}
-use Rattle.dc_run.specs.Opening.{Files, AsksAtGuest, AsksAtPlan, AsksToRun, image_or_fault, opening_of, or_refused}
-use Rattle.dc_run.specs.Plans.{Plan, plan_of}
+use Rattle.dc_run.specs.Opening.{Files, AsksAtGuest, AsksAtPlan, AsksToRun, guest_name, image_or_fault, plan_in, opening_of}
+use Rattle.dc_words.specs.Results.{or_fault}
+use Rattle.dc_plan.specs.Plans.{Plan, plan_of}
+use Rattle.dc_plan.specs.declared.fault.PlanFault.{PlanFault}
 use Rattle.dc_run.specs.declared.verdict.Verdict.{Verdict}
 use Rattle.dc_run.specs.declared.verdict.Which.{Which}
 use Rattle.dc_run.specs.declared.verdict.Which.TheVariants.{Plan as ThePlan, Guest, Schedule, Source}
@@ -43,12 +46,21 @@ module _ (known : Option Files) (plan : List ℕ) (v answered : Verdict) (same :
   pub refused_exact : (refusal : Verdict) → is_refusal refusal ≡ true → IfSome known (λ files. IsExact answered refusal (opening_of files plan))
   refused_exact refusal is = for_known known (λ files here. subst (λ w. IsExact w refusal (opening_of files plan)) (sym same) (exact_refusal v refusal (opening_of files plan) is (told files here)))
 
-pub there : {A : Type 0} (v : Verdict) (o : Option A) (x : A) → or_refused v o ≡ Ok x → o ≡ Some x
+pub there : {A : Type 0} (v : Verdict) (o : Option A) (x : A) → or_fault v o ≡ Ok x → o ≡ Some x
 there v None x e = ap result_ok e
 there v (Some y) x e = ap result_ok e
 
-pub asked_by_plan : (files : Files) (text file : List ℕ) (plan : Plan) (w : Which) → plan_of text ≡ Some plan → files plan.guest ≡ Some file
-    → AsksAtGuest file w → AsksAtPlan files text w
+-- the name of the first guest's file
+pub name_first : (guests : List (String Global)) (name : String Global) → 1 ≤ length (map string_bytes guests) → name ≡ slice_index_or guests 0 name → slice_index_or (map string_bytes guests) 0 [] ≡ string_bytes name
+name_first [] name some is = absurd (omega (arith, some))
+name_first (guest ∷ guests) name some is = ap string_bytes (sym is)
+
+pub planned : (told : Result Plan PlanFault) (plan : Plan) → plan_in told ≡ Ok plan → told ≡ Ok plan
+planned (Ok x) plan e = let same : x ≡ plan = cc in ap Ok same
+planned (Err fault) plan e = cc
+
+pub asked_by_plan : (files : Files) (text file : List ℕ) (plan : Plan) (w : Which) → plan_of text ≡ Ok plan → files (guest_name plan) ≡ Some file
+    → AsksAtGuest plan file w → AsksAtPlan files text w
 asked_by_plan files text file plan ThePlan e f asks = absurd asks
 asked_by_plan files text file plan Source e f asks = absurd asks
 asked_by_plan files text file plan (Guest p) e f asks = absurd asks

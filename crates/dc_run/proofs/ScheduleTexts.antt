@@ -1,6 +1,5 @@
 -- Lines, fields and numbers of a schedule's text.
 use Rattle.std.proofs.Common.{◌≡◌, ◌∙◌, ◌+◌, ◌-◌, ◌^◌, ◌<◌, ◌≤◌, ◌&&◌, ℕ, suc, Bool, true, false, List, [], ◌∷◌, ◌++◌, length, Result, Ok, Err, ap, sym, subst, refl, arith, if◌then◌else◌, nat_lt, nat_le, ⊎_elim, add-one}
-use Rattle.std.specs.Result.{is_ok, is_err}
 use Rattle.std.proofs.lemmas.Bool.{leb-true, lt-ltb, le-leb, le-ltb, ltb-true, true≢false, cases_lt}
 use Rattle.std.proofs.lemmas.List.{append_assoc}
 use Rattle.dc_words.specs.Numbers.{is_number, number_of}
@@ -135,8 +134,3 @@ pub line_read : (n number last : ℕ) (line rest after : List ℕ) (front : List
 line_read n number last line rest after front turn told e lines few good = e ∙ ap (λ xs. prefixed front (schedule_from n number last xs)) lines
     ∙ rw (le-ltb 1000000 number few, sym good) (moved front turn (schedule_from n (suc number) (clock_of turn) (lines_of after)))
     ∙ ap (λ k. prefixed (front ++ turn ∷ []) (schedule_from n k (clock_of turn) (lines_of after))) (sym (add-one number))
-
--- where nothing was refused
-pub kept : {T E X : Type 0} (xs ys : List X) (r : Result T E) → false ≡ is_err r → (if is_ok r then xs else ys) ≡ xs
-kept xs ys (Ok v) e = refl
-kept xs ys (Err v) e = absurd (let never : ⊥ = cc in never)

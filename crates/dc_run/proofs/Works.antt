@@ -2,7 +2,8 @@
 use Rattle.std.proofs.Common.{◌≡◌, ◌∙◌, ◌⊎◌, inl, inr, Bool, true, false, not, ◌&&◌, Option, None, Some, IfSome, Result, Ok, Err, ap, refl, sym}
 use Rattle.std.proofs.lemmas.Bool.{true≢false}
 use Rattle.dc_run.specs.Commands.{IsExact, IsOpenedFor}
-use Rattle.dc_run.specs.Opening.{◌>>=◌, Files}
+use Rattle.dc_words.specs.Results.{◌>>=◌}
+use Rattle.dc_run.specs.Opening.{Files}
 use Rattle.dc_run.specs.Settings.{is_free, is_refusal, was_opened}
 use Rattle.dc_run.specs.declared.verdict.Verdict.{Verdict}
 

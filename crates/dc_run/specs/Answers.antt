@@ -1,5 +1,5 @@
 -- What a guest that runs alone is answered.
-use Rattle.std.specs.Prelude.{ℕ, ◌%◌, ◌==◌, List, Option, if◌then◌else◌}
+use Rattle.std.specs.Prelude.{ℕ, ◌%◌, ◌==◌, List, Option, if◌then◌else◌, slice_get}
 use Rattle.dc_events.specs.declared.event.Kind.{Kind}
 use Rattle.dc_events.specs.declared.event.Kind.TheVariants as kind
 use Rattle.dc_plain.specs.Core.{input_answer}
@@ -16,7 +16,7 @@ pub record Draw : Type 0 where
   pub next : Option (List ℕ)
 
 abbrev pub draw_of : declared.Draw → Draw
-draw_of d = record { word = d.word; clock = d.clock; next = d.next }
+draw_of d = record { word = d.word; clock = d.clock; next = slice_get d.records.now d.place }
 
 -- what a turn is answered from
 abbrev pub turn_draws : Entry → Option (List ℕ) → Draw

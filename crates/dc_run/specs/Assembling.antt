@@ -5,7 +5,8 @@ use Rattle.dc_asm.specs.Program.{IsFileOf, program_of}
 use Rattle.dc_asm.specs.declared.faults.AsmFault.{AsmFault}
 use Rattle.dc_asm.specs.declared.forms.Meant.{Meant}
 use Rattle.dc_media.specs.Told.{Becomes}
-use Rattle.dc_run.specs.Opening.{◌>>=◌, Files, file_in}
+use Rattle.dc_words.specs.Results.{◌>>=◌}
+use Rattle.dc_run.specs.Opening.{Files, file_in}
 use Rattle.dc_run.specs.Settings.{is_free}
 use Rattle.dc_run.specs.declared.outcome.Outcome.{Outcome}
 use Rattle.dc_run.specs.declared.verdict.Did.TheVariants.{Assembled}

@@ -5,7 +5,8 @@ use Rattle.dc_asm.specs.declared.forms.Meant.{Meant}
 use Rattle.dc_run.specs.Assembling.{program_in}
 use Rattle.dc_run.specs.Command.{Asked, asked_of}
 use Rattle.dc_run.specs.Command.Asked.{ToRun, ToAssemble}
-use Rattle.dc_run.specs.Opening.{◌>>=◌, Files, Setting, AsksToRun, opening_of, or_refused}
+use Rattle.dc_words.specs.Results.{◌>>=◌, or_fault}
+use Rattle.dc_run.specs.Opening.{Files, Setting, AsksToRun, opening_of}
 use Rattle.dc_run.specs.Settings.{is_free, was_opened}
 use Rattle.dc_run.specs.declared.verdict.Verdict.{Verdict}
 use Rattle.dc_run.specs.declared.verdict.Verdict.TheVariants.{Usage}
@@ -23,7 +24,7 @@ work_by files (ToAssemble source) = program_in files source >>= (λ program. Ok 
 
 -- the words, then what their command wants: the first that is refused decides
 abbrev pub work_of : Files → List (String Global) → Result Work Verdict
-work_of files words = or_refused Usage (asked_of words) >>= work_by files
+work_of files words = or_fault Usage (asked_of words) >>= work_by files
 
 -- the work is a run of which this holds
 abbrev pub IfRun : Work → (Setting → Type 0) → Type 0

@@ -22,9 +22,9 @@ use Rattle.dc_run.specs.declared.verdict.Outlet.TheVariants.{Out, Report}
 use Rattle.dc_run.specs.declared.verdict.Verdict.{Verdict}
 use Rattle.dc_run.specs.declared.verdict.Verdict.TheVariants.{Done, Unfinished, SinkFault}
 
--- the one guest, without inputs
+-- the one guest
 abbrev pub guests : Setting → Guests Guest
-guests setting = guests_of (setting.image ∷ []) []
+guests setting = guests_of (setting.image ∷ []) setting.inputs
 
 -- the lines on the sink: whole ones, as many as were counted, then a front of the one that a fault cut off;
 -- dropping those whose number came before, they are the visible records

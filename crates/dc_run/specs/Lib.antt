@@ -1,5 +1,4 @@
 pub mod Command
-pub mod Plans
 pub mod Schedules
 pub mod Answers
 pub mod Headline

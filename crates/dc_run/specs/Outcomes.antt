@@ -12,8 +12,9 @@ use Rattle.dc_run.specs.declared.verdict.LineFault.{LineFault}
 use Rattle.dc_run.specs.declared.verdict.LineFault.TheVariants.{Form, Process, ClockFell, TooMany}
 use Rattle.dc_run.specs.declared.verdict.Outlet.{Outlet}
 use Rattle.dc_run.specs.declared.verdict.Outlet.TheVariants.{Out, Report}
-use Rattle.dc_run.specs.declared.verdict.PlanFault.{PlanFault}
-use Rattle.dc_run.specs.declared.verdict.PlanFault.TheVariants.{Text}
+use Rattle.dc_plan.specs.Keys.{key_text}
+use Rattle.dc_plan.specs.declared.fault.PlanFault.{PlanFault}
+use Rattle.dc_plan.specs.declared.fault.PlanFault.TheVariants as plan
 use Rattle.dc_run.specs.declared.verdict.ScheduleFault.{ScheduleFault}
 use Rattle.dc_run.specs.declared.verdict.Verdict.{Verdict}
 use Rattle.dc_run.specs.declared.verdict.Verdict.TheVariants.{Done, Unfinished, Usage, PlanRefused, GuestRefused, Missing, LibraryFault, SinkFault, WantOfMemory, ScheduleRefused, AsmRefused}
@@ -39,8 +40,14 @@ which_text (Guest p) = codes "guest " ++ decimal p
 which_text Schedule = codes "schedule"
 which_text Source = codes "source"
 
+-- a fault of a key, or of the whole
 abbrev pub plan_fault_text : PlanFault → List ℕ
-plan_fault_text Text = codes "text"
+plan_fault_text plan.Text = codes "text"
+plan_fault_text plan.Unknown = codes "unknown"
+plan_fault_text (plan.Missing key) = codes "missing " ++ key_text key
+plan_fault_text (plan.Kind key) = codes "kind " ++ key_text key
+plan_fault_text (plan.TooMany key) = codes "too many " ++ key_text key
+plan_fault_text (plan.Range key) = codes "range " ++ key_text key
 
 abbrev pub elf_fault_text : ElfFault → List ℕ
 elf_fault_text elf.Short = codes "short"

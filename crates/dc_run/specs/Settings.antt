@@ -1,5 +1,6 @@
 -- How the code's opening stands to the told files.
 use Rattle.std.specs.Prelude.{◌≡◌, ◌⊎◌, Bool, true, false, not, ◌&&◌, Result, Ok, Err}
+use Rattle.dc_plain.specs.Playing.{lists_of}
 use Rattle.dc_run.specs.Opening.{Setting}
 use Rattle.dc_run.specs.declared.setting.Setting as code
 use Rattle.dc_run.specs.declared.verdict.Verdict.{Verdict}
@@ -28,4 +29,4 @@ Agrees view (Ok x) told = told ≡ Ok (view x)
 Agrees view (Err v) told = (is_free v ≡ true) ⊎ (told ≡ Err v)
 
 abbrev pub setting_of : code.Setting → Setting
-setting_of s = record { image = record { memory = s.memory.items; entry = s.entry }; schedule = s.schedule.items }
+setting_of s = record { image = record { memory = s.memory.items; entry = s.entry }; inputs = lists_of s.inputs.items; schedule = s.schedule.items }

@@ -7,15 +7,17 @@ use dc_events::Kind;
 use dc_links::Message;
 use dc_plain::{Answer, Environment};
 
-/// What a turn of a guest that runs alone is answered from: its word, its clock, and the next record of the input.
+/// What a turn of a guest that runs alone is answered from: its word, its clock, and the records of the input with the place of
+/// the next one.
 #[derive(Clone, Copy)]
-pub struct Draw {
+pub struct Draw<'a> {
     pub word: u32,
     pub clock: u64,
-    pub next: Option<Message>,
+    pub records: &'a [Message],
+    pub place: u32,
 }
 
-impl Environment for Draw {
+impl Environment for Draw<'_> {
     ghost gives = { λ d kind. alone (draw_of d) kind };
 
     fn answer(&self, kind: Kind) -> Answer {
@@ -31,7 +33,7 @@ impl Environment for Draw {
     }
 }
 
-impl Draw {
+impl Draw<'_> {
     /// An odd word takes the next record, or says that there is none.
     fn input(&self) -> Answer
         ensures { answer_of result ≡ alone (draw_of self.now) kinds.Input }
@@ -39,8 +41,8 @@ impl Draw {
         if self.word % 2 == 0 {
             return Answer::InputNone;
         }
-        match self.next {
-            Some(message) => Answer::InputNext(message),
+        match self.records.get(self.place as usize) {
+            Some(message) => Answer::InputNext(*message),
             None => Answer::InputEnd,
         }
     }

@@ -6,7 +6,6 @@ mod command;
 mod draw;
 mod opening;
 mod outcome;
-mod plan;
 mod program;
 mod reserved;
 mod schedule;
@@ -18,7 +17,8 @@ mod world;
 
 pub use dc_asm::{AsmFault, AsmKind};
 pub use dc_elf::ElfFault;
+pub use dc_plan::{Key, PlanFault};
 pub use outcome::Outcome;
 pub use program::dc;
 pub use reserved::Reserved;
-pub use verdict::{Did, LineFault, Outlet, PlanFault, ScheduleFault, Unread, Verdict, Which};
+pub use verdict::{Did, LineFault, Outlet, ScheduleFault, Unread, Verdict, Which};

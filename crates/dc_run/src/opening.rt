@@ -1,23 +1,21 @@
 ghost use Rattle.std.specs.Prelude.{◌≡◌, ◌≤◌, ◌⊎◌, ◌%◌, false, None, Some, Err, All, IfErr, IfOk, IsErrOf, OnOk, length};
 ghost use Rattle.dc_media.specs.Causes.{Rose};
 ghost use Rattle.dc_elf.specs.Files.{fault_of};
-ghost use Rattle.dc_run.specs.Opening.{AsksAtGuest, AsksAtPlan, AsksToRun, Files, file_in, opening_of, opening_at_plan, opening_at_guest, opening_at_end, guest_in};
-ghost use Rattle.dc_run.specs.Plans.{names_of};
+ghost use Rattle.dc_run.specs.Opening.{AsksAtGuest, AsksAtPlan, AsksToRun, Files, file_in, opening_of, opening_at_plan, opening_at_guest, opening_at_end, guest_in, plan_in};
+ghost use Rattle.dc_plan.specs.Allowed.{IsAllowed};
+ghost use Rattle.dc_plan.specs.Plans.{plan_of, plan_view};
 ghost use Rattle.dc_run.specs.Schedules.{process_of};
 ghost use Rattle.dc_run.specs.Settings.{Agrees, setting_of, was_opened};
 ghost use Rattle.dc_plain.specs.Playing.{seen_image};
 ghost use Rattle.dc_run.specs.declared.verdict.Which.{Which as Whose};
 
-use crate::plan::{Plan, read_plan};
 use crate::schedule::read_schedule;
 use crate::setting::Setting;
-use crate::{PlanFault, Unread, Verdict, Which};
+use crate::{Unread, Verdict, Which};
 use dc_elf::{Image, LoadFault, load};
 use dc_media::{Fetch, Library};
+use dc_plan::{Plan, PlanError, read_plan};
 use std::alloc::Global;
-
-/// How many bytes of memory a guest has.
-const SIZE: u32 = 65_536;
 
 /// All the bytes of a file of the command.
 pub fn fetch<L: Library>(
@@ -42,28 +40,44 @@ pub fn fetch<L: Library>(
     }
 }
 
-/// The image of the guest's file.
-fn image_in(alloc: Global, file: &[u8]) -> Result<Image, Verdict>
-    ensures told { Agrees seen_image result (guest_in file.now) }
-    ensures long { IfOk result (λ image. length image.memory.items ≡ 65536) }
+/// The image of the guest's file in a memory of this size.
+fn image_in(alloc: Global, file: &[u8], size: u32) -> Result<Image, Verdict>
+    ensures told { Agrees seen_image result (guest_in size file.now) }
+    ensures long { IfOk result (λ image. length image.memory.items ≡ size) }
     ensures aligned { IfOk result (λ image. image.entry % 4 ≡ 0) }
-    ensures right { OnOk result (fault_of file.now 65536 ≡ None) }
+    ensures right { OnOk result (fault_of file.now size ≡ None) }
     ensures closed { IfErr result (λ v. was_opened v ≡ false) }
     ensures asked { ¬ (result ≡ Err Verdict.Usage) }
     ensures sound { (w : Whose) → IsErrOf result (Verdict.LibraryFault w) → ⊥ }
 {
-    match load(alloc, file, SIZE) {
+    match load(alloc, file, size) {
         Ok(image) => Ok(image),
         Err(LoadFault::Refused(fault)) => Err(Verdict::GuestRefused(0, fault)),
         Err(LoadFault::Memory) => Err(Verdict::WantOfMemory),
     }
 }
 
-/// With the guest's image and the bytes of the schedule.
-fn settle(alloc: Global, image: Image, text: &[u8]) -> Result<Setting, Verdict>
-    requires long { length image.memory.items ≡ 65536 }
+/// The plan of the bytes.
+fn plan_in(alloc: Global, text: &[u8]) -> Result<Plan, Verdict>
+    ensures told { Agrees plan_view result (plan_in (plan_of text.now)) }
+    ensures allowed { IfOk result (λ plan. IsAllowed (plan_view plan)) }
+    ensures closed { IfErr result (λ v. was_opened v ≡ false) }
+    ensures asked { ¬ (result ≡ Err Verdict.Usage) }
+    ensures sound { (w : Whose) → IsErrOf result (Verdict.LibraryFault w) → ⊥ }
+{
+    match read_plan(alloc, text) {
+        Ok(plan) => Ok(plan),
+        Err(PlanError::Refused(fault)) => Err(Verdict::PlanRefused(fault)),
+        Err(PlanError::Memory) => Err(Verdict::WantOfMemory),
+    }
+}
+
+/// With the plan, the guest's image and the bytes of the schedule.
+fn settle(alloc: Global, plan: Plan, image: Image, text: &[u8]) -> Result<Setting, Verdict>
+    requires allowed { IsAllowed (plan_view plan) }
+    requires long { length image.memory.items ≡ plan.memory }
     requires aligned { image.entry % 4 ≡ 0 }
-    ensures told { Agrees setting_of result (opening_at_end (seen_image image) text.now) }
+    ensures told { Agrees setting_of result (opening_at_end (plan_view plan) (seen_image image) text.now) }
     ensures closed { IfErr result (λ v. was_opened v ≡ false) }
     ensures asked { ¬ (result ≡ Err Verdict.Usage) }
     ensures sound { (w : Whose) → IsErrOf result (Verdict.LibraryFault w) → ⊥ }
@@ -72,6 +86,7 @@ fn settle(alloc: Global, image: Image, text: &[u8]) -> Result<Setting, Verdict>
         Ok(schedule) => Ok(Setting {
             memory: image.memory,
             entry: image.entry,
+            inputs: plan.inputs,
             schedule,
         }),
         Err(Unread::Refused(fault)) => Err(Verdict::ScheduleRefused(fault)),
@@ -79,23 +94,24 @@ fn settle(alloc: Global, image: Image, text: &[u8]) -> Result<Setting, Verdict>
     }
 }
 
-/// With the plan's names and the bytes of the guest's file.
+/// With the plan and the bytes of the guest's file.
 fn open_guest<L: Library>(
     alloc: Global,
     lib: &mut L,
-    plan: &Plan,
+    plan: Plan,
     file: &[u8],
 ) -> Result<Setting, Verdict>
-    ensures told { (files : Files) → L.files lib.old ≡ Some files → Agrees setting_of result (opening_at_guest files (names_of plan.now) file.now) }
+    requires { IsAllowed (plan_view plan) }
+    ensures told { (files : Files) → L.files lib.old ≡ Some files → Agrees setting_of result (opening_at_guest files (plan_view plan) file.now) }
     ensures closed { IfErr result (λ v. was_opened v ≡ false) }
     ensures asked { ¬ (result ≡ Err Verdict.Usage) }
-    ensures reached { (w : Whose) → IsErrOf result (Verdict.LibraryFault w) → AsksAtGuest file.now w }
+    ensures reached { (w : Whose) → IsErrOf result (Verdict.LibraryFault w) → AsksAtGuest (plan_view plan) file.now w }
     ensures fault { (w : Whose) → IsErrOf result (Verdict.LibraryFault w) → Rose (L.faults lib.old) (L.faults lib.new) }
     ensures later { L.faults lib.old ≤ L.faults lib.new }
 {
-    let image = image_in(alloc, file)?;
-    let text = fetch(alloc, lib, Which::Schedule, plan.schedule)?;
-    settle(alloc, image, &text)
+    let image = image_in(alloc, file, plan.memory)?;
+    let text = fetch(alloc, lib, Which::Schedule, &plan.schedule)?;
+    settle(alloc, plan, image, &text)
 }
 
 /// With the bytes of the plan.
@@ -108,11 +124,9 @@ fn open_plan<L: Library>(alloc: Global, lib: &mut L, text: &[u8]) -> Result<Sett
     ensures fault { (w : Whose) → IsErrOf result (Verdict.LibraryFault w) → Rose (L.faults lib.old) (L.faults lib.new) }
     ensures later { L.faults lib.old ≤ L.faults lib.new }
 {
-    let Some(plan) = read_plan(text) else {
-        return Err(Verdict::PlanRefused(PlanFault::Text));
-    };
-    let file = fetch(alloc, lib, Which::Guest(0), plan.guest)?;
-    open_guest(alloc, lib, &plan, &file)
+    let plan = plan_in(alloc, text)?;
+    let file = fetch(alloc, lib, Which::Guest(0), &plan.guests[0])?;
+    open_guest(alloc, lib, plan, &file)
 }
 
 /// What the files open the run of that plan with, or the first refusal.

@@ -2,11 +2,13 @@ ghost use Rattle.std.specs.Prelude.{◌≡◌, ◌≤◌, ◌+◌, ◌++◌, len
 ghost use Rattle.dc_media.specs.Causes.{HasCause};
 ghost use Rattle.dc_media.specs.Sinks.{TakesWhole};
 ghost use Rattle.dc_media.specs.Told.{TellsOn};
+ghost use Rattle.dc_plan.specs.Keys.{key_text};
 ghost use Rattle.dc_run.specs.Outcomes.{IsNothing, asm_fault_text, asm_kind_text, counts_text, done_text, elf_fault_text, guest_fault_text, line_fault_text, outcome_line, outlet_text, plan_fault_text, schedule_fault_text, status_of, verdict_text, which_text};
 
 use crate::reserved::Reserved;
 use crate::{
-    AsmFault, AsmKind, Did, ElfFault, LineFault, Outlet, PlanFault, ScheduleFault, Verdict, Which,
+    AsmFault, AsmKind, Did, ElfFault, Key, LineFault, Outlet, PlanFault, ScheduleFault, Verdict,
+    Which,
 };
 use dc_media::{Sink, SinkFailed, write_whole};
 use dc_plain::{Line, Mark, Taken};
@@ -90,7 +92,7 @@ impl Outcome {
             Verdict::Usage => {
                 line.push(b"usage: dc run PLAN | dc check PLAN REPORT OUT | dc asm SOURCE");
             }
-            Verdict::PlanRefused(fault) => push_both(line, b"plan refused: ", plan_fault(fault)),
+            Verdict::PlanRefused(fault) => push_plan_fault(line, fault),
             Verdict::GuestRefused(p, fault) => push_guest_fault(line, p, fault),
             Verdict::Missing(which) => push_which(line, b"missing: ", which),
             Verdict::LibraryFault(which) => push_which(line, b"library failed: ", which),
@@ -185,13 +187,31 @@ fn push_which(line: &mut Line, what: &[u8], which: Which)
     }
 }
 
-fn plan_fault(fault: PlanFault) -> &'static [u8]
-    ensures text { result.now ≡ plan_fault_text fault }
-    ensures short { length result.now ≤ 16 }
+fn push_plan_fault(line: &mut Line, fault: PlanFault)
+    requires { length line.old ≤ 4 }
+    ensures text { line.new ≡ line.old ++ (codes "plan refused: " ++ plan_fault_text fault) }
+    ensures length { length line.new ≤ length line.old + 90 }
 {
     match fault {
-        PlanFault::Text => b"text",
+        PlanFault::Text => push_both(line, b"plan refused: ", b"text"),
+        PlanFault::Unknown => push_both(line, b"plan refused: ", b"unknown"),
+        PlanFault::Missing(key) => push_key_fault(line, b"missing ", key),
+        PlanFault::Kind(key) => push_key_fault(line, b"kind ", key),
+        PlanFault::TooMany(key) => push_key_fault(line, b"too many ", key),
+        PlanFault::Range(key) => push_key_fault(line, b"range ", key),
     }
+}
+
+/// What is wrong with a key of a plan.
+fn push_key_fault(line: &mut Line, what: &[u8], key: Key)
+    requires line { length line.old ≤ 4 }
+    requires what { length what.now ≤ 16 }
+    ensures text { line.new ≡ line.old ++ (codes "plan refused: " ++ (what.now ++ key_text key)) }
+    ensures length { length line.new ≤ length line.old + 90 }
+{
+    line.push(b"plan refused: ");
+    line.push(what);
+    line.push(key.text().as_bytes());
 }
 
 fn push_guest_fault(line: &mut Line, p: u32, fault: ElfFault)

@@ -1,5 +1,6 @@
-ghost use Rattle.std.specs.Prelude.{◌≡◌, ◌⊎◌, ◌≤◌, ◌<◌, ◌^◌, ◌∷◌, ℕ, None, Some, [], false, true, IfOk, IfSome, IsOkAnd, List, Option, OnErr, length};
+ghost use Rattle.std.specs.Prelude.{◌≡◌, ◌⊎◌, ◌≤◌, ◌<◌, ◌^◌, ◌∷◌, ℕ, None, Some, [], false, true, IfOk, IfSome, IsOkAnd, List, Option, OnErr, length, slice_get, unwrap_or};
 ghost use Rattle.dc_acts.specs.Reports.{report_text};
+ghost use Rattle.dc_plain.specs.Playing.{lists_of};
 ghost use Rattle.dc_media.specs.Causes.{Rose};
 ghost use Rattle.dc_media.specs.Told.{TellsOn};
 ghost use Rattle.dc_run.specs.Assembling.{IsAssembled};
@@ -20,6 +21,7 @@ use crate::setting::Setting;
 use crate::world::World;
 use crate::{Outlet, Verdict};
 use dc_acts::write_report;
+use dc_links::Message;
 use dc_media::{Disks, Keeps, Library, Sink};
 use std::alloc::{AllocError, Global};
 
@@ -105,6 +107,16 @@ fn run_plan<L: Library, O: Sink, R: Sink>(
     }
 }
 
+/// The records of the first guest's input.
+fn first_of(alloc: Global, inputs: Vec<Vec<Message>>) -> Vec<Message>
+    ensures { result.items ≡ unwrap_or (slice_get (lists_of inputs.items) 0) [] }
+{
+    match inputs.into_iter().next() {
+        Some(records) => records,
+        None => Vec::new(alloc),
+    }
+}
+
 /// Runs an opened guest through its schedule.
 fn carry_out<O: Sink>(alloc: Global, setting: Setting, out: &mut O) -> Result<Outcome, AllocError>
     ensures headline { IfOk result (λ o. IsHeadline (setting_of setting) o.verdict o.acts.items o.marks.items o.lines (O.held out.old) (O.held out.new)) }
@@ -118,9 +130,11 @@ fn carry_out<O: Sink>(alloc: Global, setting: Setting, out: &mut O) -> Result<Ou
     let Setting {
         memory,
         entry,
+        inputs,
         schedule,
     } = setting;
-    let mut world = World::open(alloc, memory, entry, Vec::new(alloc), schedule.len())?;
+    let records = first_of(alloc, inputs);
+    let mut world = World::open(alloc, memory, entry, records, schedule.len())?;
     match world.run(&schedule, out) {
         Err(_) => Ok(world.outcome(Verdict::SinkFault(Outlet::Out))),
         Ok(()) => {

@@ -1,5 +1,6 @@
 use dc_asm::AsmFault;
 use dc_elf::ElfFault;
+use dc_plan::PlanFault;
 use thiserror::Error;
 
 /// A file of a command.
@@ -22,14 +23,6 @@ pub enum Outlet {
     Out,
     /// The sink of the report.
     Report,
-}
-
-/// What is wrong with a plan.
-#[derive(Clone, Copy, Debug, PartialEq, Eq, Error)]
-pub enum PlanFault {
-    /// It is not the text of a plan.
-    #[error("text")]
-    Text,
 }
 
 /// What is wrong with a line of a schedule, in the order of testing.

@@ -1,4 +1,4 @@
-ghost use Rattle.std.specs.Prelude.{false, ◌≡◌, ◌≤◌, ◌<◌, ◌+◌, ◌%◌, ◌∷◌, [], ℕ, All, List, Option, length, slice_get, IfOk, OnOk, OnErr};
+ghost use Rattle.std.specs.Prelude.{false, ◌≡◌, ◌≤◌, ◌<◌, ◌+◌, ◌%◌, ◌^◌, ◌∷◌, [], ℕ, All, List, Option, length, slice_get, IfOk, OnOk, OnErr};
 ghost use Rattle.dc_media.specs.Causes.{HasCause};
 ghost use Rattle.dc_media.specs.Sinks.{TakesWhole};
 ghost use Rattle.dc_media.specs.Told.{TellsOn};
@@ -44,12 +44,17 @@ fn process(entry: &Entry) -> u32
     }
 }
 
-/// What a turn is answered from, where this record of the input is the next.
-fn draw(entry: &Entry, next: Option<Message>) -> Draw
-    ensures { draw_of result ≡ turn_draws entry.now next }
+/// What a turn is answered from, with these records of the input, of which the one at a place is the next.
+fn draw<'a>(entry: &Entry, records: &'a [Message], place: u32) -> Draw<'a>
+    ensures { draw_of result ≡ turn_draws entry.now (slice_get records.now place) }
 {
     match *entry {
-        Entry::Turn { word, clock, .. } => Draw { word, clock, next },
+        Entry::Turn { word, clock, .. } => Draw {
+            word,
+            clock,
+            records,
+            place,
+        },
     }
 }
 
@@ -71,7 +76,9 @@ impl World {
         inputs: Vec<Message>,
         entries: usize,
     ) -> Result<World, AllocError>
-        requires long { length memory.items ≡ 65536 }
+        requires long { 16 ≤ length memory.items }
+        requires short { length memory.items < 2 ^ 32 }
+        requires words { length memory.items % 4 ≡ 0 }
         requires aligned { entry % 4 ≡ 0 }
         requires few { entries ≤ 1000000 }
         ensures begins { IfOk result (λ w. (all : List (List (List ℕ))) (schedule : List Entries) (held : Option (List ℕ)) →
@@ -95,13 +102,6 @@ impl World {
         })
     }
 
-    /// The record of its input that the guest takes next, if there is one.
-    fn next_input(&self) -> Option<Message>
-        ensures { result ≡ slice_get self.now.inputs.items self.now.place }
-    {
-        self.inputs.get(self.place as usize).copied()
-    }
-
     /// Takes the guest's next event at an entry of its own: adds the act, and says what others see of the event.
     fn take(&mut self, entry: &Entry) -> Effect
         requires live { self.old.guest.ended ≡ false }
@@ -112,8 +112,8 @@ impl World {
         ensures room { self.old.acts.room ≤ self.new.acts.room }
     {
         let t = self.marks.as_slice().len() as u32;
-        let next = self.next_input();
-        let (answer, effect) = self.guest.turn(&draw(entry, next));
+        let drawn = draw(entry, &self.inputs, self.place);
+        let (answer, effect) = self.guest.turn(&drawn);
         self.acts.push(Taken {
             t,
             p: process(entry),

@@ -8,7 +8,7 @@ use Rattle.dc_words.specs.Hex.{hex_digit, hex_byte, hex_of}
 use Rattle.dc_words.specs.Words.{word_of_bytes, words_in, bytes_in, AllBelow}
 
 -- the word of the bytes of a word
-word_again : (w : ℕ) → w < 2 ^ 32 → word_of_bytes (w % 256) (w / 2 ^ 8 % 256) (w / 2 ^ 16 % 256) (w / 2 ^ 24 % 256) ≡ w
+pub word_again : (w : ℕ) → w < 2 ^ 32 → word_of_bytes (w % 256) (w / 2 ^ 8 % 256) (w / 2 ^ 16 % 256) (w / 2 ^ 24 % 256) ≡ w
 word_again w small = omega (arith, small)
 
 -- the words of the bytes of words

@@ -2,3 +2,4 @@ mod Digits
 mod Spelling
 pub mod Bytes
 pub mod Splitting
+mod Unhexing

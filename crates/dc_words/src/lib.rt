@@ -8,7 +8,7 @@ mod tests;
 mod texts;
 mod words;
 
-pub use hex::hex_line;
+pub use hex::{NotHex, hex_line, read_hex};
 pub use numbers::{NumberFault, read_number};
-pub use texts::{first_field, first_line};
+pub use texts::{first_field, first_line, place};
 pub use words::{bytes_and_words_go_both_ways, bytes_of, words_of};

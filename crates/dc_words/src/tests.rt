@@ -1,4 +1,7 @@
-use crate::{NumberFault, bytes_of, first_field, first_line, hex_line, read_number, words_of};
+use crate::{
+    NotHex, NumberFault, bytes_of, first_field, first_line, hex_line, read_hex, read_number,
+    words_of,
+};
 use std::test::Fail;
 
 #[test]
@@ -18,6 +21,45 @@ fn a_byte_has_two_small_digits(rt: HostRuntime) {
     let mut text = [b'x'; 12];
     hex_line(&[0x00, 0x09, 0x0a, 0x5f, 0xa0, 0xff], &mut text);
     assert_eq!(rt; text.as_slice(), b"00090a5fa0ff".as_slice());
+}
+
+#[test]
+fn hexadecimal_texts_are_read(rt: HostRuntime) {
+    let cases = [
+        (b"6f6b".as_slice(), b"ok".as_slice()),
+        (b"".as_slice(), b"".as_slice()),
+        (
+            b"00090a5fa0ff".as_slice(),
+            b"\x00\x09\x0a\x5f\xa0\xff".as_slice(),
+        ),
+    ];
+    for (text, bytes) in &cases {
+        let mut room = [7; 8];
+        assert_eq!(rt; read_hex(text, &mut room), Ok(bytes.len()));
+        assert!(rt; room.starts_with(bytes));
+        assert_eq!(rt; room[7], 7);
+    }
+}
+
+#[test]
+fn what_is_no_hexadecimal_text_is_refused(rt: HostRuntime) {
+    let texts = [
+        b"6".as_slice(),
+        b"6F".as_slice(),
+        b"F6".as_slice(),
+        b"0g".as_slice(),
+        b"zz".as_slice(),
+        b"0/".as_slice(),
+        b"0:".as_slice(),
+        b"`0".as_slice(),
+        b" 00 ".as_slice(),
+        b"00 0".as_slice(),
+        b"0x10".as_slice(),
+        b"6f6".as_slice(),
+    ];
+    for text in &texts {
+        assert_eq!(rt; read_hex(text, &mut [0; 8]), Err(NotHex));
+    }
 }
 
 #[test]
@@ -88,6 +130,10 @@ fn a_fault_says_what_is_wrong(rt: HostRuntime) -> Result<(), Fail> {
     assert_eq!(rt;
         format!(in alloc; "{}", NumberFault::Range)?.as_str(),
         "out of range"
+    );
+    assert_eq!(rt;
+        format!(in alloc; "{}", NotHex)?.as_str(),
+        "not hexadecimal"
     );
     Ok(())
 }

@@ -1,7 +1,8 @@
 ghost use Rattle.std.specs.Prelude.{◌≡◌, ◌<◌, ◌==◌, ◌∷◌, [], IfSome, None, length, position};
 ghost use Rattle.dc_words.specs.Texts.{fields_of, lines_of};
 
-fn place(stop: u8, text: &[u8]) -> Option<usize>
+/// Where the first such byte stands.
+pub fn place(stop: u8, text: &[u8]) -> Option<usize>
     ensures place { result ≡ position (λ c. c == stop) text.now }
     ensures within { IfSome result (λ i. i < length text.now) }
 {

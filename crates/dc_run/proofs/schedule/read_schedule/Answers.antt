@@ -2,7 +2,8 @@ use Rattle.std.proofs.Common.{rules, arith, All, ◌≡◌, ◌<◌, ◌+◌, �
 use Rattle.std.proofs.lemmas.List.Elements.{All-push}
 use Rattle.dc_words.specs.Texts.{lines_of}
 use Rattle.dc_run.specs.Schedules.{prefixed, process_of, schedule_from, schedule_of}
-use Rattle.dc_run.proofs.ScheduleTexts.{kept, line_read, process_below, too_many_lines}
+use Rattle.dc_asm.proofs.Passes.{kept}
+use Rattle.dc_run.proofs.ScheduleTexts.{line_read, process_below, too_many_lines}
 use Rattle.dc_run.proofs.schedule.read_schedule.Goals as goal
 
 pub returns-then-line-gt-ENTRIES-clause-exact : goal.returns-then-line-gt-ENTRIES-clause-exact

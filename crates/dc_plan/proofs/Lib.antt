@@ -1,0 +1,4 @@
+mod Views
+mod InOrder
+mod Documents
+pub mod Allowing
