@@ -52,3 +52,30 @@ pub trait Keeps {
     /// An index of a word fits 32 bits.
     ghost extent_fits: { (s : Self) (p : ℕ) → extent s p < 2 ^ 32 };
 }
+
+/// Stores that are lent are stores.
+impl<K: Keeps> Keeps for &mut K {
+    ghost told = { λ s. K.told s.now };
+
+    ghost extent = { λ s. K.extent s.now };
+
+    ghost stops = { λ s. K.stops s.now };
+
+    ghost faults = { λ s. K.faults s.now };
+
+    ghost told_extent = { λ s. K.told_extent s.now };
+
+    ghost extent_fits = { λ s. K.extent_fits s.now };
+
+    fn format(&mut self, alloc: Global, p: u32, words: u32) -> Result<(), MakeFault> {
+        (**self).format(alloc, p, words)
+    }
+
+    fn load(&self, p: u32, i: u32) -> u32 {
+        (**self).load(p, i)
+    }
+
+    fn store(&mut self, p: u32, i: u32, w: u32) -> Result<(), DeviceFault> {
+        (**self).store(p, i, w)
+    }
+}

@@ -1,3 +1,9 @@
 pub mod Calls
+pub mod Disks
+pub mod Due
+pub mod Extents
 pub mod Files
+pub mod Hulls
+pub mod Keeps
+pub mod Listed
 pub mod Sinks

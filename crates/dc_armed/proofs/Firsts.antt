@@ -1,0 +1,120 @@
+-- The first stop of a turn, as a list of stops grows.
+use Rattle.std.proofs.Common.{◌≡◌, ◌≢◌, ◌≤◌, ◌<◌, ◌+◌, ℕ, zero, suc, List, [], ◌∷◌, ◌++◌, Option, None, Some, Bool, true, false, ◌⊎◌, ⊎_elim, refl, ap, sym, ◌∙◌, if◌then◌else◌, nat_lt, ◌||◌, take, get_or, set, replicate, length, arith}
+use Rattle.std.specs.Option.{option_map}
+use Rattle.std.proofs.lemmas.Bool.Decides.{nat_tests}
+use Rattle.std.proofs.lemmas.Bool.{cases_eq}
+use Rattle.std.proofs.lemmas.List.{get_or-set_same, get_or-set_other, take_more}
+use Rattle.dc_armed.specs.declared.stop.PlannedStop.{PlannedStop}
+use Rattle.dc_armed.specs.declared.stop.Waiting.{Waiting}
+use Rattle.dc_armed.specs.Turns.{ComesNone, WaitFirst}
+use Rattle.dc_armed.specs.Stops.{first_stop, is_of, sooner, sooner_waiting, waiting_of}
+
+-- each place of a list of one value has it, and so has each place past its end
+pub get_or-replicate_same : {A : Type 0} (a : A) (n i : ℕ) → get_or (replicate n a) i a ≡ a
+get_or-replicate_same a zero i = refl
+get_or-replicate_same a (suc n) zero = refl
+get_or-replicate_same a (suc n) (suc i) = get_or-replicate_same a n i
+
+-- a stop put at the end, which is not of the turn and process
+pub first_stop-push_other : (stops : List PlannedStop) (stop : PlannedStop) (turn p : ℕ)
+    → is_of turn p stop ≡ false → first_stop (stops ++ stop ∷ []) turn p ≡ first_stop stops turn p
+first_stop-push_other [] stop turn p other = rw other refl
+first_stop-push_other (one ∷ stops) stop turn p other = rw (first_stop-push_other stops stop turn p other) refl
+
+-- what waits, with one more stop planned
+abbrev then_waits : Option Waiting → PlannedStop → Option Waiting
+then_waits waiting stop = Some (sooner_waiting waiting stop)
+
+-- the sooner of one that waits and another
+abbrev pick : Waiting → Waiting → Waiting
+pick one other = if nat_lt other.calls one.calls then other else one
+
+-- of three in a row, whichever are compared first
+pick-assoc : (a b c : Waiting) → pick a (pick b c) ≡ pick (pick a b) c
+pick-assoc a b c = grind (arith, nat_tests)
+
+waiting_of-sooner : (one other : PlannedStop) → waiting_of (sooner one (Some other)) ≡ pick (waiting_of one) (waiting_of other)
+waiting_of-sooner one other = grind (arith, nat_tests)
+
+sooner_step : (one stop : PlannedStop) (found next : Option PlannedStop)
+    → option_map waiting_of next ≡ then_waits (option_map waiting_of found) stop
+    → option_map waiting_of (Some (sooner one next)) ≡ then_waits (option_map waiting_of (Some (sooner one found))) stop
+sooner_step one stop None None e = absurd (cc)
+sooner_step one stop None (Some b) e = ap Some (waiting_of-sooner one b ∙ ap (pick (waiting_of one)) (cc))
+sooner_step one stop (Some a) None e = absurd (cc)
+sooner_step one stop (Some a) (Some b) e =
+    let same : waiting_of b ≡ pick (waiting_of a) (waiting_of stop) = cc in
+    ap Some (waiting_of-sooner one b ∙ (ap (pick (waiting_of one)) same ∙ (pick-assoc (waiting_of one) (waiting_of a) (waiting_of stop) ∙ ap (λ w. pick w (waiting_of stop)) (sym (waiting_of-sooner one a)))))
+
+-- the same below a stop that may be of the turn and process
+first_stop-step : (of : Bool) (one stop : PlannedStop) (found next : Option PlannedStop)
+    → option_map waiting_of next ≡ then_waits (option_map waiting_of found) stop
+    → option_map waiting_of (if of then Some (sooner one next) else next) ≡ then_waits (option_map waiting_of (if of then Some (sooner one found) else found)) stop
+first_stop-step false one stop found next e = e
+first_stop-step true one stop found next e = sooner_step one stop found next e
+
+-- a stop put at the end, which is of the turn and process
+pub first_stop-push : (stops : List PlannedStop) (stop : PlannedStop) (turn p : ℕ)
+    → is_of turn p stop ≡ true → option_map waiting_of (first_stop (stops ++ stop ∷ []) turn p) ≡ then_waits (option_map waiting_of (first_stop stops turn p)) stop
+first_stop-push [] stop turn p of = rw of refl
+first_stop-push (one ∷ stops) stop turn p of =
+    let above = first_stop-push stops stop turn p of in
+    first_stop-step (is_of turn p one) one stop _ _ above
+
+-- a stop of another process
+is_of-other : (stop : PlannedStop) (turn p : ℕ) → p ≢ stop.process → is_of turn p stop ≡ false
+is_of-other stop turn p other = grind (arith, nat_tests)
+
+is_of-within : (stop : PlannedStop) (turn p : ℕ) → is_of turn p stop ≡ true → stop.process < 32
+is_of-within stop turn p of = grind (arith, nat_tests)
+
+-- what waits once a stop of the turn was taken up
+pub waits-taken : (stops : List PlannedStop) (stop : PlannedStop) (turn : ℕ) (waiting : List (Option Waiting))
+    → is_of turn stop.process stop ≡ true → length waiting ≡ 32
+    → WaitFirst stops turn waiting
+    → WaitFirst (stops ++ stop ∷ []) turn (set waiting stop.process (Some (sooner_waiting (get_or waiting stop.process None) stop)))
+waits-taken stops stop turn waiting of whole before = λ p.
+    let within : stop.process < length waiting = omega (arith, is_of-within stop turn stop.process of) in
+    ⊎_elim
+    (λ (same : p ≡ stop.process). rw (same, get_or-set_same waiting stop.process _ None within, first_stop-push stops stop turn stop.process of, before stop.process) refl)
+    (λ (other : p ≢ stop.process). rw (get_or-set_other waiting stop.process p _ None other, first_stop-push_other stops stop turn p (is_of-other stop turn p other)) (before p))
+    (cases_eq p stop.process)
+
+passed : (stops : List PlannedStop) (stop : PlannedStop) (turn p : ℕ) → is_of turn stop.process stop ≡ false → first_stop (stops ++ stop ∷ []) turn p ≡ first_stop stops turn p
+passed stops stop turn p other =
+    ⊎_elim
+    (λ (same : p ≡ stop.process). rw same (first_stop-push_other stops stop turn stop.process other))
+    (λ (ne : p ≢ stop.process). first_stop-push_other stops stop turn p (is_of-other stop turn p ne))
+    (cases_eq p stop.process)
+
+-- a stop that does not come in the turn changes nothing
+pub waits-passed : (stops : List PlannedStop) (stop : PlannedStop) (turn : ℕ) (waiting : List (Option Waiting))
+    → is_of turn stop.process stop ≡ false → WaitFirst stops turn waiting → WaitFirst (stops ++ stop ∷ []) turn waiting
+waits-passed stops stop turn waiting other before = λ p. before p ∙ ap (option_map waiting_of) (sym (passed stops stop turn p other))
+
+apart_ne : (t from until turn : ℕ) → (t < from) ⊎ (until ≤ t) → from ≤ turn → turn < until → turn ≢ t
+apart_ne t from until turn apart above below = omega arith
+
+is_of-later : (stop : PlannedStop) (turn p : ℕ) → turn ≢ stop.turn → is_of turn p stop ≡ false
+is_of-later stop turn p other = grind (arith, nat_tests)
+
+-- no stop comes up to a turn before that of one more stop
+pub ComesNone-push : (stops : List PlannedStop) (stop : PlannedStop) (from until : ℕ)
+    → ComesNone stops from until → (stop.turn < from) ⊎ (until ≤ stop.turn) → ComesNone (stops ++ stop ∷ []) from until
+ComesNone-push stops stop from until before apart = λ turn p above below.
+    first_stop-push_other stops stop turn p (is_of-later stop turn p (apart_ne stop.turn from until turn apart above below)) ∙ before turn p above below
+
+-- up to a sooner turn
+pub ComesNone-sooner : (stops : List PlannedStop) (from until sooner : ℕ) → ComesNone stops from until → sooner ≤ until → ComesNone stops from sooner
+ComesNone-sooner stops from until sooner before le = λ turn p above below. before turn p above (omega arith)
+
+-- one more of the stops
+pub WaitFirst-more : (stops : List PlannedStop) (i : ℕ) (d : PlannedStop) (turn : ℕ) (waiting : List (Option Waiting))
+    → i < length stops → WaitFirst (take i stops ++ get_or stops i d ∷ []) turn waiting → WaitFirst (take (i + 1) stops) turn waiting
+WaitFirst-more stops i d turn waiting within first = rw (take_more stops i d within) first
+
+-- neither of two
+pub neither : (a b : Bool) → (a || b) ≡ false → (a ≡ false) × (b ≡ false)
+neither false false e = (refl, refl)
+neither true b e = absurd (cc)
+neither false true e = absurd (cc)

@@ -1,0 +1,5 @@
+mod Counting
+mod Firsts
+mod Parting
+mod Soonest
+mod Surviving

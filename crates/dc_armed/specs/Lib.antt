@@ -1,0 +1,4 @@
+pub mod Armed
+pub mod Stops
+pub mod Torn
+pub mod Turns

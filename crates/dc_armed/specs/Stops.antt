@@ -1,0 +1,77 @@
+-- Planned stops: which one waits for a process in a turn, how its calls count it down, and how many came.
+use Rattle.std.specs.Prelude.{◌≡◌, ◌≢◌, ℕ, ◌-◌, ◌^◌, ◌+◌, ◌≤◌, ◌==◌, ◌&&◌, nat_lt, min, List, [], ◌∷◌, Bool, Option, None, Some, Result, Ok, Err, if◌then◌else◌, get_or}
+use Rattle.dc_media.specs.declared.faults.DeviceFault.{DeviceFault}
+use Rattle.dc_media.specs.declared.faults.DeviceFault.TheVariants.{Stopped, Failed}
+use Rattle.dc_media.specs.declared.TheConstants.{STORES}
+use Rattle.dc_media.specs.declared.tear.Tear.{Tear}
+use Rattle.dc_armed.specs.declared.stop.PlannedStop.{PlannedStop}
+use Rattle.dc_armed.specs.declared.stop.Waiting.{Waiting}
+
+-- of this turn and process; calls are numbered from 1 and processes are below `STORES`, so no other stop ever comes
+abbrev pub is_of : ℕ → ℕ → PlannedStop → Bool
+is_of turn p stop = (stop.turn == turn) && (stop.process == p) && nat_lt stop.process STORES && nat_lt 0 stop.call
+
+-- the sooner of two stops, the first of two at one call
+abbrev pub sooner : PlannedStop → Option PlannedStop → PlannedStop
+sooner stop None = stop
+sooner stop (Some other) = if nat_lt other.call stop.call then other else stop
+
+-- the first stop for a process in a turn
+abbrev pub first_stop : List PlannedStop → ℕ → ℕ → Option PlannedStop
+first_stop [] turn p = None
+first_stop (stop ∷ stops) turn p = if is_of turn p stop then Some (sooner stop (first_stop stops turn p)) else first_stop stops turn p
+
+-- a stop that waits: at which of the coming calls it comes, and what that call leaves
+abbrev pub waiting_of : PlannedStop → Waiting
+waiting_of stop = record { calls = stop.call; tear = stop.tear }
+
+-- the sooner of a stop that waits and one that is planned after it
+abbrev pub sooner_waiting : Option Waiting → PlannedStop → Waiting
+sooner_waiting None stop = waiting_of stop
+sooner_waiting (Some waiting) stop = if nat_lt stop.call waiting.calls then waiting_of stop else waiting
+
+-- the stops, for each process the one that waits in this turn, and how many came to it
+pub record Plan : Type 0 where
+  pub stops : List PlannedStop
+  pub waiting : List (Option Waiting)
+  pub came : List ℕ
+
+-- the stop that waits for a process
+abbrev pub waiting_for : Plan → ℕ → Option Waiting
+waiting_for plan p = get_or plan.waiting p None
+
+-- how many stops came to a process
+abbrev pub came_to : Plan → ℕ → ℕ
+came_to plan p = get_or plan.came p 0
+
+-- the tear of a stop that comes at the next call
+abbrev pub due_of : Option Waiting → Option Tear
+due_of None = None
+due_of (Some waiting) = if waiting.calls == 1 then Some waiting.tear else None
+
+-- the tear of the stop that comes at the next call of a process
+abbrev pub due : Plan → ℕ → Option Tear
+due plan p = due_of (waiting_for plan p)
+
+-- one call fewer to wait for; a stop whose call is past waits no more
+abbrev pub one_fewer : Option Waiting → Option Waiting
+one_fewer None = None
+one_fewer (Some waiting) = if nat_lt 1 waiting.calls then Some (record waiting { calls = waiting.calls - 1 }) else None
+
+-- what waits after an answer; nothing waits for a process that was stopped
+abbrev pub after_answer : {T : Type 0} → Result T DeviceFault → Option Waiting → Option Waiting
+after_answer (Ok x) waiting = waiting
+after_answer (Err Stopped) waiting = None
+after_answer (Err Failed) waiting = waiting
+
+-- this waits for a process now; for the others what waited, and the stops are the same
+pub record Waits (p : ℕ) (waiting : Option Waiting) (old new : Plan) : Type 0 where
+  pub here : waiting_for new p ≡ waiting
+  pub others : (q : ℕ) → q ≢ p → waiting_for new q ≡ waiting_for old q
+  pub stops_same : new.stops ≡ old.stops
+
+-- one more stop came to a process, and none to the others; a count of 64 bits stays at its last value
+pub record Comes (p : ℕ) (old new : Plan) : Type 0 where
+  pub here : came_to new p ≡ min (came_to old p + 1) (2 ^ 64 - 1)
+  pub later : came_to old p ≤ came_to new p
+  pub others : (q : ℕ) → q ≢ p → came_to new q ≡ came_to old q

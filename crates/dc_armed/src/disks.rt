@@ -1,0 +1,114 @@
+ghost use Rattle.std.specs.Prelude.{◌≡◌, ◌≢◌, ◌+◌, ◌<◌, ◌≤◌, ℕ, None, IfSome, OnOk, OnErr, length};
+ghost use Rattle.dc_media.specs.Causes.{IsCaused, IsMade};
+ghost use Rattle.dc_media.specs.Disk.{Reads, Syncs, Writes, blank};
+ghost use Rattle.dc_media.specs.Told.{TellsOn, IsSameStore};
+ghost use Rattle.dc_armed.specs.Armed.{all_stops, within, ComesOrRefused, IsOwn, IsPlannedAlone};
+ghost use Rattle.dc_armed.specs.Torn.{torn_disk};
+ghost use Rattle.dc_armed.specs.Stops.{after_answer, came_to, due, one_fewer, waiting_for, Waits};
+
+use crate::Armed;
+use crate::torn::torn_write;
+use dc_media::{DeviceFault, Disks, MakeFault, STORES};
+use std::alloc::Global;
+
+/// Disks with planned stops. A write and a sync are counted as calls.
+impl<D: Disks> Disks for Armed<D> {
+    ghost told = { within D.told };
+
+    ghost extent = { within D.extent };
+
+    ghost stops = { all_stops D.stops };
+
+    ghost faults = { within D.faults };
+
+    ghost told_extent = { λ a. D.told_extent a.device };
+
+    ghost extent_fits = { λ a. D.extent_fits a.device };
+
+    fn format(&mut self, alloc: Global, p: u32, bytes: u64) -> Result<(), MakeFault>
+        requires { p < STORES }
+        ensures extent { OnOk result (D.extent self.new.device p ≡ bytes) }
+        ensures refused { OnErr result (D.extent self.new.device p ≡ D.extent self.old.device p) }
+        ensures zeros { OnOk result (IfSome (D.told self.new.device p) (λ disk. disk ≡ blank bytes)) }
+        ensures tells { TellsOn (D.stops self.new.device p) (D.faults self.new.device p) (D.told self.old.device p) (D.told self.new.device p) }
+        ensures cause { IsMade (D.stops self.old.device p) (D.stops self.new.device p) (D.faults self.old.device p) (D.faults self.new.device p) result }
+        ensures others { (q : ℕ) → q ≢ p → IsSameStore D.told D.extent D.stops D.faults self.old.device self.new.device q }
+
+        // no planned stop comes
+        ensures plan { self.new.plan ≡ self.old.plan }
+    {
+        self.device.format(alloc, p, bytes)
+    }
+
+    fn size(&self, p: u32) -> u64 {
+        self.device.size(p)
+    }
+
+    /// No planned stop comes at it, and it is not counted.
+    fn read(&mut self, p: u32, at: u64, to: &mut [u8]) -> Result<(), DeviceFault>
+        requires { at + length to.old ≤ D.extent self.old.device p }
+        ensures extent { D.extent self.new.device p ≡ D.extent self.old.device p }
+        ensures bytes { Reads at to.new result (D.told self.old.device p) (D.told self.new.device p) }
+        ensures tells { TellsOn (D.stops self.new.device p) (D.faults self.new.device p) (D.told self.old.device p) (D.told self.new.device p) }
+        ensures others { (q : ℕ) → q ≢ p → IsSameStore D.told D.extent D.stops D.faults self.old.device self.new.device q }
+
+        // the answer is the device's, and what waits after it
+        ensures passes { IsOwn D.stops D.faults p result self.old self.new }
+        ensures waits { Waits p (after_answer result (waiting_for self.old.plan p)) self.old.plan self.new.plan }
+    {
+        let done = self.device.read(p, at, to);
+        self.plan.passed(p, done)
+    }
+
+    /// At a planned stop as many bytes are written as are kept, and the others stay or are filled; all of them are pending.
+    ///
+    /// The answer is then `Stopped`, unless the device refuses a part, which is passed on.
+    fn write(&mut self, p: u32, at: u64, from: &[u8]) -> Result<(), DeviceFault>
+        requires { at + length from.now ≤ D.extent self.old.device p }
+        ensures extent { D.extent self.new.device p ≡ D.extent self.old.device p }
+        ensures bytes { Writes at from.now result (D.told self.old.device p) (D.told self.new.device p) }
+        ensures tells { TellsOn (D.stops self.new.device p) (D.faults self.new.device p) (D.told self.old.device p) (D.told self.new.device p) }
+        ensures cause { IsCaused (all_stops D.stops self.old p) (all_stops D.stops self.new p) (D.faults self.old.device p) (D.faults self.new.device p) result }
+        ensures others { (q : ℕ) → q ≢ p → IsSameStore (within D.told) (within D.extent) (all_stops D.stops) (within D.faults) self.old self.new q }
+
+        // what a planned stop does, and what waits after a call
+        ensures passes { due self.old.plan p ≡ None → IsOwn D.stops D.faults p result self.old self.new }
+        ensures stops { IfSome (due self.old.plan p) (λ tear. ComesOrRefused D.told D.stops D.faults p (torn_disk tear at from.now) result self.old self.new) }
+        ensures waits { Waits p (after_answer result (one_fewer (waiting_for self.old.plan p))) self.old.plan self.new.plan }
+        ensures elsewhere { (q : ℕ) → q ≢ p → came_to self.new.plan q ≡ came_to self.old.plan q }
+    {
+        match self.plan.call(p) {
+            None => {
+                let done = self.device.write(p, at, from);
+                self.plan.passed(p, done)
+            }
+            Some(tear) => {
+                let done = torn_write(&mut self.device, tear, p, at, from);
+                self.plan.comes(p, done)
+            }
+        }
+    }
+
+    /// At a planned stop nothing is made sure of, and the answer is `Stopped`.
+    fn sync(&mut self, p: u32) -> Result<(), DeviceFault>
+        ensures extent { D.extent self.new.device p ≡ D.extent self.old.device p }
+        ensures bytes { Syncs result (D.told self.old.device p) (D.told self.new.device p) }
+        ensures tells { TellsOn (D.stops self.new.device p) (D.faults self.new.device p) (D.told self.old.device p) (D.told self.new.device p) }
+        ensures cause { IsCaused (all_stops D.stops self.old p) (all_stops D.stops self.new p) (D.faults self.old.device p) (D.faults self.new.device p) result }
+        ensures others { (q : ℕ) → q ≢ p → IsSameStore (within D.told) (within D.extent) (all_stops D.stops) (within D.faults) self.old self.new q }
+
+        // what a planned stop does, and what waits after a call
+        ensures passes { due self.old.plan p ≡ None → IsOwn D.stops D.faults p result self.old self.new }
+        ensures stops { IfSome (due self.old.plan p) (λ tear. IsPlannedAlone p result self.old self.new) }
+        ensures waits { Waits p (after_answer result (one_fewer (waiting_for self.old.plan p))) self.old.plan self.new.plan }
+        ensures elsewhere { (q : ℕ) → q ≢ p → came_to self.new.plan q ≡ came_to self.old.plan q }
+    {
+        match self.plan.call(p) {
+            None => {
+                let done = self.device.sync(p);
+                self.plan.passed(p, done)
+            }
+            Some(_) => self.plan.comes(p, Ok(())),
+        }
+    }
+}

@@ -1,0 +1,14 @@
+//! Devices that stop as a plan says, and pass everything else on.
+#![tactic(auto)]
+
+mod armed;
+mod disks;
+mod keeps;
+mod plan;
+mod stop;
+#[cfg(test)]
+mod tests;
+mod torn;
+
+pub use armed::Armed;
+pub use stop::PlannedStop;

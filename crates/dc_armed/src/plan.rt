@@ -1,0 +1,246 @@
+ghost use Rattle.std.specs.Prelude.{◌≡◌, ◌<◌, ◌≤◌, ◌+◌, List, ◌∷◌, ◌++◌, ℕ, false, None, Some, Err, IsSome, OnOk, OnErr, [], length, take, get_or, replicate};
+ghost use Rattle.std.specs.Option.{option_map};
+ghost use Rattle.dc_media.specs.declared.faults.DeviceFault.TheVariants.{Stopped};
+ghost use Rattle.dc_armed.specs.Turns.{ComesNone, WaitFirst, WaitNone};
+ghost use Rattle.dc_armed.specs.declared.stop.PlannedStop.{PlannedStop};
+ghost use Rattle.dc_armed.specs.Stops.{after_answer, came_to, due, due_of, first_stop, is_of, one_fewer, sooner_waiting, waiting_for, waiting_of, Comes, Waits};
+
+use crate::stop::{PlannedStop, Waiting};
+use dc_media::{DeviceFault, STORES, Tear};
+use std::marker::Model;
+
+/// The planned stops, those that wait in the turn that runs, and how many came.
+#[derive(Drop)]
+pub(crate) struct StopPlan {
+    stops: Vec<PlannedStop>,
+    waiting: [Option<Waiting>; STORES as usize],
+    came: [u64; STORES as usize],
+    /// Whether any stop waits.
+    armed: bool,
+    /// No stop is planned from this turn on ..
+    quiet_from: u64,
+    /// .. up to this turn.
+    quiet_until: u64,
+}
+
+impl Model for StopPlan {
+    ghost use Rattle.std.specs.Prelude.{◌≡◌, false};
+    ghost use Rattle.dc_armed.specs.Stops.{Plan};
+    ghost use Rattle.dc_armed.specs.Turns.{ComesNone, WaitNone};
+
+    ghost Value = { Plan };
+
+    ghost view = { λ s. record { stops = s.stops.items; waiting = s.waiting; came = s.came } };
+
+    ghost invariant = { λ s. ComesNone s.stops.items s.quiet_from s.quiet_until × (s.armed ≡ false → WaitNone s.waiting) };
+}
+
+/// No stop waits.
+fn none_waiting() -> [Option<Waiting>; STORES as usize]
+    ensures { WaitNone result }
+{
+    [None; STORES as usize]
+}
+
+/// No stop came.
+fn none_came() -> [u64; STORES as usize]
+    ensures { (p : ℕ) → get_or result p 0 ≡ 0 }
+{
+    [0; STORES as usize]
+}
+
+/// Whether a stop comes in a turn: its calls and processes are numbered, and the turn is its own.
+fn comes_in(turn: u32, stop: &PlannedStop) -> bool
+    ensures { result ≡ is_of turn stop.now.process stop.now }
+{
+    stop.turn == turn && stop.process < STORES && stop.call > 0
+}
+
+/// The sooner of a stop that waits and one that is planned after it.
+fn sooner(waiting: Option<Waiting>, stop: &PlannedStop) -> Waiting
+    ensures { result ≡ sooner_waiting waiting stop.now }
+{
+    match waiting {
+        Some(waiting) if waiting.calls <= stop.call => waiting,
+        _ => Waiting {
+            calls: stop.call,
+            tear: stop.tear,
+        },
+    }
+}
+
+/// Lets a stop wait if it comes in a turn, and says whether it does.
+fn arm_one(waiting: &mut [Option<Waiting>; STORES as usize], stop: &PlannedStop, turn: u32) -> bool
+    ensures waits { (stops : List PlannedStop) → WaitFirst stops turn waiting.old → WaitFirst (stops ++ stop.now ∷ []) turn waiting.new }
+    ensures none { result ≡ false → waiting.new ≡ waiting.old }
+{
+    if comes_in(turn, stop) {
+        let place = stop.process as usize;
+        waiting[place] = Some(sooner(waiting[place], stop));
+        return true;
+    }
+    false
+}
+
+/// Lets the first stop of a turn wait for each process, and says whether there is any.
+fn arm(waiting: &mut [Option<Waiting>; STORES as usize], stops: &[PlannedStop], turn: u32) -> bool
+    requires { WaitNone waiting.old }
+    ensures waits { WaitFirst stops.now turn waiting.new }
+    ensures none { result ≡ false → WaitNone waiting.new }
+{
+    let mut armed = false;
+    for stop in stops {
+        armed |= arm_one(waiting, stop, turn);
+    }
+    armed
+}
+
+/// The sooner of a turn and that of a stop which is planned for a turn after this one.
+fn sooner_turn(next: u64, stop: &PlannedStop, turn: u32) -> u64
+    ensures { (stops : List PlannedStop) → ComesNone stops (turn + 1) next → ComesNone (stops ++ stop.now ∷ []) (turn + 1) result }
+{
+    if stop.turn > turn {
+        return next.min(u64::from(stop.turn));
+    }
+    next
+}
+
+/// The first turn after this one for which a stop is planned, or one past the last turn.
+fn next_turn(stops: &[PlannedStop], turn: u32) -> u64
+    ensures { ComesNone stops.now (turn + 1) result }
+{
+    let mut next = 1 << 32;
+    for stop in stops {
+        next = sooner_turn(next, stop, turn);
+    }
+    next
+}
+
+/// Counts a call down, and gives the tear of a stop that comes at it.
+fn count_down(slot: &mut Option<Waiting>) -> Option<Tear>
+    ensures due { result ≡ due_of slot.old }
+    ensures fewer { slot.new ≡ one_fewer slot.old }
+{
+    let waiting = slot.as_mut()?;
+    if waiting.calls > 1 {
+        waiting.calls -= 1;
+        return None;
+    }
+    let tear = (waiting.calls == 1).then_some(waiting.tear);
+    *slot = None;
+    tear
+}
+
+impl StopPlan {
+    /// No stop waits, and none came yet.
+    pub(crate) fn new(stops: Vec<PlannedStop>) -> StopPlan
+        ensures stops { result.stops ≡ stops.items }
+        ensures waits { WaitNone result.waiting }
+        ensures came { (p : ℕ) → came_to result p ≡ 0 }
+    {
+        StopPlan {
+            stops,
+            waiting: none_waiting(),
+            came: none_came(),
+            armed: false,
+            quiet_from: 0,
+            quiet_until: 0,
+        }
+    }
+
+    /// Nothing waits for any process any more.
+    fn clear(&mut self)
+        ensures none { WaitNone self.new.waiting }
+        ensures stops { self.new.stops ≡ self.old.stops }
+        ensures came { self.new.came ≡ self.old.came }
+    {
+        if self.armed {
+            self.waiting = none_waiting();
+            self.armed = false;
+        }
+    }
+
+    /// Begins a turn: its stops wait, and no other.
+    pub(crate) fn at_turn(&mut self, turn: u32)
+        ensures waits { WaitFirst self.old.stops turn self.new.waiting }
+        ensures stops { self.new.stops ≡ self.old.stops }
+        ensures came { self.new.came ≡ self.old.came }
+    {
+        self.clear();
+        let number = u64::from(turn);
+        if self.quiet_from <= number && number < self.quiet_until {
+            return;
+        }
+        self.armed = arm(&mut self.waiting, &self.stops, turn);
+        self.quiet_from = if self.armed { number + 1 } else { number };
+        self.quiet_until = next_turn(&self.stops, turn);
+    }
+
+    /// Counts a call of a process, and gives the tear of a stop that comes at it.
+    pub(crate) fn call(&mut self, p: u32) -> Option<Tear>
+        ensures due { result ≡ due self.old p }
+        ensures within { IsSome result → p < STORES }
+        ensures waits { Waits p (one_fewer (waiting_for self.old p)) self.old self.new }
+        ensures came { self.new.came ≡ self.old.came }
+    {
+        if !self.armed || p >= STORES {
+            return None;
+        }
+        count_down(&mut self.waiting[p as usize])
+    }
+
+    /// Nothing waits for a process any more.
+    fn stopped(&mut self, p: u32)
+        ensures waits { Waits p None self.old self.new }
+        ensures came { self.new.came ≡ self.old.came }
+    {
+        if self.armed && p < STORES {
+            self.waiting[p as usize] = None;
+        }
+    }
+
+    /// Heeds the answer of a device: nothing waits for a process that was stopped.
+    pub(crate) fn passed(
+        &mut self,
+        p: u32,
+        answer: Result<(), DeviceFault>,
+    ) -> Result<(), DeviceFault>
+        ensures answer { result ≡ answer }
+        ensures waits { Waits p (after_answer result (waiting_for self.old p)) self.old self.new }
+        ensures came { self.new.came ≡ self.old.came }
+    {
+        match answer {
+            Ok(()) => Ok(()),
+            Err(DeviceFault::Stopped) => {
+                self.stopped(p);
+                Err(DeviceFault::Stopped)
+            }
+            Err(DeviceFault::Failed) => Err(DeviceFault::Failed),
+        }
+    }
+
+    /// A planned stop comes to a process.
+    fn count(&mut self, p: u32)
+        requires { p < STORES }
+        ensures comes { Comes p self.old self.new }
+        ensures waits { Waits p None self.old self.new }
+    {
+        let came = &mut self.came[p as usize];
+        *came = came.saturating_add(1);
+        self.waiting[p as usize] = None;
+    }
+
+    /// A planned stop comes to a process where its work was done as far as it goes; else the refusal is the answer.
+    pub(crate) fn comes(&mut self, p: u32, done: Result<(), DeviceFault>) -> Result<(), DeviceFault>
+        requires { p < STORES }
+        ensures comes { OnOk done ((result ≡ Err Stopped) × Comes p self.old self.new) }
+        ensures refused { OnErr done ((result ≡ done) × (self.new.came ≡ self.old.came)) }
+        ensures waits { Waits p (after_answer result (waiting_for self.old p)) self.old self.new }
+    {
+        if done.is_ok() {
+            self.count(p);
+            return Err(DeviceFault::Stopped);
+        }
+        self.passed(p, done)
+    }
+}

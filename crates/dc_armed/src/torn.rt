@@ -1,0 +1,110 @@
+ghost use Rattle.std.specs.Prelude.{◌≡◌, ◌≢◌, ◌+◌, ◌<◌, ◌≤◌, ℕ, length};
+ghost use Rattle.dc_media.specs.Tears.{left, torn};
+ghost use Rattle.dc_armed.specs.Torn.{IsOverwrite, IsTornStore};
+
+use dc_media::{DeviceFault, Disks, Keeps, Tear};
+
+/// How many bytes are touched at once.
+const PART: usize = 64;
+
+/// Writes bytes of a disk, with no call where there are none.
+fn write_part<D: Disks>(disks: &mut D, p: u32, at: u64, front: &[u8]) -> Result<(), DeviceFault>
+    requires { at + length front.now ≤ D.extent disks.old p }
+    ensures { IsOverwrite D.told D.extent D.stops D.faults p at (length front.now) (λ old. front.now) result disks.old disks.new }
+{
+    if front.is_empty() {
+        return Ok(());
+    }
+    disks.write(p, at, front)
+}
+
+/// Reads bytes of a disk and writes them back, so that they are pending.
+fn write_back<D: Disks>(disks: &mut D, p: u32, at: u64, bytes: &mut [u8]) -> Result<(), DeviceFault>
+    requires { at + length bytes.old ≤ D.extent disks.old p }
+    ensures { IsOverwrite D.told D.extent D.stops D.faults p at (length bytes.old) (λ old. old) result disks.old disks.new }
+{
+    let read = disks.read(p, at, bytes);
+    let written = disks.write(p, at, bytes);
+    read.and(written)
+}
+
+/// Makes a few bytes of a disk pending, which stay or are filled.
+fn leave_part<D: Disks>(
+    disks: &mut D,
+    p: u32,
+    at: u64,
+    count: usize,
+    fill: Option<u8>,
+) -> Result<(), DeviceFault>
+    requires few { count ≤ PART }
+    requires fits { at + count ≤ D.extent disks.old p }
+    ensures { IsOverwrite D.told D.extent D.stops D.faults p at count (left fill) result disks.old disks.new }
+{
+    match fill {
+        Some(byte) => {
+            let bytes = [byte; PART];
+            write_part(disks, p, at, &bytes[..count])
+        }
+        None => {
+            let mut bytes = [0; PART];
+            write_back(disks, p, at, &mut bytes[..count])
+        }
+    }
+}
+
+/// Makes bytes of a disk pending, which stay or are filled.
+fn leave<D: Disks>(
+    disks: &mut D,
+    p: u32,
+    at: u64,
+    count: usize,
+    fill: Option<u8>,
+) -> Result<(), DeviceFault>
+    requires { at + count ≤ D.extent disks.old p }
+    ensures { IsOverwrite D.told D.extent D.stops D.faults p at count (left fill) result disks.old disks.new }
+{
+    let mut answer = Ok(());
+    let mut done = 0;
+    while done < count {
+        let part = (count - done).min(PART);
+        answer = answer.and(leave_part(disks, p, at + done as u64, part, fill));
+        done += part;
+    }
+    answer
+}
+
+/// Makes a torn store: the word stays where nothing is kept, and is set otherwise.
+pub(crate) fn torn_store<K: Keeps>(
+    keeps: &mut K,
+    tear: Tear,
+    p: u32,
+    i: u32,
+    w: u32,
+) -> Result<(), DeviceFault>
+    requires { i < K.extent keeps.old p }
+    ensures { IsTornStore K.told K.extent K.stops K.faults tear p i w result keeps.old keeps.new }
+{
+    if tear.keep == 0 {
+        return Ok(());
+    }
+    keeps.store(p, i, w)
+}
+
+/// Makes a torn write: all its bytes are pending, of which the first are new, and the others stay or are filled.
+///
+/// It goes on to the end also where the disk refuses a part, and answers the first refusal.
+pub(crate) fn torn_write<D: Disks>(
+    disks: &mut D,
+    tear: Tear,
+    p: u32,
+    at: u64,
+    from: &[u8],
+) -> Result<(), DeviceFault>
+    requires { at + length from.now ≤ D.extent disks.old p }
+    ensures { IsOverwrite D.told D.extent D.stops D.faults p at (length from.now) (λ old. torn tear old from.now) result disks.old disks.new }
+{
+    let keep = from.len().min(tear.keep as usize);
+    let front = write_part(disks, p, at, &from[..keep]);
+    let rest = leave(disks, p, at + keep as u64, from.len() - keep, tear.fill);
+    front.and(rest)
+}

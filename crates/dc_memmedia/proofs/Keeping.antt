@@ -1,0 +1,129 @@
+-- What a call does to the words of a process.
+use Rattle.std.proofs.Common.{◌≡◌, ℕ, zero, suc, ◌-◌, ◌^◌, ◌<◌, ◌≤◌, ◌==◌, ◌&&◌, ◌⊎◌, nat_lt, List, [], ◌∷◌, Bool, true, false, Option, None, Some, refl, sym, subst, ap, ◌∙◌, arith, inl, inr, ⊎_elim, get_or, slice_index, slice_set, length, replicate, length-set, length-take, get_or-take, get_or-set_same}
+use Rattle.std.proofs.lemmas.Bool.{cases_Bool, lt-ltb, ltb-true}
+use Rattle.std.proofs.lemmas.List.{length-replicate, set-get_or, take_all}
+use Rattle.std.proofs.Math.Seq.{take-set-lt}
+use Rattle.dc_media.specs.Stores.{SetsWord}
+use Rattle.dc_media.specs.Tears.{torn_word}
+use Rattle.dc_media.specs.Told.{Becomes, TellsOn}
+use Rattle.dc_memmedia.specs.Keeps.{Stores, after_store, bounded, stored, told_words, with_words, words_of}
+use Rattle.dc_memmedia.specs.Listed.{Calls, answer_of, called, counts_of, next_call, told_by}
+use Rattle.dc_memmedia.specs.declared.listed.Counts.{Counts}
+use Rattle.dc_memmedia.specs.declared.listed.ListedCall.{ListedCall}
+
+abbrev last : ℕ
+last = 2 ^ 32 - 1
+
+bounded_length : (words : List ℕ) → length (bounded words) ≤ length words
+unfolding bounded
+bounded_length words = omega (arith, length-take last words)
+
+bounded_last : (words : List ℕ) → length (bounded words) ≤ last
+unfolding bounded
+bounded_last words = omega (arith, length-take last words)
+
+bounded_get : (words : List ℕ) (i : ℕ) → i < last → slice_index (bounded words) i ≡ slice_index words i
+unfolding bounded
+bounded_get words i few = get_or-take last words i 0 few
+
+bounded_all : (words : List ℕ) → length words ≤ last → bounded words ≡ words
+unfolding bounded
+bounded_all words fits = take_all last words fits
+
+bounded_set : (words : List ℕ) (i w : ℕ) → i < last → bounded (slice_set words i w) ≡ slice_set (bounded words) i w
+unfolding bounded
+bounded_set words i w few = take-set-lt last words i w few
+
+-- a list that has an index is there
+pub there : (lists : List (List ℕ)) (p i : ℕ) (d : List ℕ) → i < length (bounded (get_or lists p [])) → get_or lists p d ≡ get_or lists p []
+there [] p i d has = absurd (omega (arith, has, bounded_length []))
+there (xs ∷ lists) zero i d has = refl
+there (xs ∷ lists) (suc p) i d has = there lists p i d has
+
+pub in_bounds : (words : List ℕ) (i : ℕ) → i < length (bounded words) → i < length words
+in_bounds words i has = omega (arith, bounded_length words, has)
+
+-- an index of a process's words, seen from the list itself
+pub has : (lists : List (List ℕ)) (p i : ℕ) (words : List ℕ) → words ≡ get_or lists p words → i < length (bounded (get_or lists p [])) → (words ≡ get_or lists p []) × (i < length words)
+has lists p i words is within = let same = is ∙ there lists p i words within in
+    (same, subst (λ (ws : List ℕ). i < length ws) (sym same) (in_bounds (get_or lists p []) i within))
+
+pub read : (words : List ℕ) (i : ℕ) → i < length (bounded words) → slice_index words i ≡ slice_index (bounded words) i
+read words i has = sym (bounded_get words i (omega (arith, bounded_last words, has)))
+
+-- the words of a store that was made
+pub made : (stores : Stores) (p n : ℕ) → p < length stores.words → n ≤ last → words_of (with_words p (replicate n 0) stores) p ≡ replicate n 0
+made stores p n within few = ap bounded (get_or-set_same stores.words p (replicate n 0) [] within) ∙ bounded_all (replicate n 0) (let none : ℕ = 0 in let long = length-replicate n none in omega (arith, long, few))
+
+-- a store of what stands there changes nothing
+pub stored_none : (words : List ℕ) (i w : ℕ) (call : ListedCall) → (call.tear.keep == 0) ≡ true → stored i w (Some call) words ≡ words
+stored_none words i w call none = ap (slice_set words i) (let is : torn_word call.tear (slice_index words i) w ≡ slice_index words i = rw none refl in is) ∙ set-get_or words i 0
+
+pub stored_all : (words : List ℕ) (i w : ℕ) (call : ListedCall) → (call.tear.keep == 0) ≡ false → stored i w (Some call) words ≡ slice_set words i w
+stored_all words i w call some = ap (slice_set words i) (let is : torn_word call.tear (slice_index words i) w ≡ w = rw some refl in is)
+
+-- the words of a process, of which there are not too many, are stored as the words that are there
+stored_in : (words : List ℕ) (i w : ℕ) (listed : Option ListedCall) → i < last → bounded (stored i w listed words) ≡ stored i w listed (bounded words)
+stored_in words i w None few = bounded_set words i w few
+stored_in words i w (Some call) few = bounded_set words i _ few ∙ ap (λ old. slice_set (bounded words) i (torn_word call.tear old w)) (sym (bounded_get words i few))
+
+both_of : (a b : Bool) → (a && b) ≡ true → (a ≡ true) × (b ≡ true)
+both_of true true is = (refl, refl)
+both_of true false is = absurd cc
+both_of false b is = absurd cc
+
+-- what is told now was told before, as counts do not fall
+pub told_becomes : {A : Type 0} (before now : Counts) (x y : A) (R : A → A → Type 0)
+    → before.stops ≤ now.stops → before.faults ≤ now.faults → R x y → Becomes (told_by before x) (told_by now y) R
+told_becomes before now x y R stops faults holds = ⊎_elim
+    (λ (is : (nat_lt now.stops (2 ^ 64 - 1) && nat_lt now.faults (2 ^ 64 - 1)) ≡ true).
+    let both = both_of (nat_lt now.stops (2 ^ 64 - 1)) (nat_lt now.faults (2 ^ 64 - 1)) is in
+    rw (is, lt-ltb before.stops (2 ^ 64 - 1) (omega (arith, stops, ltb-true now.stops (2 ^ 64 - 1) both.0)), lt-ltb before.faults (2 ^ 64 - 1) (omega (arith, faults, ltb-true now.faults (2 ^ 64 - 1) both.1))) holds)
+    (λ (is : (nat_lt now.stops (2 ^ 64 - 1) && nat_lt now.faults (2 ^ 64 - 1)) ≡ false). rw is tt)
+    (cases_Bool (nat_lt now.stops (2 ^ 64 - 1) && nat_lt now.faults (2 ^ 64 - 1)))
+
+-- and what was told before is told now, unless a count stands at its last value
+pub told_tells : {A : Type 0} (before now : Counts) (x y : A) → TellsOn now.stops now.faults (told_by before x) (told_by now y)
+told_tells before now x y = λ stops faults told. rw (lt-ltb now.stops (2 ^ 64 - 1) stops, lt-ltb now.faults (2 ^ 64 - 1) faults) refl
+
+stored_is : (words : List ℕ) (i w : ℕ) (call : ListedCall) → (stored i w (Some call) words ≡ words) ⊎ (stored i w (Some call) words ≡ slice_set words i w)
+stored_is words i w call = ⊎_elim
+    (λ (none : (call.tear.keep == 0) ≡ true). inl (stored_none words i w call none))
+    (λ (some : (call.tear.keep == 0) ≡ false). inr (stored_all words i w call some))
+    (cases_Bool (call.tear.keep == 0))
+
+pub sets_word : (words : List ℕ) (i w : ℕ) (listed : Option ListedCall) (before now : Counts) → before.stops ≤ now.stops → before.faults ≤ now.faults
+    → SetsWord i w (answer_of listed) (told_by before words) (told_by now (stored i w listed words))
+sets_word words i w None before now stops faults = told_becomes before now words _ _ stops faults refl
+sets_word words i w (Some call) before now stops faults = told_becomes before now words _ _ stops faults (stored_is words i w call)
+
+pub stored_length : (words : List ℕ) (i w : ℕ) (listed : Option ListedCall) → length (stored i w listed words) ≡ length words
+stored_length words i w None = length-set words i w
+stored_length words i w (Some call) = length-set words i _
+
+pub in_list : (lists : List (List ℕ)) (p i : ℕ) → i < length (bounded (get_or lists p [])) → p < length lists
+in_list [] p i within = absurd (omega (arith, within, bounded_length []))
+in_list (xs ∷ lists) zero i within = omega arith
+in_list (xs ∷ lists) (suc p) i within = omega (arith, in_list lists p i within)
+
+-- the words of a process after its next store
+pub words_after : (stores : Stores) (p i w : ℕ) → i < length (words_of stores p)
+    → words_of (after_store p i w stores) p ≡ stored i w (next_call stores.calls p) (words_of stores p)
+words_after stores p i w within = let words = get_or stores.words p [] in let listed = next_call stores.calls p in
+    ap bounded (get_or-set_same stores.words p (stored i w listed words) [] (in_list stores.words p i within))
+    ∙ stored_in words i w listed (omega (arith, bounded_last words, within))
+
+-- the state after a store, from what the calls in it say
+pub store_now : (s : Stores) (p i w : ℕ) (here put : List ℕ) (listed : Option ListedCall) (calls : Calls)
+    → here ≡ get_or s.words p [] → put ≡ stored i w listed here → listed ≡ next_call s.calls p → calls ≡ called s.calls p
+    → record { words = slice_set s.words p put; calls = calls } ≡ after_store p i w s
+store_now s p i w here put listed calls is put_is listed_is calls_are =
+    rw (put_is, is, listed_is, calls_are) refl
+
+pub store_sets : (s : Stores) (p i w : ℕ) → i < length (words_of s p)
+    → (counts_of s.calls p).stops ≤ (counts_of (called s.calls p) p).stops → (counts_of s.calls p).faults ≤ (counts_of (called s.calls p) p).faults
+    → SetsWord i w (answer_of (next_call s.calls p)) (told_words s p) (told_words (after_store p i w s) p)
+store_sets s p i w within stops faults =
+    subst (λ (words : List ℕ). SetsWord i w (answer_of (next_call s.calls p)) (told_words s p) (told_by (counts_of (called s.calls p) p) words))
+    (sym (words_after s p i w within))
+    (sets_word (words_of s p) i w (next_call s.calls p) (counts_of s.calls p) (counts_of (called s.calls p) p) stops faults)

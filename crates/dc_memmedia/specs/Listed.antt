@@ -1,0 +1,56 @@
+-- The calls of a process's device, which are numbered from 1, and those that are listed: they are stopped or fail.
+use Rattle.std.specs.Prelude.{ℕ, ◌+◌, ◌-◌, ◌^◌, ◌==◌, ◌&&◌, nat_lt, List, Bool, Option, None, Some, Result, Ok, Err, find, get_or, slice_set, if◌then◌else◌}
+use Rattle.dc_media.specs.Causes.{IsCaused}
+use Rattle.dc_media.specs.declared.faults.DeviceFault.{DeviceFault}
+use Rattle.dc_media.specs.declared.faults.DeviceFault.TheVariants.{Stopped, Failed}
+use Rattle.dc_memmedia.specs.Calls.{counted}
+use Rattle.dc_memmedia.specs.declared.listed.Counts.{Counts}
+use Rattle.dc_memmedia.specs.declared.listed.ListedCall.{ListedCall}
+
+-- what is listed, and how many calls each process made
+pub record Calls : Type 0 where
+  pub listed : List ListedCall
+  pub counts : List Counts
+
+abbrev pub none_made : Counts
+none_made = record { made = 0; stops = 0; faults = 0 }
+
+abbrev pub counts_of : Calls → ℕ → Counts
+counts_of calls p = get_or calls.counts p none_made
+
+-- of this process and number
+abbrev pub is_call : ℕ → ℕ → ListedCall → Bool
+is_call p number call = (call.process == p) && (call.call == number)
+
+-- the next call of a process, if it is listed: the first of two of one number. Past 2 ^ 64 - 1 calls none is.
+abbrev pub next_call : Calls → ℕ → Option ListedCall
+next_call calls p =
+    let made = (counts_of calls p).made in
+    if nat_lt made (2 ^ 64 - 1) then find (is_call p (made + 1)) calls.listed else None
+
+abbrev pub with_fault : DeviceFault → Counts → Counts
+with_fault Stopped counts = record counts { stops = counted counts.stops }
+with_fault Failed counts = record counts { faults = counted counts.faults }
+
+-- one more call
+abbrev pub with_call : Option ListedCall → Counts → Counts
+with_call None counts = record counts { made = counted counts.made }
+with_call (Some call) counts = with_fault call.fault (record counts { made = counted counts.made })
+
+-- after the next call of a process
+abbrev pub called : Calls → ℕ → Calls
+called calls p = record calls { counts = slice_set calls.counts p (with_call (next_call calls p) (counts_of calls p)) }
+
+-- a listed call is refused, each other one is not
+abbrev pub answer_of : Option ListedCall → Result (Unit {0}) DeviceFault
+answer_of None = Ok tt
+answer_of (Some call) = Err call.fault
+
+-- a refusal of a process's call is counted
+abbrev pub HasCause : {T : Type 0} → Calls → Calls → ℕ → Result T DeviceFault → Type 0
+HasCause old new p result =
+    IsCaused (counts_of old p).stops (counts_of new p).stops (counts_of old p).faults (counts_of new p).faults result
+
+-- the content, unless a count of refusals stands at its last value
+abbrev pub told_by : {A : Type 0} → Counts → A → Option A
+told_by counts content = if nat_lt counts.stops (2 ^ 64 - 1) && nat_lt counts.faults (2 ^ 64 - 1) then Some content else None

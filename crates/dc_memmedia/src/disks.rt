@@ -1,0 +1,304 @@
+ghost use Rattle.std.specs.Prelude.{◌≡◌, ◌≢◌, ◌+◌, ◌<◌, ◌≤◌, [], ℕ, IfOk, IfSome, IsErrOf, IsOk, OnErr, OnOk, drop, length, replicate, slice_set, take};
+ghost use Rattle.dc_media.specs.Causes.{IsCaused, IsMade};
+ghost use Rattle.dc_media.specs.Disk.{Reads, Syncs, Writes, blank};
+ghost use Rattle.dc_media.specs.Told.{IsSameStore, TellsOn};
+ghost use Rattle.dc_memmedia.specs.Disks.{IsApart, after, bytes_of, extent_of, faults_of, stops_of, synced, told_disk, written, zeros};
+ghost use Rattle.dc_memmedia.specs.Extents.{disk_fits, disk_told};
+ghost use Rattle.dc_memmedia.specs.Listed.{answer_of, counts_of, next_call, none_made};
+
+use crate::bytes::DiskBytes;
+use crate::listed::{Calls, ListedCall, answer};
+use dc_media::{DeviceFault, Disks, MakeFault, STORES};
+use std::alloc::{AllocError, Global};
+use std::marker::Model;
+
+/// Disks in memory.
+///
+/// What is written is read at once, and is pending until a sync. The calls of `write` and `sync` of each process are numbered
+/// from 1; those that are listed are stopped or fail. No call but `format` takes memory.
+#[derive(Drop)]
+pub struct MemDisks {
+    disks: Vec<DiskBytes>,
+    calls: Calls,
+}
+
+impl Model for MemDisks {
+    ghost use Rattle.std.specs.Prelude.{◌≡◌, length};
+    ghost use Rattle.dc_memmedia.specs.Disks.{DiskStates};
+
+    ghost Value = { DiskStates };
+
+    ghost view = { λ s. record { disks = s.disks.items; calls = s.calls } };
+
+    ghost invariant = { λ s. length s.disks.items ≡ 32 };
+}
+
+impl MemDisks {
+    /// Disks of no bytes. No call was made yet.
+    pub fn new(alloc: Global, listed: Vec<ListedCall>) -> Result<MemDisks, AllocError>
+        ensures { IfOk result (λ states. states ≡ record {
+          disks = replicate STORES (zeros 0);
+          calls = record { listed = listed.items; counts = replicate STORES none_made };
+        }) }
+    {
+        let mut disks = Vec::with_capacity(alloc, STORES as usize)?;
+        for _ in 0..STORES as usize {
+            disks.push(DiskBytes::new(alloc, 0)?)?;
+        }
+        Ok(MemDisks {
+            disks,
+            calls: Calls::new(listed),
+        })
+    }
+
+    /// How many writes and syncs a process made.
+    pub fn calls(&self, p: u32) -> u64
+        ensures { result ≡ (counts_of self.now.calls p).made }
+    {
+        self.calls.counts(p).made
+    }
+
+    /// How many of them were stopped.
+    pub fn stops(&self, p: u32) -> u64
+        ensures { result ≡ stops_of self.now p }
+    {
+        self.calls.counts(p).stops
+    }
+
+    /// How many of them failed.
+    pub fn faults(&self, p: u32) -> u64
+        ensures { result ≡ faults_of self.now p }
+    {
+        self.calls.counts(p).faults
+    }
+}
+
+impl Disks for MemDisks {
+    ghost told = { told_disk };
+
+    ghost extent = { extent_of };
+
+    ghost stops = { stops_of };
+
+    ghost faults = { faults_of };
+
+    ghost told_extent = { disk_told };
+
+    ghost extent_fits = { disk_fits };
+
+    fn format(&mut self, alloc: Global, p: u32, bytes: u64) -> Result<(), MakeFault>
+        requires { p < STORES }
+        ensures extent { OnOk result (extent_of self.new p ≡ bytes) }
+        ensures refused { OnErr result (self.new ≡ self.old) }
+        ensures zeros { OnOk result (IfSome (told_disk self.new p) (λ disk. disk ≡ blank bytes)) }
+        ensures tells { TellsOn (stops_of self.new p) (faults_of self.new p) (told_disk self.old p) (told_disk self.new p) }
+        ensures cause { IsMade (stops_of self.old p) (stops_of self.new p) (faults_of self.old p) (faults_of self.new p) result }
+        ensures others { (q : ℕ) → q ≢ p → IsApart self.old self.new q }
+
+        // it fails for want of memory alone
+        ensures made { OnOk result (self.new ≡ record self.old { disks = slice_set self.old.disks p (zeros bytes) }) }
+        ensures calm { ¬ IsErrOf result MakeFault.Failed }
+    {
+        match DiskBytes::new(alloc, bytes as usize) {
+            Ok(disk) => {
+                self.disks[p as usize] = disk;
+                Ok(())
+            }
+            Err(_) => Err(MakeFault::Memory),
+        }
+    }
+
+    fn size(&self, p: u32) -> u64
+        ensures { result ≡ extent_of self.now p }
+    {
+        match self.disks.get(p as usize) {
+            Some(disk) => disk.len() as u64,
+            None => 0,
+        }
+    }
+
+    fn read(&mut self, p: u32, at: u64, to: &mut [u8]) -> Result<(), DeviceFault>
+        requires { at + length to.old ≤ extent_of self.old p }
+        ensures extent { extent_of self.new p ≡ extent_of self.old p }
+        ensures bytes { Reads at to.new result (told_disk self.old p) (told_disk self.new p) }
+        ensures tells { TellsOn (stops_of self.new p) (faults_of self.new p) (told_disk self.old p) (told_disk self.new p) }
+        ensures cause { IsCaused (stops_of self.old p) (stops_of self.new p) (faults_of self.old p) (faults_of self.new p) result }
+        ensures others { (q : ℕ) → q ≢ p → IsApart self.old self.new q }
+
+        // it is never refused, is not counted and changes nothing
+        ensures calm { IsOk result }
+        ensures same { self.new ≡ self.old }
+        ensures content { to.new ≡ take (length to.old) (drop at (bytes_of self.old p).content) }
+    {
+        if let Some(disk) = self.disks.get(p as usize) {
+            disk.read(at as usize, to);
+        }
+        Ok(())
+    }
+
+    fn write(&mut self, p: u32, at: u64, from: &[u8]) -> Result<(), DeviceFault>
+        requires { at + length from.now ≤ extent_of self.old p }
+        ensures extent { extent_of self.new p ≡ extent_of self.old p }
+        ensures bytes { Writes at from.now result (told_disk self.old p) (told_disk self.new p) }
+        ensures tells { TellsOn (stops_of self.new p) (faults_of self.new p) (told_disk self.old p) (told_disk self.new p) }
+        ensures cause { IsCaused (stops_of self.old p) (stops_of self.new p) (faults_of self.old p) (faults_of self.new p) result }
+        ensures others { (q : ℕ) → q ≢ p → IsApart self.old self.new q }
+
+        // exactly when it is refused, and all that it changes
+        ensures answer { p < STORES → result ≡ answer_of (next_call self.old.calls p) }
+        ensures written { p < STORES → self.new ≡ after p (written at from.now) self.old }
+        ensures calm { self.old.calls.listed ≡ [] → IsOk result }
+        ensures none { STORES ≤ p → IsOk result × (self.new ≡ self.old) }
+    {
+        let Some(disk) = self.disks.get_mut(p as usize) else {
+            return Ok(());
+        };
+        let listed = self.calls.call(p);
+        disk.write(at as usize, from, listed);
+        answer(listed)
+    }
+
+    fn sync(&mut self, p: u32) -> Result<(), DeviceFault>
+        ensures extent { extent_of self.new p ≡ extent_of self.old p }
+        ensures bytes { Syncs result (told_disk self.old p) (told_disk self.new p) }
+        ensures tells { TellsOn (stops_of self.new p) (faults_of self.new p) (told_disk self.old p) (told_disk self.new p) }
+        ensures cause { IsCaused (stops_of self.old p) (stops_of self.new p) (faults_of self.old p) (faults_of self.new p) result }
+        ensures others { (q : ℕ) → q ≢ p → IsApart self.old self.new q }
+
+        // exactly when it is refused, and all that it changes
+        ensures answer { p < STORES → result ≡ answer_of (next_call self.old.calls p) }
+        ensures synced { p < STORES → self.new ≡ after p synced self.old }
+        ensures calm { self.old.calls.listed ≡ [] → IsOk result }
+        ensures none { STORES ≤ p → IsOk result × (self.new ≡ self.old) }
+    {
+        let Some(disk) = self.disks.get_mut(p as usize) else {
+            return Ok(());
+        };
+        let listed = self.calls.call(p);
+        disk.sync(listed);
+        answer(listed)
+    }
+}
+
+#[cfg(test)]
+mod tests {
+    use super::*;
+    use dc_media::Tear;
+    use std::test::Fail;
+
+    fn listed(call: u64, fault: DeviceFault, keep: u32, fill: Option<u8>) -> ListedCall {
+        ListedCall {
+            process: 0,
+            call,
+            fault,
+            tear: Tear { keep, fill },
+        }
+    }
+
+    /// A disk of six bytes, which are 1 to 6 and synced.
+    fn disk(rt: &impl AllocGlobal, calls: &[ListedCall]) -> Result<MemDisks, Fail> {
+        let mut disks = MemDisks::new(rt.alloc(), calls.to_vec(rt.alloc())?)?;
+        disks.format(rt.alloc(), 0, 6)?;
+        disks.write(0, 0, &[1, 2, 3, 4, 5, 6])?;
+        disks.sync(0)?;
+        Ok(disks)
+    }
+
+    fn content(disks: &mut MemDisks) -> Result<[u8; 6], DeviceFault> {
+        let mut bytes = [0; 6];
+        if disks.size(0) == 6 {
+            disks.read(0, 0, &mut bytes)?;
+        }
+        Ok(bytes)
+    }
+
+    fn write(disks: &mut MemDisks, at: u64, piece: &[u8]) -> Result<(), DeviceFault> {
+        if disks.size(0) == 6 && at <= 6 && piece.len() as u64 <= 6 - at {
+            return disks.write(0, at, piece);
+        }
+        Ok(())
+    }
+
+    #[test]
+    fn reads_what_is_written(rt: HostRuntime) -> Result<(), Fail> {
+        let mut disks = disk(&rt, &[])?;
+        assert_eq!(rt; write(&mut disks, 2, &[9, 8]), Ok(()));
+        assert_eq!(rt; content(&mut disks), Ok([1, 2, 9, 8, 5, 6]));
+        assert_eq!(rt; disks.sync(0), Ok(()));
+        assert_eq!(rt; content(&mut disks), Ok([1, 2, 9, 8, 5, 6]));
+        assert_eq!(rt; (disks.calls(0), disks.size(0), disks.size(1)), (4, 6, 0));
+        Ok(())
+    }
+
+    #[test]
+    fn tears_a_listed_write(rt: HostRuntime) -> Result<(), Fail> {
+        let calls = [
+            listed(3, DeviceFault::Stopped, 2, None),
+            listed(4, DeviceFault::Failed, 1, Some(255)),
+        ];
+        let mut disks = disk(&rt, &calls)?;
+        assert_eq!(rt;
+            write(&mut disks, 1, &[11, 12, 13, 14]),
+            Err(DeviceFault::Stopped)
+        );
+        assert_eq!(rt; content(&mut disks), Ok([1, 11, 12, 4, 5, 6]));
+        assert_eq!(rt;
+            write(&mut disks, 2, &[21, 22, 23]),
+            Err(DeviceFault::Failed)
+        );
+        assert_eq!(rt; content(&mut disks), Ok([1, 11, 21, 255, 255, 6]));
+        assert_eq!(rt; (disks.stops(0), disks.faults(0)), (1, 1));
+        Ok(())
+    }
+
+    #[test]
+    fn a_refused_sync_may_lose_what_is_pending(rt: HostRuntime) -> Result<(), Fail> {
+        let mut disks = disk(&rt, &[listed(4, DeviceFault::Stopped, 0, None)])?;
+        assert_eq!(rt; write(&mut disks, 1, &[11, 12]), Ok(()));
+        assert_eq!(rt; disks.sync(0), Err(DeviceFault::Stopped));
+        assert_eq!(rt; content(&mut disks), Ok([1, 2, 3, 4, 5, 6]));
+        Ok(())
+    }
+
+    #[test]
+    fn a_refused_sync_may_keep_what_is_pending(rt: HostRuntime) -> Result<(), Fail> {
+        let mut disks = disk(&rt, &[listed(4, DeviceFault::Failed, 1, None)])?;
+        assert_eq!(rt; write(&mut disks, 1, &[11, 12]), Ok(()));
+        assert_eq!(rt; disks.sync(0), Err(DeviceFault::Failed));
+        assert_eq!(rt; content(&mut disks), Ok([1, 11, 12, 4, 5, 6]));
+        Ok(())
+    }
+
+    #[test]
+    fn a_refused_sync_may_fill_what_is_pending(rt: HostRuntime) -> Result<(), Fail> {
+        let calls = [
+            listed(3, DeviceFault::Stopped, 1, None),
+            listed(4, DeviceFault::Stopped, 0, Some(7)),
+            listed(6, DeviceFault::Stopped, 0, Some(8)),
+        ];
+        let mut disks = disk(&rt, &calls)?;
+        // all of a torn write is pending
+        assert_eq!(rt;
+            write(&mut disks, 1, &[11, 12, 13]),
+            Err(DeviceFault::Stopped)
+        );
+        assert_eq!(rt; disks.sync(0), Err(DeviceFault::Stopped));
+        assert_eq!(rt; content(&mut disks), Ok([1, 7, 7, 7, 5, 6]));
+        // nothing is after a sync
+        assert_eq!(rt; disks.sync(0), Ok(()));
+        assert_eq!(rt; disks.sync(0), Err(DeviceFault::Stopped));
+        assert_eq!(rt; content(&mut disks), Ok([1, 7, 7, 7, 5, 6]));
+        Ok(())
+    }
+
+    #[test]
+    fn keeps_apart_what_is_written_apart(rt: HostRuntime) -> Result<(), Fail> {
+        let mut disks = disk(&rt, &[listed(5, DeviceFault::Stopped, 0, None)])?;
+        assert_eq!(rt; write(&mut disks, 4, &[15]), Ok(()));
+        assert_eq!(rt; write(&mut disks, 0, &[10]), Ok(()));
+        assert_eq!(rt; content(&mut disks), Ok([10, 2, 3, 4, 15, 6]));
+        assert_eq!(rt; disks.sync(0), Err(DeviceFault::Stopped));
+        assert_eq!(rt; content(&mut disks), Ok([1, 2, 3, 4, 5, 6]));
+        Ok(())
+    }
+}

@@ -1,0 +1,257 @@
+ghost use Rattle.std.specs.Prelude.{◌≡◌, ◌≢◌, ◌<◌, [], ℕ, IfOk, IfSome, IsErrOf, IsOk, OnErr, OnOk, replicate, slice_index, length};
+ghost use Rattle.dc_media.specs.Causes.{IsCaused, IsMade};
+ghost use Rattle.dc_media.specs.Stores.{SetsWord};
+ghost use Rattle.dc_media.specs.Told.{IsSameStore, TellsOn};
+ghost use Rattle.dc_memmedia.specs.Keeps.{IsApart, after_store, faults_of, stops_of, stored, told_words, with_words, words_of};
+ghost use Rattle.dc_memmedia.specs.Listed.{answer_of, counts_of, next_call, none_made};
+ghost use Rattle.dc_memmedia.specs.Extents.{words_fit, words_told};
+
+use crate::listed::{Calls, ListedCall, answer};
+use dc_media::{DeviceFault, Keeps, MakeFault, STORES};
+use dc_region::Region;
+use std::alloc::{AllocError, Global};
+use std::marker::Model;
+
+/// Stores of words in memory.
+///
+/// A store is done at once, and its words stay. The calls of each process are numbered from 1; those that are listed are
+/// stopped or fail.
+#[derive(Drop)]
+pub struct MemKeeps {
+    words: Vec<Region>,
+    calls: Calls,
+}
+
+impl Model for MemKeeps {
+    ghost use Rattle.std.specs.Prelude.{◌≡◌, length};
+    ghost use Rattle.dc_memmedia.specs.Keeps.{Stores};
+
+    ghost Value = { Stores };
+
+    ghost view = { λ s. record { words = s.words.items; calls = s.calls } };
+
+    ghost invariant = { λ s. length s.words.items ≡ 32 };
+}
+
+/// Sets a word, or leaves what a listed call leaves.
+fn put(words: &mut Region, i: u32, w: u32, listed: Option<ListedCall>)
+    requires { i < length words.old }
+    ensures { words.new ≡ stored i w listed words.old }
+{
+    if listed.is_none_or(|call| call.tear.keep > 0) {
+        words.store(i as usize, w);
+    }
+}
+
+impl MemKeeps {
+    /// Stores of no words. No call was made yet.
+    pub fn new(alloc: Global, listed: Vec<ListedCall>) -> Result<MemKeeps, AllocError>
+        ensures { IfOk result (λ stores. stores ≡ record {
+          words = replicate STORES [];
+          calls = record { listed = listed.items; counts = replicate STORES none_made };
+        }) }
+    {
+        let mut words = Vec::with_capacity(alloc, STORES as usize)?;
+        for _ in 0..STORES as usize {
+            words.push(Region::new(alloc, 0)?)?;
+        }
+        Ok(MemKeeps {
+            words,
+            calls: Calls::new(listed),
+        })
+    }
+
+    /// How many calls of `store` a process made.
+    pub fn calls(&self, p: u32) -> u64
+        ensures { result ≡ (counts_of self.now.calls p).made }
+    {
+        self.calls.counts(p).made
+    }
+
+    /// How many of them were stopped.
+    pub fn stops(&self, p: u32) -> u64
+        ensures { result ≡ stops_of self.now p }
+    {
+        self.calls.counts(p).stops
+    }
+
+    /// How many of them failed.
+    pub fn faults(&self, p: u32) -> u64
+        ensures { result ≡ faults_of self.now p }
+    {
+        self.calls.counts(p).faults
+    }
+}
+
+impl Keeps for MemKeeps {
+    ghost told = { told_words };
+
+    ghost extent = { λ s p. length (words_of s p) };
+
+    ghost stops = { stops_of };
+
+    ghost faults = { faults_of };
+
+    ghost told_extent = { words_told };
+
+    ghost extent_fits = { words_fit };
+
+    fn format(&mut self, alloc: Global, p: u32, words: u32) -> Result<(), MakeFault>
+        requires { p < STORES }
+        ensures extent { OnOk result (length (words_of self.new p) ≡ words) }
+        ensures refused { OnErr result (self.new ≡ self.old) }
+        ensures zeros { OnOk result (IfSome (told_words self.new p) (λ ws. ws ≡ replicate words 0)) }
+        ensures tells { TellsOn (stops_of self.new p) (faults_of self.new p) (told_words self.old p) (told_words self.new p) }
+        ensures cause { IsMade (stops_of self.old p) (stops_of self.new p) (faults_of self.old p) (faults_of self.new p) result }
+        ensures others { (q : ℕ) → q ≢ p → IsApart self.old self.new q }
+
+        // it fails for want of memory alone
+        ensures made { OnOk result (self.new ≡ with_words p (replicate words 0) self.old) }
+        ensures calm { ¬ IsErrOf result MakeFault.Failed }
+    {
+        match Region::new(alloc, words as usize) {
+            Ok(region) => {
+                self.words[p as usize] = region;
+                Ok(())
+            }
+            Err(_) => Err(MakeFault::Memory),
+        }
+    }
+
+    fn load(&self, p: u32, i: u32) -> u32
+        requires { i < length (words_of self.now p) }
+        ensures told { IfSome (told_words self.now p) (λ ws. result ≡ slice_index ws i) }
+        ensures word { result ≡ slice_index (words_of self.now p) i }
+    {
+        self.words[p as usize].load(i as usize)
+    }
+
+    fn store(&mut self, p: u32, i: u32, w: u32) -> Result<(), DeviceFault>
+        requires { i < length (words_of self.old p) }
+        ensures extent { length (words_of self.new p) ≡ length (words_of self.old p) }
+        ensures word { SetsWord i w result (told_words self.old p) (told_words self.new p) }
+        ensures tells { TellsOn (stops_of self.new p) (faults_of self.new p) (told_words self.old p) (told_words self.new p) }
+        ensures cause { IsCaused (stops_of self.old p) (stops_of self.new p) (faults_of self.old p) (faults_of self.new p) result }
+        ensures others { (q : ℕ) → q ≢ p → IsApart self.old self.new q }
+
+        // exactly when it is refused, and all that it changes
+        ensures answer { result ≡ answer_of (next_call self.old.calls p) }
+        ensures stored { self.new ≡ after_store p i w self.old }
+        ensures calm { self.old.calls.listed ≡ [] → IsOk result }
+    {
+        let listed = self.calls.call(p);
+        put(&mut self.words[p as usize], i, w, listed);
+        answer(listed)
+    }
+}
+
+#[cfg(test)]
+mod tests {
+    use super::*;
+    use dc_media::Tear;
+    use std::test::Fail;
+
+    fn listed(process: u32, call: u64, fault: DeviceFault, keep: u32) -> ListedCall {
+        ListedCall {
+            process,
+            call,
+            fault,
+            tear: Tear { keep, fill: None },
+        }
+    }
+
+    /// Stores of four words for the first two processes.
+    fn stores(rt: &impl AllocGlobal, calls: &[ListedCall]) -> Result<MemKeeps, Fail>
+        ensures { IfOk result (λ stores. (q : ℕ) → q < 2 → length (words_of stores q) ≡ 4) }
+    {
+        let mut stores = MemKeeps::new(rt.alloc(), calls.to_vec(rt.alloc())?)?;
+        stores.format(rt.alloc(), 0, 4)?;
+        stores.format(rt.alloc(), 1, 4)?;
+        Ok(stores)
+    }
+
+    fn store(stores: &mut MemKeeps, p: u32, i: u32, w: u32) -> Result<(), DeviceFault>
+        requires place { (p < 2) × (i < 4) }
+        requires four { (q : ℕ) → q < 2 → length (words_of stores.old q) ≡ 4 }
+        ensures four { (q : ℕ) → q < 2 → length (words_of stores.new q) ≡ 4 }
+    {
+        stores.store(p, i, w)
+    }
+
+    fn load(stores: &MemKeeps, p: u32, i: u32) -> u32
+        requires place { (p < 2) × (i < 4) }
+        requires four { (q : ℕ) → q < 2 → length (words_of stores.now q) ≡ 4 }
+    {
+        stores.load(p, i)
+    }
+
+    #[test]
+    fn keeps_what_is_stored(rt: HostRuntime) -> Result<(), Fail> {
+        let mut stores = stores(&rt, &[])?;
+        assert_eq!(rt; store(&mut stores, 0, 1, 7), Ok(()));
+        assert_eq!(rt; store(&mut stores, 1, 1, 9), Ok(()));
+        assert_eq!(rt; load(&stores, 0, 0), 0);
+        assert_eq!(rt; load(&stores, 0, 1), 7);
+        assert_eq!(rt; load(&stores, 1, 1), 9);
+        Ok(())
+    }
+
+    #[test]
+    fn stops_at_a_listed_store(rt: HostRuntime) -> Result<(), Fail> {
+        let mut stores = stores(&rt, &[listed(0, 2, DeviceFault::Stopped, 0)])?;
+        assert_eq!(rt; store(&mut stores, 0, 1, 7), Ok(()));
+        assert_eq!(rt; store(&mut stores, 0, 2, 9), Err(DeviceFault::Stopped));
+        assert_eq!(rt; load(&stores, 0, 2), 0);
+        assert_eq!(rt; (stores.stops(0), stores.faults(0)), (1, 0));
+        assert_eq!(rt; store(&mut stores, 0, 2, 9), Ok(()));
+        assert_eq!(rt; load(&stores, 0, 2), 9);
+        Ok(())
+    }
+
+    #[test]
+    fn may_keep_the_word_of_a_listed_store(rt: HostRuntime) -> Result<(), Fail> {
+        let mut stores = stores(&rt, &[listed(0, 2, DeviceFault::Stopped, 1)])?;
+        assert_eq!(rt; store(&mut stores, 0, 1, 7), Ok(()));
+        assert_eq!(rt; store(&mut stores, 0, 2, 9), Err(DeviceFault::Stopped));
+        assert_eq!(rt; load(&stores, 0, 2), 9);
+        Ok(())
+    }
+
+    #[test]
+    fn fails_at_a_listed_store(rt: HostRuntime) -> Result<(), Fail> {
+        let calls = [
+            listed(0, 3, DeviceFault::Failed, 1),
+            listed(0, 1, DeviceFault::Failed, 0),
+            listed(0, 1, DeviceFault::Stopped, 1),
+        ];
+        let mut stores = stores(&rt, &calls)?;
+        assert_eq!(rt; store(&mut stores, 0, 0, 5), Err(DeviceFault::Failed));
+        assert_eq!(rt; store(&mut stores, 0, 0, 6), Ok(()));
+        assert_eq!(rt; store(&mut stores, 0, 0, 7), Err(DeviceFault::Failed));
+        assert_eq!(rt; load(&stores, 0, 0), 7);
+        assert_eq!(rt; (stores.stops(0), stores.faults(0)), (0, 2));
+        Ok(())
+    }
+
+    #[test]
+    fn numbers_the_calls_of_each_process(rt: HostRuntime) -> Result<(), Fail> {
+        let mut stores = stores(&rt, &[listed(1, 2, DeviceFault::Stopped, 0)])?;
+        assert_eq!(rt; store(&mut stores, 0, 0, 1), Ok(()));
+        assert_eq!(rt; store(&mut stores, 0, 0, 2), Ok(()));
+        assert_eq!(rt; store(&mut stores, 1, 0, 3), Ok(()));
+        assert_eq!(rt; store(&mut stores, 1, 0, 4), Err(DeviceFault::Stopped));
+        assert_eq!(rt; load(&stores, 1, 0), 3);
+        assert_eq!(rt; [0, 1, 2].map(|p| stores.calls(p)), [2, 2, 0]);
+        Ok(())
+    }
+
+    #[test]
+    fn makes_a_store_again(rt: HostRuntime) -> Result<(), Fail> {
+        let mut stores = stores(&rt, &[])?;
+        assert_eq!(rt; store(&mut stores, 1, 3, 6), Ok(()));
+        stores.format(rt.alloc(), 1, 4)?;
+        assert_eq!(rt; load(&stores, 1, 3), 0);
+        assert_eq!(rt; stores.calls(1), 1);
+        Ok(())
+    }
+}

@@ -1,0 +1,4 @@
+pub mod Copies
+pub mod Memory
+pub mod Places
+pub mod Sharing

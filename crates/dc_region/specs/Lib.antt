@@ -1,0 +1,4 @@
+pub mod Block
+pub mod Lines
+pub mod Ownership
+pub mod Places
