@@ -37,17 +37,16 @@ fn push_named(line: &mut Line, name: &[u8], number: u64)
     line.push_number(number);
 }
 
-/// The line of an act.
-fn act_line(taken: &Taken) -> Line
-    ensures { result ≡ act_line taken.now }
+/// Puts the line of an act in place of another.
+fn put_act_line(line: &mut Line, taken: &Taken)
+    ensures { line.new ≡ act_line taken.now }
 {
-    let mut line = Line::new();
-    push_named(&mut line, b"act ", u64::from(taken.t));
-    push_named(&mut line, b" ", u64::from(taken.p));
+    line.clear();
+    push_named(line, b"act ", u64::from(taken.t));
+    push_named(line, b" ", u64::from(taken.p));
     line.push(b" ");
-    push_act(&mut line, &taken.act);
+    push_act(line, &taken.act);
     line.push(b"\n");
-    line
 }
 
 /// The last line.
@@ -68,8 +67,11 @@ fn write_acts<R: Sink>(to: &mut R, acts: &[Taken]) -> Result<(), SinkFailed>
     ensures tells { TellsOn 0 (R.faults to.new) (R.held to.old) (R.held to.new) }
     ensures cause { HasCause (R.faults to.old) (R.faults to.new) result }
 {
+    // one for all, since a line is large
+    let mut line = Line::new();
     for taken in acts {
-        write_whole(to, act_line(taken).as_slice())?;
+        put_act_line(&mut line, taken);
+        write_whole(to, line.as_slice())?;
     }
     Ok(())
 }

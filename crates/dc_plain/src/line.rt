@@ -39,6 +39,14 @@ impl Line {
         }
     }
 
+    /// Takes all its bytes away.
+    pub fn clear(&mut self)
+        ensures text { self.new ≡ [] }
+        ensures length { length self.new ≡ 0 }
+    {
+        self.len = 0;
+    }
+
     /// Adds bytes.
     pub fn push(&mut self, text: &[u8])
         requires { length self.old + length text.now ≤ 640 }

@@ -9,7 +9,7 @@ pub returns-in_err-write_whole-clause-held : goal.returns-in_err-write_whole-cla
 returns-in_err-write_whole-clause-held g c = let failed = err_from_is_err_and c.from_residual.result c.from_residual.ensures.1 in
     rw failed.1 (cut_then _ _ _ front c.as_slice.result.now rest _
     (split_at act_line _ c.args.acts.now c.loop-taken.taken-index c.loop-taken-test.true
-    ∙ ap (λ w. front ++ (w ++ rest)) (sym (c.as_slice.ensures ∙ c.act_line.ensures)))
+    ∙ ap (λ w. front ++ (w ++ rest)) (sym (c.as_slice.ensures ∙ c.put_act_line.ensures)))
     c.loop-taken.invariant.held c.in_err-write_whole.ensures.held)
   where
     front : List ℕ
