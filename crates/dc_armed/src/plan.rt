@@ -17,9 +17,8 @@ pub(crate) struct StopPlan {
     came: [u64; STORES as usize],
     /// Whether any stop waits.
     armed: bool,
-    /// No stop is planned from this turn on ..
+    /// No stop is planned for the turns from this one on, and before `quiet_until`.
     quiet_from: u64,
-    /// .. up to this turn.
     quiet_until: u64,
 }
 
