@@ -1,4 +1,5 @@
-//! Files written by the rules of the Executable and Linkable Format, and what each comes to.
+//! Files written by the rules of the Executable and Linkable Format, and what each comes to. The rows of the tables are `what|size|fault`: a
+//! file with such fields or program headers has that fault, or none, in a memory of so many bytes. Their numbers are hexadecimal.
 
 use crate::{ElfFault, LoadFault, load};
 use std::alloc::Global;
@@ -50,13 +51,138 @@ const GUEST_MEMORY: [u8; 64] = [
     0x00, 0x00, 0x00, 0x00, 0x00, 0x00, 0x00, 0x00, 0x00, 0x00, 0x00, 0x00, 0x00, 0x41, 0x42, 0x43,
 ];
 
-/// Why a file is not loaded, where it is not.
-fn fault_of(alloc: Global, file: &[u8], size: u32) -> Option<LoadFault> {
-    load(alloc, file, size).err()
+/// Flags: those of another instruction set are refused.
+const FLAGS: &str = "\
+flags=0|40|
+flags=1|40|flags
+flags=2|40|flags
+flags=4|40|flags
+flags=6|40|flags
+flags=8|40|flags
+flags=9|40|flags
+flags=10|40|
+flags=10000|40|
+flags=fffffff0|40|
+flags=80000001|40|flags
+flags=80000008|40|flags
+";
+
+/// Program headers are of 32 bytes and in the file, which has 100.
+const HEADERS: &str = "\
+offset=34 bytes=20 count=1|40|
+offset=34 bytes=1f count=1|40|headers
+offset=34 bytes=21 count=1|40|headers
+offset=34 bytes=120 count=1|40|headers
+offset=34 bytes=20 count=2|40|headers
+offset=44 bytes=20 count=1|40|
+offset=45 bytes=20 count=1|40|headers
+offset=64 bytes=20 count=1|40|headers
+offset=64 bytes=20 count=0|40|
+offset=34 bytes=1f count=0|40|
+offset=ffffffff bytes=0 count=0|40|
+offset=0 bytes=20 count=1|40|
+offset=4 bytes=20 count=3|40|
+offset=5 bytes=20 count=3|40|headers
+offset=ffffffe0 bytes=20 count=1|40|headers
+offset=fffffff0 bytes=20 count=1|40|headers
+offset=fff80000 bytes=20 count=4000|40|headers
+offset=34 bytes=20 count=fffe|40|headers
+offset=34 bytes=20 count=ffff|40|headers
+offset=0 bytes=1f count=ffff|40|headers
+";
+
+/// The entry is a word of the memory.
+const ENTRIES: &str = "\
+entry=0|4|
+entry=0|3|entry
+entry=0|0|entry
+entry=38|40|
+entry=39|40|entry
+entry=3a|40|entry
+entry=3b|40|entry
+entry=3c|40|
+entry=3d|40|entry
+entry=3c|3f|entry
+entry=40|40|entry
+entry=fffffffc|40|entry
+entry=ffff|10000|entry
+";
+
+/// A segment, by its type, place, address, size in the file and size in memory, keeps to the file, which has 100 bytes, and to the memory.
+const SEGMENTS: &str = "\
+1 54 0 10 10|40|
+1 54 0 10 f|40|segment 0
+1 54 0 f 10|40|
+1 55 0 10 10|40|segment 0
+1 55 0 f f|40|
+1 64 0 0 10|40|
+1 65 0 0 10|40|segment 0
+1 fffffff0 0 20 20|40|segment 0
+1 fffffff0 0 10 10|40|segment 0
+1 54 30 10 10|40|
+1 54 31 10 10|40|segment 0
+1 0 0 0 40|40|
+1 0 0 0 41|40|segment 0
+1 0 40 0 1|40|segment 0
+1 0 fffffff0 0 20|40|segment 0
+1 0 fffffff0 0 10|40|segment 0
+1 fffffff0 fffffff0 0 0|40|
+1 54 0 1 0|40|segment 0
+0 fffffff0 fffffff0 20 10|40|
+101 fffffff0 fffffff0 20 10|40|
+";
+
+/// The first faulty segment is told. The file has 164 bytes.
+const FIRST: &str = "\
+1 94 0 10 10; 1 94 0 10 10; 1 94 0 10 10|40|
+2 95 31 10 f; 2 95 31 10 f; 2 95 31 10 f|40|
+1 94 0 10 10; 1 94 0 10 f; 1 94 31 10 10|40|segment 1
+1 94 31 10 10; 1 95 0 10 10; 1 94 0 10 10|40|segment 0
+2 95 31 10 f; 1 94 0 10 10; 1 95 0 10 10|40|segment 2
+2 95 31 10 f; 1 94 31 10 10; 1 94 0 10 f|40|segment 1
+";
+
+/// A byte of the guest and another in its place, with the fault that comes of it, in the order of testing.
+const CHANGES: [(usize, u8, &str); 16] = [
+    (0, 0x7e, "magic"),
+    (1, 0x65, "magic"),
+    (2, 0x6c, "magic"),
+    (3, 0x66, "magic"),
+    (4, 2, "class"),
+    (5, 2, "order"),
+    (16, 3, "file type"),
+    (17, 1, "file type"),
+    (18, 0xf2, "machine"),
+    (19, 1, "machine"),
+    (36, 1, "flags"),
+    (42, 0x1f, "headers"),
+    (43, 1, "headers"),
+    (72, 7, "segment 0"),
+    (101, 1, "segment 1"),
+    (24, 10, "entry"),
+];
+
+fn holds(ok: bool, what: &str) -> Result<(), Fail> {
+    if ok { Ok(()) } else { Err(Fail::new(what)) }
 }
 
-fn refused(fault: ElfFault) -> Option<LoadFault> {
-    Some(LoadFault::Refused(fault))
+/// The text of what is wrong with a file, empty where nothing is.
+fn said(alloc: Global, file: &[u8], size: u32) -> Result<String, Fail> {
+    match load(alloc, file, size) {
+        Ok(_) => Ok(String::new(alloc)),
+        Err(fault) => Ok(format!(in alloc; "{fault}")?),
+    }
+}
+
+fn is_told(alloc: Global, file: &[u8], size: u32, fault: &str, what: &str) -> Result<(), Fail> {
+    let told = said(alloc, file, size)?;
+    holds(told.as_str() == fault, what)
+}
+
+fn is_image(alloc: Global, file: &[u8], memory: &[u8], entry: u32) -> Result<(), Fail> {
+    let image = load(alloc, file, u32::try_from(memory.len())?)?;
+    holds(image.memory.as_slice() == memory, "the memory")?;
+    holds(image.entry == entry, "the entry")
 }
 
 /// Writes bytes over those from a place on.
@@ -89,306 +215,235 @@ fn file_of(alloc: Global, parts: &[[u32; 5]]) -> Result<Vec<u8>, Fail> {
     Ok(file)
 }
 
-#[test]
-fn a_guest_is_laid_by_its_headers(rt: HostRuntime) -> Result<(), Fail> {
-    let image = load(rt.alloc(), &GUEST, 64)?;
-    assert_eq!(rt; image.memory.as_slice(), GUEST_MEMORY.as_slice());
-    assert_eq!(rt; image.entry, 8);
-    let image = load(rt.alloc(), &HEADER, 4)?;
-    assert_eq!(rt; image.memory.as_slice(), [0, 0, 0, 0].as_slice());
-    assert_eq!(rt; image.entry, 0);
-    // the header's other fields are of no account
-    let mut file = GUEST;
-    for (from, to) in [(6, 16), (20, 24), (32, 36), (40, 42), (46, 52)] {
-        for at in from..to {
-            put(&mut file, at, &[0xff]);
-        }
+fn put_field(file: &mut [u8], field: &str) -> Result<(), Fail> {
+    let Some((name, digits)) = field.split_once('=') else {
+        return Err(Fail::new(field));
+    };
+    let value = u32::from_str_radix(digits, 16)?;
+    match name {
+        "entry" => put(file, 24, &value.to_le_bytes()),
+        "offset" => put(file, 28, &value.to_le_bytes()),
+        "flags" => put(file, 36, &value.to_le_bytes()),
+        "bytes" => put(file, 42, &u16::try_from(value)?.to_le_bytes()),
+        "count" => put(file, 44, &u16::try_from(value)?.to_le_bytes()),
+        _ => return Err(Fail::new(field)),
     }
-    let image = load(rt.alloc(), &file, 64)?;
-    assert_eq!(rt; image.memory.as_slice(), GUEST_MEMORY.as_slice());
-    assert_eq!(rt; image.entry, 8);
+    Ok(())
+}
+
+/// The three parts of a row.
+fn parts_of(row: &str) -> Result<(&str, u32, &str), Fail> {
+    let Some((what, rest)) = row.split_once('|') else {
+        return Err(Fail::new(row));
+    };
+    let Some((size, fault)) = rest.split_once('|') else {
+        return Err(Fail::new(row));
+    };
+    Ok((what, u32::from_str_radix(size, 16)?, fault))
+}
+
+fn row_of_fields(alloc: Global, base: &[u8], row: &str) -> Result<(), Fail> {
+    let (fields, size, fault) = parts_of(row)?;
+    let mut file = base.to_vec(alloc)?;
+    for field in fields.split(' ') {
+        put_field(&mut file, field)?;
+    }
+    is_told(alloc, &file, size, fault, row)
+}
+
+fn each_row_of_fields(alloc: Global, base: &[u8], rows: &str) -> Result<(), Fail> {
+    for row in rows.lines() {
+        row_of_fields(alloc, base, row)?;
+    }
+    Ok(())
+}
+
+fn part_of(text: &str) -> Result<[u32; 5], Fail> {
+    let mut part = [0; 5];
+    for (slot, digits) in part.iter_mut().zip(text.split_whitespace()) {
+        *slot = u32::from_str_radix(digits, 16)?;
+    }
+    Ok(part)
+}
+
+fn row_of_parts(alloc: Global, row: &str) -> Result<(), Fail> {
+    let (texts, size, fault) = parts_of(row)?;
+    let mut parts = Vec::new(alloc);
+    for text in texts.split(';') {
+        parts.push(part_of(text)?)?;
+    }
+    let file = file_of(alloc, &parts)?;
+    is_told(alloc, &file, size, fault, row)
+}
+
+fn each_row_of_parts(alloc: Global, rows: &str) -> Result<(), Fail> {
+    for row in rows.lines() {
+        row_of_parts(alloc, row)?;
+    }
     Ok(())
 }
 
 #[test]
-fn a_front_of_a_guest_is_refused(rt: HostRuntime) {
+fn a_guest_is_laid_by_its_headers(rt: HostRuntime) -> Result<(), Fail> {
+    is_image(rt.alloc(), &GUEST, &GUEST_MEMORY, 8)?;
+    is_image(rt.alloc(), &HEADER, &[0, 0, 0, 0], 0)
+}
+
+fn fill(file: &mut [u8], from: usize, end: usize) {
+    for at in from..end {
+        put(file, at, &[0xff]);
+    }
+}
+
+#[test]
+fn other_fields_are_of_no_account(rt: HostRuntime) -> Result<(), Fail> {
+    let mut file = GUEST;
+    for (from, end) in [(6, 16), (20, 24), (32, 36), (40, 42), (46, 52)] {
+        fill(&mut file, from, end);
+    }
+    is_image(rt.alloc(), &file, &GUEST_MEMORY, 8)
+}
+
+/// What is wrong with so many bytes of the guest.
+fn fault_of_front(end: usize) -> &'static str {
+    match end {
+        0..=51 => "short",
+        52..=211 => "headers",
+        212..=219 => "segment 0",
+        220..=221 => "segment 1",
+        _ => "segment 3",
+    }
+}
+
+#[test]
+fn a_front_of_a_guest_is_refused(rt: HostRuntime) -> Result<(), Fail> {
     for end in 0..229usize {
-        let want = match end {
-            0..=51 => ElfFault::Short,
-            52..=211 => ElfFault::Headers,
-            212..=219 => ElfFault::Segment(0),
-            220..=221 => ElfFault::Segment(1),
-            _ => ElfFault::Segment(3),
-        };
-        assert_eq!(rt;
-            fault_of(rt.alloc(), &GUEST[..end], 64),
-            refused(want),
-            "{end} bytes"
-        );
+        is_told(
+            rt.alloc(),
+            &GUEST[..end],
+            64,
+            fault_of_front(end),
+            "a front",
+        )?;
     }
     // shortness comes before all else
-    assert_eq!(rt;
-        fault_of(rt.alloc(), &[0; 51], 64),
-        refused(ElfFault::Short)
-    );
-    assert_eq!(rt;
-        fault_of(rt.alloc(), &[0; 52], 64),
-        refused(ElfFault::Magic)
-    );
+    is_told(rt.alloc(), &[0; 51], 64, "short", "51 zeros")?;
+    is_told(rt.alloc(), &[0; 52], 64, "magic", "52 zeros")
+}
+
+/// The guest with one byte changed, in a memory of its size and in the largest.
+fn change_is_told(alloc: Global, at: usize, byte: u8, fault: &str) -> Result<(), Fail> {
+    let mut file = GUEST;
+    put(&mut file, at, &[byte]);
+    is_told(alloc, &file, 64, fault, fault)?;
+    is_told(alloc, &file, u32::MAX, fault, fault)
+}
+
+fn earlier_is_told(
+    alloc: Global,
+    first: &(usize, u8, &str),
+    later: &(usize, u8, &str),
+) -> Result<(), Fail> {
+    let mut file = GUEST;
+    put(&mut file, first.0, &[first.1]);
+    put(&mut file, later.0, &[later.1]);
+    is_told(alloc, &file, 64, first.2, later.2)
 }
 
 #[test]
-fn the_first_fault_of_two_is_told(rt: HostRuntime) {
-    let changes = [
-        (0, 0x7e, ElfFault::Magic),
-        (1, 0x65, ElfFault::Magic),
-        (2, 0x6c, ElfFault::Magic),
-        (3, 0x66, ElfFault::Magic),
-        (4, 2, ElfFault::Class),
-        (5, 2, ElfFault::Order),
-        (16, 3, ElfFault::FileType),
-        (17, 1, ElfFault::FileType),
-        (18, 0xf2, ElfFault::Machine),
-        (19, 1, ElfFault::Machine),
-        (36, 1, ElfFault::Flags),
-        (42, 0x1f, ElfFault::Headers),
-        (43, 1, ElfFault::Headers),
-        (72, 7, ElfFault::Segment(0)),
-        (101, 1, ElfFault::Segment(1)),
-        (24, 10, ElfFault::Entry),
-    ];
-    for (i, (at, byte, fault)) in changes.iter().enumerate() {
-        let mut file = GUEST;
-        put(&mut file, *at, &[*byte]);
-        assert_eq!(rt; fault_of(rt.alloc(), &file, 64), refused(*fault), "{at}");
-        assert_eq!(rt;
-            fault_of(rt.alloc(), &file, u32::MAX),
-            refused(*fault),
-            "{at} in the largest memory"
-        );
-        for (j, (later, other, _)) in changes.iter().enumerate() {
-            if j > i {
-                let mut both = file;
-                put(&mut both, *later, &[*other]);
-                assert_eq!(rt;
-                    fault_of(rt.alloc(), &both, 64),
-                    refused(*fault),
-                    "{at} and {later}"
-                );
-            }
+fn the_first_fault_of_two_is_told(rt: HostRuntime) -> Result<(), Fail> {
+    for (i, first) in CHANGES.iter().enumerate() {
+        change_is_told(rt.alloc(), first.0, first.1, first.2)?;
+        for later in CHANGES.iter().skip(i + 1) {
+            earlier_is_told(rt.alloc(), first, later)?;
         }
     }
+    Ok(())
 }
 
 #[test]
-fn flags_of_other_instructions_are_refused(rt: HostRuntime) {
-    for (flags, is_refused) in [
-        (0, false),
-        (1, true),
-        (2, true),
-        (4, true),
-        (6, true),
-        (8, true),
-        (9, true),
-        (16, false),
-        (0x10000, false),
-        (0xfffffff0, false),
-        (0x80000001, true),
-        (0x80000008, true),
-    ] {
-        let mut file = HEADER;
-        put(&mut file, 36, &u32::to_le_bytes(flags));
-        let want = if is_refused {
-            refused(ElfFault::Flags)
-        } else {
-            None
-        };
-        assert_eq!(rt; fault_of(rt.alloc(), &file, 64), want, "{flags}");
-    }
+fn flags_of_other_instructions_are_refused(rt: HostRuntime) -> Result<(), Fail> {
+    each_row_of_fields(rt.alloc(), &HEADER, FLAGS)
 }
 
 #[test]
 fn program_headers_are_of_32_bytes_and_in_the_file(rt: HostRuntime) -> Result<(), Fail> {
-    for (offset, bytes, count, is_refused) in [
-        (52, 32, 1, false),
-        (52, 31, 1, true),
-        (52, 33, 1, true),
-        (52, 0x120, 1, true),
-        (52, 32, 2, true),
-        (68, 32, 1, false),
-        (69, 32, 1, true),
-        (100, 32, 1, true),
-        (100, 32, 0, false),
-        (52, 31, 0, false),
-        (u32::MAX, 0, 0, false),
-        (0, 32, 1, false),
-        (4, 32, 3, false),
-        (5, 32, 3, true),
-        (0xffffffe0, 32, 1, true),
-        (0xfffffff0, 32, 1, true),
-        (0xfff80000, 32, 0x4000, true),
-        (52, 32, 65534, true),
-        (52, 32, 65535, true),
-        (0, 31, 65535, true),
-    ] {
-        let mut file = file_of(rt.alloc(), &[[1, 0, 0, 0, 0]])?;
-        put(&mut file, 28, &u32::to_le_bytes(offset));
-        put(&mut file, 42, &u16::to_le_bytes(bytes));
-        put(&mut file, 44, &u16::to_le_bytes(count));
-        let want = if is_refused {
-            refused(ElfFault::Headers)
-        } else {
-            None
-        };
-        assert_eq!(rt;
-            fault_of(rt.alloc(), &file, 64),
-            want,
-            "{count} of {bytes} at {offset}"
-        );
-    }
-    Ok(())
+    let base = file_of(rt.alloc(), &[[1, 0, 0, 0, 0]])?;
+    each_row_of_fields(rt.alloc(), &base, HEADERS)
 }
 
 #[test]
 fn a_segment_keeps_to_the_file_and_the_memory(rt: HostRuntime) -> Result<(), Fail> {
-    // the file has 100 bytes, and the memory 64
-    for (part, is_faulty) in [
-        ([1, 84, 0, 16, 16], false),
-        ([1, 84, 0, 16, 15], true),
-        ([1, 84, 0, 15, 16], false),
-        ([1, 85, 0, 16, 16], true),
-        ([1, 85, 0, 15, 15], false),
-        ([1, 100, 0, 0, 16], false),
-        ([1, 101, 0, 0, 16], true),
-        ([1, 0xfffffff0, 0, 0x20, 0x20], true),
-        ([1, 0xfffffff0, 0, 0x10, 0x10], true),
-        ([1, 84, 48, 16, 16], false),
-        ([1, 84, 49, 16, 16], true),
-        ([1, 0, 0, 0, 64], false),
-        ([1, 0, 0, 0, 65], true),
-        ([1, 0, 64, 0, 1], true),
-        ([1, 0, 0xfffffff0, 0, 0x20], true),
-        ([1, 0, 0xfffffff0, 0, 0x10], true),
-        ([1, 0xfffffff0, 0xfffffff0, 0, 0], false),
-        ([1, 84, 0, 1, 0], true),
-        ([0, 0xfffffff0, 0xfffffff0, 0x20, 0x10], false),
-        ([0x101, 0xfffffff0, 0xfffffff0, 0x20, 0x10], false),
-    ] {
-        let file = file_of(rt.alloc(), &[part])?;
-        let [kind, offset, address, filed, sized] = part;
-        let want = if is_faulty {
-            refused(ElfFault::Segment(0))
-        } else {
-            None
-        };
-        assert_eq!(rt;
-            fault_of(rt.alloc(), &file, 64),
-            want,
-            "{kind} {offset} {address} {filed} {sized}"
-        );
-    }
-    Ok(())
+    each_row_of_parts(rt.alloc(), SEGMENTS)
 }
 
 #[test]
 fn the_first_faulty_segment_is_told(rt: HostRuntime) -> Result<(), Fail> {
-    // the 16 bytes of three headers stand from 148 on
-    let right = [1, 148, 0, 16, 16];
-    let in_file = [1, 149, 0, 16, 16];
-    let in_memory = [1, 148, 49, 16, 16];
-    let in_size = [1, 148, 0, 16, 15];
-    let other = [2, 149, 49, 16, 15];
-    for (parts, want) in [
-        ([right, right, right], None),
-        ([other, other, other], None),
-        ([right, in_size, in_memory], Some(1)),
-        ([in_memory, in_file, right], Some(0)),
-        ([other, right, in_file], Some(2)),
-        ([other, in_memory, in_size], Some(1)),
-    ] {
-        let file = file_of(rt.alloc(), &parts)?;
-        let want = want.map(|i| LoadFault::Refused(ElfFault::Segment(i)));
-        assert_eq!(rt; fault_of(rt.alloc(), &file, 64), want);
-    }
-    let mut parts = vec![in rt.alloc(); other; 299]?;
+    each_row_of_parts(rt.alloc(), FIRST)
+}
+
+#[test]
+fn the_number_of_a_segment_is_told(rt: HostRuntime) -> Result<(), Fail> {
+    let mut parts = vec![in rt.alloc(); [2, 149, 49, 16, 15]; 299]?;
     parts.push([1, 0, 64, 0, 1])?;
     let file = file_of(rt.alloc(), &parts)?;
-    assert_eq!(rt;
-        fault_of(rt.alloc(), &file, 64),
-        refused(ElfFault::Segment(299))
-    );
-    assert_eq!(rt; fault_of(rt.alloc(), &file, 65), None);
-    Ok(())
+    is_told(rt.alloc(), &file, 64, "segment 299", "past the memory")?;
+    is_told(rt.alloc(), &file, 65, "", "in the memory")
 }
 
 #[test]
 fn the_entry_is_a_word_of_the_memory(rt: HostRuntime) -> Result<(), Fail> {
-    for (entry, size, is_refused) in [
-        (0, 4, false),
-        (0, 3, true),
-        (0, 0, true),
-        (56, 64, false),
-        (57, 64, true),
-        (58, 64, true),
-        (59, 64, true),
-        (60, 64, false),
-        (61, 64, true),
-        (60, 63, true),
-        (64, 64, true),
-        (0xfffffffc, 64, true),
-        (0xffff, 65536, true),
-    ] {
-        let mut file = HEADER;
-        put(&mut file, 24, &u32::to_le_bytes(entry));
-        let want = if is_refused {
-            refused(ElfFault::Entry)
-        } else {
-            None
-        };
-        assert_eq!(rt;
-            fault_of(rt.alloc(), &file, size),
-            want,
-            "{entry} in {size}"
-        );
-    }
-    let mut file = HEADER;
-    put(&mut file, 24, &[0xfc, 0xff, 0x01, 0x00]);
-    assert_eq!(rt; load(rt.alloc(), &file, 0x20000)?.entry, 0x1fffc);
-    Ok(())
+    each_row_of_fields(rt.alloc(), &HEADER, ENTRIES)
 }
 
 #[test]
-fn as_many_headers_as_may_be_load(rt: HostRuntime) -> Result<(), Fail> {
-    let mut file = HEADER.to_vec(rt.alloc())?;
+fn the_entry_is_that_of_the_header(rt: HostRuntime) -> Result<(), Fail> {
+    let mut file = HEADER;
+    put(&mut file, 24, &[0xfc, 0xff, 0x01, 0x00]);
+    let image = load(rt.alloc(), &file, 0x20000)?;
+    holds(image.entry == 0x1fffc, "the entry")
+}
+
+/// A file with 65,534 program headers. Each covers the whole memory, and has the magic bytes at 0; the last has two bytes from the end of
+/// the file.
+fn full(alloc: Global) -> Result<Vec<u8>, Fail> {
+    let mut file = HEADER.to_vec(alloc)?;
     put(&mut file, 44, &[0xfe, 0xff]);
-    // each covers the whole memory, and has the magic bytes at 0; the last has two bytes from the end of the file
     for _ in 0..65533u32 {
         push_part(&mut file, &[1, 0, 0, 4, 0x10000])?;
     }
     push_part(&mut file, &[1, 52 + 65534 * 32, 0, 2, 0x10000])?;
     file.extend_from_slice(&[0xde, 0xad])?;
+    Ok(file)
+}
+
+#[test]
+fn as_many_headers_as_may_be_load(rt: HostRuntime) -> Result<(), Fail> {
+    let file = full(rt.alloc())?;
     let mut want = vec![in rt.alloc(); 0; 0x10000]?;
     put(&mut want, 0, &[0xde, 0xad]);
-    let image = load(rt.alloc(), &file, 0x10000)?;
-    assert_eq!(rt; image.memory.as_slice(), want.as_slice());
-    assert_eq!(rt; image.entry, 0);
-    // one more would end within the file, but cannot be counted
+    is_image(rt.alloc(), &file, &want, 0)
+}
+
+#[test]
+fn one_header_more_cannot_be_counted(rt: HostRuntime) -> Result<(), Fail> {
+    let mut file = full(rt.alloc())?;
+    // it would end within the file
     put(&mut file, 28, &[0, 0, 0, 0]);
     put(&mut file, 44, &[0xff, 0xff]);
-    assert_eq!(rt;
-        fault_of(rt.alloc(), &file, 0x10000),
-        refused(ElfFault::Headers)
-    );
-    Ok(())
+    is_told(rt.alloc(), &file, 0x10000, "headers", "65,535 headers")
+}
+
+fn has_text(alloc: Global, fault: LoadFault, text: &str) -> Result<(), Fail> {
+    let told = format!(in alloc; "{fault}")?;
+    holds(told.as_str() == text, text)
 }
 
 #[test]
 fn faults_have_their_texts(rt: HostRuntime) -> Result<(), Fail> {
-    let memory = format!(in rt.alloc(); "{}", LoadFault::Memory)?;
-    assert_eq!(rt; memory.as_str(), "out of memory");
-    let segment = format!(in rt.alloc(); "{}", LoadFault::Refused(ElfFault::Segment(299)))?;
-    assert_eq!(rt; segment.as_str(), "segment 299");
+    has_text(rt.alloc(), LoadFault::Memory, "out of memory")?;
+    let segment = LoadFault::Refused(ElfFault::Segment(299));
+    has_text(rt.alloc(), segment, "segment 299")?;
     let file_type = format!(in rt.alloc(); "{}", ElfFault::FileType)?;
-    assert_eq!(rt; file_type.as_str(), "file type");
-    Ok(())
+    holds(file_type.as_str() == "file type", "file type")
 }

@@ -1,423 +1,404 @@
-use crate::{
-    BranchOp, ImmediateOp, Instr, LoadOp, RegisterOp, ShiftOp, StoreOp, UpperOp, decode, encode,
-};
-use std::process::Abort;
+//! Words and the instructions that they code. A row is `word assembly|instruction`, the word in hexadecimal; where there is no instruction the
+//! word codes nothing. The words of the first six tables are by GNU as and ld 2.40 (binutils), -march=rv32i_zihintpause -mno-relax.
+//! Immediates are the bits of the operands.
 
-fn upper(op: UpperOp, rd: u32, imm: u32) -> Instr {
-    Instr::Upper { op, rd, imm }
+use crate::{decode, encode};
+use std::alloc::Global;
+use std::test::Fail;
+
+/// Upper immediates and jumps.
+const UPPER_AND_JUMPS: &str = "\
+00000037 lui x0, 0|Upper { op: Lui, rd: 0, imm: 0 }
+000010b7 lui x1, 1|Upper { op: Lui, rd: 1, imm: 1 }
+ffffffb7 lui x31, 0xfffff|Upper { op: Lui, rd: 31, imm: 1048575 }
+80000837 lui x16, 0x80000|Upper { op: Lui, rd: 16, imm: 524288 }
+123452b7 lui x5, 0x12345|Upper { op: Lui, rd: 5, imm: 74565 }
+7ffff537 lui x10, 0x7ffff|Upper { op: Lui, rd: 10, imm: 524287 }
+00000897 auipc x17, 0|Upper { op: Auipc, rd: 17, imm: 0 }
+00001017 auipc x0, 1|Upper { op: Auipc, rd: 0, imm: 1 }
+fffff097 auipc x1, 0xfffff|Upper { op: Auipc, rd: 1, imm: 1048575 }
+80000f97 auipc x31, 0x80000|Upper { op: Auipc, rd: 31, imm: 524288 }
+12345817 auipc x16, 0x12345|Upper { op: Auipc, rd: 16, imm: 74565 }
+7ffff297 auipc x5, 0x7ffff|Upper { op: Auipc, rd: 5, imm: 524287 }
+8000056f jal x10, .-1048576|Jal { rd: 10, imm: 1048576 }
+7ffff8ef jal x17, .+1048574|Jal { rd: 17, imm: 1048574 }
+0020006f jal x0, .+2|Jal { rd: 0, imm: 2 }
+fffff0ef jal x1, .-2|Jal { rd: 1, imm: 2097150 }
+00000fef jal x31, .+0|Jal { rd: 31, imm: 0 }
+0010086f jal x16, .+2048|Jal { rd: 16, imm: 2048 }
+000012ef jal x5, .+4096|Jal { rd: 5, imm: 4096 }
+800ff56f jal x10, .-4096|Jal { rd: 10, imm: 2093056 }
+400008ef jal x17, .+1024|Jal { rd: 17, imm: 1024 }
+0007f06f jal x0, .+520192|Jal { rd: 0, imm: 520192 }
+800f80e7 jalr x1, -2048(x31)|Jalr { rd: 1, rs1: 31, imm: 2048 }
+7ff00fe7 jalr x31, 2047(x0)|Jalr { rd: 31, rs1: 0, imm: 2047 }
+fff10867 jalr x16, -1(x2)|Jalr { rd: 16, rs1: 2, imm: 4095 }
+000782e7 jalr x5, 0(x15)|Jalr { rd: 5, rs1: 15, imm: 0 }
+00108567 jalr x10, 1(x1)|Jalr { rd: 10, rs1: 1, imm: 1 }
+004f08e7 jalr x17, 4(x30)|Jalr { rd: 17, rs1: 30, imm: 4 }
+";
+
+/// Branches.
+const BRANCHES: &str = "\
+80140063 beq x8, x1, .-4096|Branch { op: Beq, rs1: 8, rs2: 1, imm: 4096 }
+7ff80fe3 beq x16, x31, .+4094|Branch { op: Beq, rs1: 16, rs2: 31, imm: 4094 }
+000a8163 beq x21, x0, .+2|Branch { op: Beq, rs1: 21, rs2: 0, imm: 2 }
+ff058fe3 beq x11, x16, .-2|Branch { op: Beq, rs1: 11, rs2: 16, imm: 8190 }
+007200e3 beq x4, x7, .+2048|Branch { op: Beq, rs1: 4, rs2: 7, imm: 2048 }
+80cf80e3 beq x31, x12, .-2048|Branch { op: Beq, rs1: 31, rs2: 12, imm: 6144 }
+01c00f63 beq x0, x28, .+30|Branch { op: Beq, rs1: 0, rs2: 28, imm: 30 }
+81311063 bne x2, x19, .-4096|Branch { op: Bne, rs1: 2, rs2: 19, imm: 4096 }
+7e079fe3 bne x15, x0, .+4094|Branch { op: Bne, rs1: 15, rs2: 0, imm: 4094 }
+00a09163 bne x1, x10, .+2|Branch { op: Bne, rs1: 1, rs2: 10, imm: 2 }
+ff7f1fe3 bne x30, x23, .-2|Branch { op: Bne, rs1: 30, rs2: 23, imm: 8190 }
+00e410e3 bne x8, x14, .+2048|Branch { op: Bne, rs1: 8, rs2: 14, imm: 2048 }
+806810e3 bne x16, x6, .-2048|Branch { op: Bne, rs1: 16, rs2: 6, imm: 6144 }
+021a9063 bne x21, x1, .+32|Branch { op: Bne, rs1: 21, rs2: 1, imm: 32 }
+81f5c063 blt x11, x31, .-4096|Branch { op: Blt, rs1: 11, rs2: 31, imm: 4096 }
+7e024fe3 blt x4, x0, .+4094|Branch { op: Blt, rs1: 4, rs2: 0, imm: 4094 }
+010fc163 blt x31, x16, .+2|Branch { op: Blt, rs1: 31, rs2: 16, imm: 2 }
+fe704fe3 blt x0, x7, .-2|Branch { op: Blt, rs1: 0, rs2: 7, imm: 8190 }
+00c140e3 blt x2, x12, .+2048|Branch { op: Blt, rs1: 2, rs2: 12, imm: 2048 }
+81c7c0e3 blt x15, x28, .-2048|Branch { op: Blt, rs1: 15, rs2: 28, imm: 6144 }
+4130c063 blt x1, x19, .+1024|Branch { op: Blt, rs1: 1, rs2: 19, imm: 1024 }
+800f5063 bge x30, x0, .-4096|Branch { op: Bge, rs1: 30, rs2: 0, imm: 4096 }
+7ea45fe3 bge x8, x10, .+4094|Branch { op: Bge, rs1: 8, rs2: 10, imm: 4094 }
+01785163 bge x16, x23, .+2|Branch { op: Bge, rs1: 16, rs2: 23, imm: 2 }
+feeadfe3 bge x21, x14, .-2|Branch { op: Bge, rs1: 21, rs2: 14, imm: 8190 }
+0065d0e3 bge x11, x6, .+2048|Branch { op: Bge, rs1: 11, rs2: 6, imm: 2048 }
+801250e3 bge x4, x1, .-2048|Branch { op: Bge, rs1: 4, rs2: 1, imm: 6144 }
+01ffd063 bge x31, x31, .+0|Branch { op: Bge, rs1: 31, rs2: 31, imm: 0 }
+80006063 bltu x0, x0, .-4096|Branch { op: Bltu, rs1: 0, rs2: 0, imm: 4096 }
+7f016fe3 bltu x2, x16, .+4094|Branch { op: Bltu, rs1: 2, rs2: 16, imm: 4094 }
+0077e163 bltu x15, x7, .+2|Branch { op: Bltu, rs1: 15, rs2: 7, imm: 2 }
+fec0efe3 bltu x1, x12, .-2|Branch { op: Bltu, rs1: 1, rs2: 12, imm: 8190 }
+01cf60e3 bltu x30, x28, .+2048|Branch { op: Bltu, rs1: 30, rs2: 28, imm: 2048 }
+813460e3 bltu x8, x19, .-2048|Branch { op: Bltu, rs1: 8, rs2: 19, imm: 6144 }
+fe0860e3 bltu x16, x0, .-32|Branch { op: Bltu, rs1: 16, rs2: 0, imm: 8160 }
+80aaf063 bgeu x21, x10, .-4096|Branch { op: Bgeu, rs1: 21, rs2: 10, imm: 4096 }
+7f75ffe3 bgeu x11, x23, .+4094|Branch { op: Bgeu, rs1: 11, rs2: 23, imm: 4094 }
+00e27163 bgeu x4, x14, .+2|Branch { op: Bgeu, rs1: 4, rs2: 14, imm: 2 }
+fe6fffe3 bgeu x31, x6, .-2|Branch { op: Bgeu, rs1: 31, rs2: 6, imm: 8190 }
+001070e3 bgeu x0, x1, .+2048|Branch { op: Bgeu, rs1: 0, rs2: 1, imm: 2048 }
+81f170e3 bgeu x2, x31, .-2048|Branch { op: Bgeu, rs1: 2, rs2: 31, imm: 6144 }
+7e07f063 bgeu x15, x0, .+2016|Branch { op: Bgeu, rs1: 15, rs2: 0, imm: 2016 }
+";
+
+/// Loads and stores.
+const LOADS_AND_STORES: &str = "\
+80008003 lb x0, -2048(x1)|Load { op: Lb, rd: 0, rs1: 1, imm: 2048 }
+7fff0083 lb x1, 2047(x30)|Load { op: Lb, rd: 1, rs1: 30, imm: 2047 }
+fff40f83 lb x31, -1(x8)|Load { op: Lb, rd: 31, rs1: 8, imm: 4095 }
+00080803 lb x16, 0(x16)|Load { op: Lb, rd: 16, rs1: 16, imm: 0 }
+001a8283 lb x5, 1(x21)|Load { op: Lb, rd: 5, rs1: 21, imm: 1 }
+01f58503 lb x10, 31(x11)|Load { op: Lb, rd: 10, rs1: 11, imm: 31 }
+80021883 lh x17, -2048(x4)|Load { op: Lh, rd: 17, rs1: 4, imm: 2048 }
+7fff9003 lh x0, 2047(x31)|Load { op: Lh, rd: 0, rs1: 31, imm: 2047 }
+fff01083 lh x1, -1(x0)|Load { op: Lh, rd: 1, rs1: 0, imm: 4095 }
+00011f83 lh x31, 0(x2)|Load { op: Lh, rd: 31, rs1: 2, imm: 0 }
+00179803 lh x16, 1(x15)|Load { op: Lh, rd: 16, rs1: 15, imm: 1 }
+00209283 lh x5, 2(x1)|Load { op: Lh, rd: 5, rs1: 1, imm: 2 }
+800f2503 lw x10, -2048(x30)|Load { op: Lw, rd: 10, rs1: 30, imm: 2048 }
+7ff42883 lw x17, 2047(x8)|Load { op: Lw, rd: 17, rs1: 8, imm: 2047 }
+fff82003 lw x0, -1(x16)|Load { op: Lw, rd: 0, rs1: 16, imm: 4095 }
+000aa083 lw x1, 0(x21)|Load { op: Lw, rd: 1, rs1: 21, imm: 0 }
+0015af83 lw x31, 1(x11)|Load { op: Lw, rd: 31, rs1: 11, imm: 1 }
+ffc22803 lw x16, -4(x4)|Load { op: Lw, rd: 16, rs1: 4, imm: 4092 }
+800fc283 lbu x5, -2048(x31)|Load { op: Lbu, rd: 5, rs1: 31, imm: 2048 }
+7ff04503 lbu x10, 2047(x0)|Load { op: Lbu, rd: 10, rs1: 0, imm: 2047 }
+fff14883 lbu x17, -1(x2)|Load { op: Lbu, rd: 17, rs1: 2, imm: 4095 }
+0007c003 lbu x0, 0(x15)|Load { op: Lbu, rd: 0, rs1: 15, imm: 0 }
+0010c083 lbu x1, 1(x1)|Load { op: Lbu, rd: 1, rs1: 1, imm: 1 }
+400f4f83 lbu x31, 1024(x30)|Load { op: Lbu, rd: 31, rs1: 30, imm: 1024 }
+80045803 lhu x16, -2048(x8)|Load { op: Lhu, rd: 16, rs1: 8, imm: 2048 }
+7ff85283 lhu x5, 2047(x16)|Load { op: Lhu, rd: 5, rs1: 16, imm: 2047 }
+fffad503 lhu x10, -1(x21)|Load { op: Lhu, rd: 10, rs1: 21, imm: 4095 }
+0005d883 lhu x17, 0(x11)|Load { op: Lhu, rd: 17, rs1: 11, imm: 0 }
+00125003 lhu x0, 1(x4)|Load { op: Lhu, rd: 0, rs1: 4, imm: 1 }
+064fd083 lhu x1, 100(x31)|Load { op: Lhu, rd: 1, rs1: 31, imm: 100 }
+81000023 sb x16, -2048(x0)|Store { op: Sb, rs1: 0, rs2: 16, imm: 2048 }
+7e710fa3 sb x7, 2047(x2)|Store { op: Sb, rs1: 2, rs2: 7, imm: 2047 }
+fec78fa3 sb x12, -1(x15)|Store { op: Sb, rs1: 15, rs2: 12, imm: 4095 }
+01c08023 sb x28, 0(x1)|Store { op: Sb, rs1: 1, rs2: 28, imm: 0 }
+013f00a3 sb x19, 1(x30)|Store { op: Sb, rs1: 30, rs2: 19, imm: 1 }
+00040fa3 sb x0, 31(x8)|Store { op: Sb, rs1: 8, rs2: 0, imm: 31 }
+80a81023 sh x10, -2048(x16)|Store { op: Sh, rs1: 16, rs2: 10, imm: 2048 }
+7f7a9fa3 sh x23, 2047(x21)|Store { op: Sh, rs1: 21, rs2: 23, imm: 2047 }
+fee59fa3 sh x14, -1(x11)|Store { op: Sh, rs1: 11, rs2: 14, imm: 4095 }
+00621023 sh x6, 0(x4)|Store { op: Sh, rs1: 4, rs2: 6, imm: 0 }
+001f90a3 sh x1, 1(x31)|Store { op: Sh, rs1: 31, rs2: 1, imm: 1 }
+03f01023 sh x31, 32(x0)|Store { op: Sh, rs1: 0, rs2: 31, imm: 32 }
+80012023 sw x0, -2048(x2)|Store { op: Sw, rs1: 2, rs2: 0, imm: 2048 }
+7f07afa3 sw x16, 2047(x15)|Store { op: Sw, rs1: 15, rs2: 16, imm: 2047 }
+fe70afa3 sw x7, -1(x1)|Store { op: Sw, rs1: 1, rs2: 7, imm: 4095 }
+00cf2023 sw x12, 0(x30)|Store { op: Sw, rs1: 30, rs2: 12, imm: 0 }
+01c420a3 sw x28, 1(x8)|Store { op: Sw, rs1: 8, rs2: 28, imm: 1 }
+ff382023 sw x19, -32(x16)|Store { op: Sw, rs1: 16, rs2: 19, imm: 4064 }
+";
+
+/// Operations on a register and an immediate.
+const IMMEDIATES_AND_SHIFTS: &str = "\
+800a8f93 addi x31, x21, -2048|Immediate { op: Addi, rd: 31, rs1: 21, imm: 2048 }
+7ff58813 addi x16, x11, 2047|Immediate { op: Addi, rd: 16, rs1: 11, imm: 2047 }
+fff20293 addi x5, x4, -1|Immediate { op: Addi, rd: 5, rs1: 4, imm: 4095 }
+000f8513 addi x10, x31, 0|Immediate { op: Addi, rd: 10, rs1: 31, imm: 0 }
+00100893 addi x17, x0, 1|Immediate { op: Addi, rd: 17, rs1: 0, imm: 1 }
+80012013 slti x0, x2, -2048|Immediate { op: Slti, rd: 0, rs1: 2, imm: 2048 }
+7ff7a093 slti x1, x15, 2047|Immediate { op: Slti, rd: 1, rs1: 15, imm: 2047 }
+fff0af93 slti x31, x1, -1|Immediate { op: Slti, rd: 31, rs1: 1, imm: 4095 }
+000f2813 slti x16, x30, 0|Immediate { op: Slti, rd: 16, rs1: 30, imm: 0 }
+00142293 slti x5, x8, 1|Immediate { op: Slti, rd: 5, rs1: 8, imm: 1 }
+80083513 sltiu x10, x16, -2048|Immediate { op: Sltiu, rd: 10, rs1: 16, imm: 2048 }
+7ffab893 sltiu x17, x21, 2047|Immediate { op: Sltiu, rd: 17, rs1: 21, imm: 2047 }
+fff5b013 sltiu x0, x11, -1|Immediate { op: Sltiu, rd: 0, rs1: 11, imm: 4095 }
+00023093 sltiu x1, x4, 0|Immediate { op: Sltiu, rd: 1, rs1: 4, imm: 0 }
+001fbf93 sltiu x31, x31, 1|Immediate { op: Sltiu, rd: 31, rs1: 31, imm: 1 }
+80004813 xori x16, x0, -2048|Immediate { op: Xori, rd: 16, rs1: 0, imm: 2048 }
+7ff14293 xori x5, x2, 2047|Immediate { op: Xori, rd: 5, rs1: 2, imm: 2047 }
+fff7c513 xori x10, x15, -1|Immediate { op: Xori, rd: 10, rs1: 15, imm: 4095 }
+0000c893 xori x17, x1, 0|Immediate { op: Xori, rd: 17, rs1: 1, imm: 0 }
+001f4013 xori x0, x30, 1|Immediate { op: Xori, rd: 0, rs1: 30, imm: 1 }
+80046093 ori x1, x8, -2048|Immediate { op: Ori, rd: 1, rs1: 8, imm: 2048 }
+7ff86f93 ori x31, x16, 2047|Immediate { op: Ori, rd: 31, rs1: 16, imm: 2047 }
+fffae813 ori x16, x21, -1|Immediate { op: Ori, rd: 16, rs1: 21, imm: 4095 }
+0005e293 ori x5, x11, 0|Immediate { op: Ori, rd: 5, rs1: 11, imm: 0 }
+00126513 ori x10, x4, 1|Immediate { op: Ori, rd: 10, rs1: 4, imm: 1 }
+800ff893 andi x17, x31, -2048|Immediate { op: Andi, rd: 17, rs1: 31, imm: 2048 }
+7ff07013 andi x0, x0, 2047|Immediate { op: Andi, rd: 0, rs1: 0, imm: 2047 }
+fff17093 andi x1, x2, -1|Immediate { op: Andi, rd: 1, rs1: 2, imm: 4095 }
+0007ff93 andi x31, x15, 0|Immediate { op: Andi, rd: 31, rs1: 15, imm: 0 }
+0010f813 andi x16, x1, 1|Immediate { op: Andi, rd: 16, rs1: 1, imm: 1 }
+000f1293 slli x5, x30, 0|Shift { op: Slli, rd: 5, rs1: 30, amount: 0 }
+00141513 slli x10, x8, 1|Shift { op: Slli, rd: 10, rs1: 8, amount: 1 }
+01f81893 slli x17, x16, 31|Shift { op: Slli, rd: 17, rs1: 16, amount: 31 }
+010a9013 slli x0, x21, 16|Shift { op: Slli, rd: 0, rs1: 21, amount: 16 }
+0005d093 srli x1, x11, 0|Shift { op: Srli, rd: 1, rs1: 11, amount: 0 }
+00125f93 srli x31, x4, 1|Shift { op: Srli, rd: 31, rs1: 4, amount: 1 }
+01ffd813 srli x16, x31, 31|Shift { op: Srli, rd: 16, rs1: 31, amount: 31 }
+01005293 srli x5, x0, 16|Shift { op: Srli, rd: 5, rs1: 0, amount: 16 }
+40015513 srai x10, x2, 0|Shift { op: Srai, rd: 10, rs1: 2, amount: 0 }
+4017d893 srai x17, x15, 1|Shift { op: Srai, rd: 17, rs1: 15, amount: 1 }
+41f0d013 srai x0, x1, 31|Shift { op: Srai, rd: 0, rs1: 1, amount: 31 }
+410f5093 srai x1, x30, 16|Shift { op: Srai, rd: 1, rs1: 30, amount: 16 }
+";
+
+/// Operations on two registers.
+const REGISTERS: &str = "\
+00040fb3 add x31, x8, x0|Register { op: Add, rd: 31, rs1: 8, rs2: 0 }
+00a80833 add x16, x16, x10|Register { op: Add, rd: 16, rs1: 16, rs2: 10 }
+017a82b3 add x5, x21, x23|Register { op: Add, rd: 5, rs1: 21, rs2: 23 }
+00e58533 add x10, x11, x14|Register { op: Add, rd: 10, rs1: 11, rs2: 14 }
+406208b3 sub x17, x4, x6|Register { op: Sub, rd: 17, rs1: 4, rs2: 6 }
+401f8033 sub x0, x31, x1|Register { op: Sub, rd: 0, rs1: 31, rs2: 1 }
+41f000b3 sub x1, x0, x31|Register { op: Sub, rd: 1, rs1: 0, rs2: 31 }
+40010fb3 sub x31, x2, x0|Register { op: Sub, rd: 31, rs1: 2, rs2: 0 }
+01079833 sll x16, x15, x16|Register { op: Sll, rd: 16, rs1: 15, rs2: 16 }
+007092b3 sll x5, x1, x7|Register { op: Sll, rd: 5, rs1: 1, rs2: 7 }
+00cf1533 sll x10, x30, x12|Register { op: Sll, rd: 10, rs1: 30, rs2: 12 }
+01c418b3 sll x17, x8, x28|Register { op: Sll, rd: 17, rs1: 8, rs2: 28 }
+01382033 slt x0, x16, x19|Register { op: Slt, rd: 0, rs1: 16, rs2: 19 }
+000aa0b3 slt x1, x21, x0|Register { op: Slt, rd: 1, rs1: 21, rs2: 0 }
+00a5afb3 slt x31, x11, x10|Register { op: Slt, rd: 31, rs1: 11, rs2: 10 }
+01722833 slt x16, x4, x23|Register { op: Slt, rd: 16, rs1: 4, rs2: 23 }
+00efb2b3 sltu x5, x31, x14|Register { op: Sltu, rd: 5, rs1: 31, rs2: 14 }
+00603533 sltu x10, x0, x6|Register { op: Sltu, rd: 10, rs1: 0, rs2: 6 }
+001138b3 sltu x17, x2, x1|Register { op: Sltu, rd: 17, rs1: 2, rs2: 1 }
+01f7b033 sltu x0, x15, x31|Register { op: Sltu, rd: 0, rs1: 15, rs2: 31 }
+0000c0b3 xor x1, x1, x0|Register { op: Xor, rd: 1, rs1: 1, rs2: 0 }
+010f4fb3 xor x31, x30, x16|Register { op: Xor, rd: 31, rs1: 30, rs2: 16 }
+00744833 xor x16, x8, x7|Register { op: Xor, rd: 16, rs1: 8, rs2: 7 }
+00c842b3 xor x5, x16, x12|Register { op: Xor, rd: 5, rs1: 16, rs2: 12 }
+01cad533 srl x10, x21, x28|Register { op: Srl, rd: 10, rs1: 21, rs2: 28 }
+0135d8b3 srl x17, x11, x19|Register { op: Srl, rd: 17, rs1: 11, rs2: 19 }
+00025033 srl x0, x4, x0|Register { op: Srl, rd: 0, rs1: 4, rs2: 0 }
+00afd0b3 srl x1, x31, x10|Register { op: Srl, rd: 1, rs1: 31, rs2: 10 }
+41705fb3 sra x31, x0, x23|Register { op: Sra, rd: 31, rs1: 0, rs2: 23 }
+40e15833 sra x16, x2, x14|Register { op: Sra, rd: 16, rs1: 2, rs2: 14 }
+4067d2b3 sra x5, x15, x6|Register { op: Sra, rd: 5, rs1: 15, rs2: 6 }
+4010d533 sra x10, x1, x1|Register { op: Sra, rd: 10, rs1: 1, rs2: 1 }
+01ff68b3 or x17, x30, x31|Register { op: Or, rd: 17, rs1: 30, rs2: 31 }
+00046033 or x0, x8, x0|Register { op: Or, rd: 0, rs1: 8, rs2: 0 }
+010860b3 or x1, x16, x16|Register { op: Or, rd: 1, rs1: 16, rs2: 16 }
+007aefb3 or x31, x21, x7|Register { op: Or, rd: 31, rs1: 21, rs2: 7 }
+00c5f833 and x16, x11, x12|Register { op: And, rd: 16, rs1: 11, rs2: 12 }
+01c272b3 and x5, x4, x28|Register { op: And, rd: 5, rs1: 4, rs2: 28 }
+013ff533 and x10, x31, x19|Register { op: And, rd: 10, rs1: 31, rs2: 19 }
+000078b3 and x17, x0, x0|Register { op: And, rd: 17, rs1: 0, rs2: 0 }
+";
+
+/// Fences and system instructions.
+const FENCES_AND_SYSTEM: &str = "\
+0ff0000f fence iorw, iorw|Fence { bits: 261120 }
+0230000f fence r, rw|Fence { bits: 35840 }
+0110000f fence w, w|Fence { bits: 17408 }
+0310000f fence rw, w|Fence { bits: 50176 }
+0840000f fence i, o|Fence { bits: 135168 }
+0f20000f fence iorw, r|Fence { bits: 247808 }
+04f0000f fence o, iorw|Fence { bits: 80896 }
+8330000f fence.tso|Fence { bits: 2149376 }
+0100000f pause|Fence { bits: 16384 }
+0000000f .insn i 0x0f, 0, x0, x0, 0|Fence { bits: 0 }
+0ff00f8f .insn i 0x0f, 0, x31, x0, 255|Fence { bits: 261151 }
+0fff800f .insn i 0x0f, 0, x0, x31, 255|Fence { bits: 262112 }
+ffff8f8f .insn i 0x0f, 0, x31, x31, -1|Fence { bits: 4194303 }
+7248008f .insn i 0x0f, 0, x1, x16, 1828|Fence { bits: 1872385 }
+0000808f .insn i 0x0f, 0, x1, x1, 0|Fence { bits: 33 }
+8000080f .insn i 0x0f, 0, x16, x0, -2048|Fence { bits: 2097168 }
+00000073 ecall|Ecall
+00100073 ebreak|Ebreak
+";
+
+/// Words by GNU as 2.40 (binutils), for the extensions that have them, code nothing.
+const EXTENSIONS: &str = "\
+0000100f fence.i|
+30001073 csrrw x0, mstatus, x0|
+34102573 csrrs x10, mepc, x0|
+342332f3 csrrc x5, mcause, x6|
+305fd073 csrrwi x0, mtvec, 31|
+c00060f3 csrrsi x1, cycle, 0|
+c010fff3 csrrci x31, time, 1|
+00200073 uret|
+10200073 sret|
+30200073 mret|
+10500073 wfi|
+12000073 sfence.vma x0, x0|
+02b50533 mul x10, x10, x11|
+0220ffb3 remu x31, x1, x2|
+02009093 slli x1, x1, 32|
+0200d093 srli x1, x1, 32|
+4200d093 srai x1, x1, 32|
+00013083 ld x1, 0(x2)|
+00016083 lwu x1, 0(x2)|
+00113023 sd x1, 0(x2)|
+0000809b addiw x1, x1, 0|
+003100bb addw x1, x2, x3|
+100120af lr.w x1, (x2)|
+00012087 flw f1, 0(x2)|
+003170d3 fadd.s f1, f2, f3|
+203120b3 sh1add x1, x2, x3|
+403170b3 andn x1, x2, x3|
+60011093 clz x1, x2|
+0010a00f cbo.clean (x1)|
+00004505 c.li x10, 1|
+00008082 c.jr x1|
+90020001 c.nop and c.ebreak|
+";
+
+/// By the manual's listing of RV32I: words whose fixed bits would be right but for those that are named code nothing.
+const FIXED_BITS: &str = "\
+00000000 illegal by design|
+ffffffff illegal by design|
+00000010 addi with its lowest bits 0|
+0000000b an opcode that is left to custom instructions|
+000000f3 ecall with rd 1|
+00008073 ecall with rs1 1|
+001000f3 ebreak with rd 1|
+00108073 ebreak with rs1 1|
+00001067 jalr with funct3 1|
+00007067 jalr with funct3 7|
+00002063 a branch with funct3 2|
+00003063 a branch with funct3 3|
+00007003 a load with funct3 7|
+00004023 a store with funct3 4|
+00007023 a store with funct3 7|
+0000200f fence with funct3 2|
+0000700f fence with funct3 7|
+40001013 slli with the funct7 of srai|
+60005013 srai with funct7 0x30|
+c0005013 srai with funct7 0x60|
+80005013 srli with funct7 0x40|
+04000033 add with funct7 2|
+60000033 sub with funct7 0x30|
+40001033 sll with the funct7 of sub|
+40002033 slt with the funct7 of sub|
+40003033 sltu with the funct7 of sub|
+40004033 xor with the funct7 of sub|
+80005033 srl with funct7 0x40|
+40006033 or with the funct7 of sub|
+";
+
+/// By hand, from the manual's formats.
+const NAMED: &str = "\
+00100513 addi x10, x0, 1|Immediate { op: Addi, rd: 10, rs1: 0, imm: 1 }
+0000100f fence.i|
+00000000 zeros|
+00000073 ecall|Ecall
+";
+
+fn holds(ok: bool, what: &str) -> Result<(), Fail> {
+    if ok { Ok(()) } else { Err(Fail::new(what)) }
 }
 
-fn jal(rd: u32, imm: u32) -> Instr {
-    Instr::Jal { rd, imm }
-}
-
-fn jalr(rd: u32, rs1: u32, imm: u32) -> Instr {
-    Instr::Jalr { rd, rs1, imm }
-}
-
-fn branch(op: BranchOp, rs1: u32, rs2: u32, imm: u32) -> Instr {
-    Instr::Branch { op, rs1, rs2, imm }
-}
-
-fn load(op: LoadOp, rd: u32, rs1: u32, imm: u32) -> Instr {
-    Instr::Load { op, rd, rs1, imm }
-}
-
-fn store(op: StoreOp, rs1: u32, rs2: u32, imm: u32) -> Instr {
-    Instr::Store { op, rs1, rs2, imm }
-}
-
-fn immediate(op: ImmediateOp, rd: u32, rs1: u32, imm: u32) -> Instr {
-    Instr::Immediate { op, rd, rs1, imm }
-}
-
-fn shift(op: ShiftOp, rd: u32, rs1: u32, amount: u32) -> Instr {
-    Instr::Shift {
-        op,
-        rd,
-        rs1,
-        amount,
-    }
-}
-
-fn register(op: RegisterOp, rd: u32, rs1: u32, rs2: u32) -> Instr {
-    Instr::Register { op, rd, rs1, rs2 }
-}
-
-fn fence(bits: u32) -> Instr {
-    Instr::Fence { bits }
-}
-
-/// Fails at a word that is not decoded to its instruction, or an instruction that is not encoded as its word.
-fn code_each_other(rt: &impl Abort, rows: &[(u32, Instr)]) {
-    for &(word, wanted) in rows {
-        match decode(word) {
-            Some(instr) => {
-                assert_eq!(rt; instr, wanted, "at {word:#010x}");
-                assert_eq!(rt; encode(&instr), word, "at {word:#010x}");
-            }
-            None => panic!(rt; "{word:#010x} codes nothing"),
+/// The text of the instruction that a word codes, empty where it codes none. Fails where the instruction is not encoded as the word.
+fn coded(alloc: Global, word: u32) -> Result<String, Fail> {
+    match decode(word) {
+        Some(instr) => {
+            holds(encode(&instr) == word, "encoded")?;
+            Ok(format!(in alloc; "{instr:?}")?)
         }
+        None => Ok(String::new(alloc)),
     }
 }
 
-// The words of the tables are by GNU as and ld 2.40 (binutils), -march=rv32i_zihintpause -mno-relax; the assembly is
-// beside each. Immediates are the bits of the operands.
-
-#[test]
-fn upper_and_jump_words(rt: HostRuntime) {
-    let rows = [
-        (0x0000_0037, upper(UpperOp::Lui, 0, 0)), // lui x0, 0
-        (0x0000_10b7, upper(UpperOp::Lui, 1, 1)), // lui x1, 1
-        (0xffff_ffb7, upper(UpperOp::Lui, 31, 0xf_ffff)), // lui x31, 0xfffff
-        (0x8000_0837, upper(UpperOp::Lui, 16, 0x8_0000)), // lui x16, 0x80000
-        (0x1234_52b7, upper(UpperOp::Lui, 5, 0x1_2345)), // lui x5, 0x12345
-        (0x7fff_f537, upper(UpperOp::Lui, 10, 0x7_ffff)), // lui x10, 0x7ffff
-        (0x0000_0897, upper(UpperOp::Auipc, 17, 0)), // auipc x17, 0
-        (0x0000_1017, upper(UpperOp::Auipc, 0, 1)), // auipc x0, 1
-        (0xffff_f097, upper(UpperOp::Auipc, 1, 0xf_ffff)), // auipc x1, 0xfffff
-        (0x8000_0f97, upper(UpperOp::Auipc, 31, 0x8_0000)), // auipc x31, 0x80000
-        (0x1234_5817, upper(UpperOp::Auipc, 16, 0x1_2345)), // auipc x16, 0x12345
-        (0x7fff_f297, upper(UpperOp::Auipc, 5, 0x7_ffff)), // auipc x5, 0x7ffff
-        (0x8000_056f, jal(10, 0x10_0000)), // jal x10, .-1048576
-        (0x7fff_f8ef, jal(17, 0xf_fffe)), // jal x17, .+1048574
-        (0x0020_006f, jal(0, 2)), // jal x0, .+2
-        (0xffff_f0ef, jal(1, 0x1f_fffe)), // jal x1, .-2
-        (0x0000_0fef, jal(31, 0)), // jal x31, .+0
-        (0x0010_086f, jal(16, 0x800)), // jal x16, .+2048
-        (0x0000_12ef, jal(5, 0x1000)), // jal x5, .+4096
-        (0x800f_f56f, jal(10, 0x1f_f000)), // jal x10, .-4096
-        (0x4000_08ef, jal(17, 0x400)), // jal x17, .+1024
-        (0x0007_f06f, jal(0, 0x7_f000)), // jal x0, .+520192
-        (0x800f_80e7, jalr(1, 31, 0x800)), // jalr x1, -2048(x31)
-        (0x7ff0_0fe7, jalr(31, 0, 0x7ff)), // jalr x31, 2047(x0)
-        (0xfff1_0867, jalr(16, 2, 0xfff)), // jalr x16, -1(x2)
-        (0x0007_82e7, jalr(5, 15, 0)), // jalr x5, 0(x15)
-        (0x0010_8567, jalr(10, 1, 1)), // jalr x10, 1(x1)
-        (0x004f_08e7, jalr(17, 30, 4)), // jalr x17, 4(x30)
-    ];
-    code_each_other(&rt, &rows);
+fn row_holds(alloc: Global, row: &str) -> Result<(), Fail> {
+    let Some((left, instr)) = row.split_once('|') else {
+        return Err(Fail::new(row));
+    };
+    let Some((word, _)) = left.split_once(' ') else {
+        return Err(Fail::new(row));
+    };
+    let text = coded(alloc, u32::from_str_radix(word, 16)?)?;
+    holds(text.as_str() == instr, row)
 }
 
-#[test]
-fn branch_words(rt: HostRuntime) {
-    let rows = [
-        (0x8014_0063, branch(BranchOp::Beq, 8, 1, 0x1000)), // beq x8, x1, .-4096
-        (0x7ff8_0fe3, branch(BranchOp::Beq, 16, 31, 0xffe)), // beq x16, x31, .+4094
-        (0x000a_8163, branch(BranchOp::Beq, 21, 0, 2)), // beq x21, x0, .+2
-        (0xff05_8fe3, branch(BranchOp::Beq, 11, 16, 0x1ffe)), // beq x11, x16, .-2
-        (0x0072_00e3, branch(BranchOp::Beq, 4, 7, 0x800)), // beq x4, x7, .+2048
-        (0x80cf_80e3, branch(BranchOp::Beq, 31, 12, 0x1800)), // beq x31, x12, .-2048
-        (0x01c0_0f63, branch(BranchOp::Beq, 0, 28, 0x1e)), // beq x0, x28, .+30
-        (0x8131_1063, branch(BranchOp::Bne, 2, 19, 0x1000)), // bne x2, x19, .-4096
-        (0x7e07_9fe3, branch(BranchOp::Bne, 15, 0, 0xffe)), // bne x15, x0, .+4094
-        (0x00a0_9163, branch(BranchOp::Bne, 1, 10, 2)), // bne x1, x10, .+2
-        (0xff7f_1fe3, branch(BranchOp::Bne, 30, 23, 0x1ffe)), // bne x30, x23, .-2
-        (0x00e4_10e3, branch(BranchOp::Bne, 8, 14, 0x800)), // bne x8, x14, .+2048
-        (0x8068_10e3, branch(BranchOp::Bne, 16, 6, 0x1800)), // bne x16, x6, .-2048
-        (0x021a_9063, branch(BranchOp::Bne, 21, 1, 0x20)), // bne x21, x1, .+32
-        (0x81f5_c063, branch(BranchOp::Blt, 11, 31, 0x1000)), // blt x11, x31, .-4096
-        (0x7e02_4fe3, branch(BranchOp::Blt, 4, 0, 0xffe)), // blt x4, x0, .+4094
-        (0x010f_c163, branch(BranchOp::Blt, 31, 16, 2)), // blt x31, x16, .+2
-        (0xfe70_4fe3, branch(BranchOp::Blt, 0, 7, 0x1ffe)), // blt x0, x7, .-2
-        (0x00c1_40e3, branch(BranchOp::Blt, 2, 12, 0x800)), // blt x2, x12, .+2048
-        (0x81c7_c0e3, branch(BranchOp::Blt, 15, 28, 0x1800)), // blt x15, x28, .-2048
-        (0x4130_c063, branch(BranchOp::Blt, 1, 19, 0x400)), // blt x1, x19, .+1024
-        (0x800f_5063, branch(BranchOp::Bge, 30, 0, 0x1000)), // bge x30, x0, .-4096
-        (0x7ea4_5fe3, branch(BranchOp::Bge, 8, 10, 0xffe)), // bge x8, x10, .+4094
-        (0x0178_5163, branch(BranchOp::Bge, 16, 23, 2)), // bge x16, x23, .+2
-        (0xfeea_dfe3, branch(BranchOp::Bge, 21, 14, 0x1ffe)), // bge x21, x14, .-2
-        (0x0065_d0e3, branch(BranchOp::Bge, 11, 6, 0x800)), // bge x11, x6, .+2048
-        (0x8012_50e3, branch(BranchOp::Bge, 4, 1, 0x1800)), // bge x4, x1, .-2048
-        (0x01ff_d063, branch(BranchOp::Bge, 31, 31, 0)), // bge x31, x31, .+0
-        (0x8000_6063, branch(BranchOp::Bltu, 0, 0, 0x1000)), // bltu x0, x0, .-4096
-        (0x7f01_6fe3, branch(BranchOp::Bltu, 2, 16, 0xffe)), // bltu x2, x16, .+4094
-        (0x0077_e163, branch(BranchOp::Bltu, 15, 7, 2)), // bltu x15, x7, .+2
-        (0xfec0_efe3, branch(BranchOp::Bltu, 1, 12, 0x1ffe)), // bltu x1, x12, .-2
-        (0x01cf_60e3, branch(BranchOp::Bltu, 30, 28, 0x800)), // bltu x30, x28, .+2048
-        (0x8134_60e3, branch(BranchOp::Bltu, 8, 19, 0x1800)), // bltu x8, x19, .-2048
-        (0xfe08_60e3, branch(BranchOp::Bltu, 16, 0, 0x1fe0)), // bltu x16, x0, .-32
-        (0x80aa_f063, branch(BranchOp::Bgeu, 21, 10, 0x1000)), // bgeu x21, x10, .-4096
-        (0x7f75_ffe3, branch(BranchOp::Bgeu, 11, 23, 0xffe)), // bgeu x11, x23, .+4094
-        (0x00e2_7163, branch(BranchOp::Bgeu, 4, 14, 2)), // bgeu x4, x14, .+2
-        (0xfe6f_ffe3, branch(BranchOp::Bgeu, 31, 6, 0x1ffe)), // bgeu x31, x6, .-2
-        (0x0010_70e3, branch(BranchOp::Bgeu, 0, 1, 0x800)), // bgeu x0, x1, .+2048
-        (0x81f1_70e3, branch(BranchOp::Bgeu, 2, 31, 0x1800)), // bgeu x2, x31, .-2048
-        (0x7e07_f063, branch(BranchOp::Bgeu, 15, 0, 0x7e0)), // bgeu x15, x0, .+2016
-    ];
-    code_each_other(&rt, &rows);
-}
-
-#[test]
-fn load_and_store_words(rt: HostRuntime) {
-    let rows = [
-        (0x8000_8003, load(LoadOp::Lb, 0, 1, 0x800)), // lb x0, -2048(x1)
-        (0x7fff_0083, load(LoadOp::Lb, 1, 30, 0x7ff)), // lb x1, 2047(x30)
-        (0xfff4_0f83, load(LoadOp::Lb, 31, 8, 0xfff)), // lb x31, -1(x8)
-        (0x0008_0803, load(LoadOp::Lb, 16, 16, 0)), // lb x16, 0(x16)
-        (0x001a_8283, load(LoadOp::Lb, 5, 21, 1)), // lb x5, 1(x21)
-        (0x01f5_8503, load(LoadOp::Lb, 10, 11, 0x1f)), // lb x10, 31(x11)
-        (0x8002_1883, load(LoadOp::Lh, 17, 4, 0x800)), // lh x17, -2048(x4)
-        (0x7fff_9003, load(LoadOp::Lh, 0, 31, 0x7ff)), // lh x0, 2047(x31)
-        (0xfff0_1083, load(LoadOp::Lh, 1, 0, 0xfff)), // lh x1, -1(x0)
-        (0x0001_1f83, load(LoadOp::Lh, 31, 2, 0)), // lh x31, 0(x2)
-        (0x0017_9803, load(LoadOp::Lh, 16, 15, 1)), // lh x16, 1(x15)
-        (0x0020_9283, load(LoadOp::Lh, 5, 1, 2)), // lh x5, 2(x1)
-        (0x800f_2503, load(LoadOp::Lw, 10, 30, 0x800)), // lw x10, -2048(x30)
-        (0x7ff4_2883, load(LoadOp::Lw, 17, 8, 0x7ff)), // lw x17, 2047(x8)
-        (0xfff8_2003, load(LoadOp::Lw, 0, 16, 0xfff)), // lw x0, -1(x16)
-        (0x000a_a083, load(LoadOp::Lw, 1, 21, 0)), // lw x1, 0(x21)
-        (0x0015_af83, load(LoadOp::Lw, 31, 11, 1)), // lw x31, 1(x11)
-        (0xffc2_2803, load(LoadOp::Lw, 16, 4, 0xffc)), // lw x16, -4(x4)
-        (0x800f_c283, load(LoadOp::Lbu, 5, 31, 0x800)), // lbu x5, -2048(x31)
-        (0x7ff0_4503, load(LoadOp::Lbu, 10, 0, 0x7ff)), // lbu x10, 2047(x0)
-        (0xfff1_4883, load(LoadOp::Lbu, 17, 2, 0xfff)), // lbu x17, -1(x2)
-        (0x0007_c003, load(LoadOp::Lbu, 0, 15, 0)), // lbu x0, 0(x15)
-        (0x0010_c083, load(LoadOp::Lbu, 1, 1, 1)), // lbu x1, 1(x1)
-        (0x400f_4f83, load(LoadOp::Lbu, 31, 30, 0x400)), // lbu x31, 1024(x30)
-        (0x8004_5803, load(LoadOp::Lhu, 16, 8, 0x800)), // lhu x16, -2048(x8)
-        (0x7ff8_5283, load(LoadOp::Lhu, 5, 16, 0x7ff)), // lhu x5, 2047(x16)
-        (0xfffa_d503, load(LoadOp::Lhu, 10, 21, 0xfff)), // lhu x10, -1(x21)
-        (0x0005_d883, load(LoadOp::Lhu, 17, 11, 0)), // lhu x17, 0(x11)
-        (0x0012_5003, load(LoadOp::Lhu, 0, 4, 1)), // lhu x0, 1(x4)
-        (0x064f_d083, load(LoadOp::Lhu, 1, 31, 0x64)), // lhu x1, 100(x31)
-        (0x8100_0023, store(StoreOp::Sb, 0, 16, 0x800)), // sb x16, -2048(x0)
-        (0x7e71_0fa3, store(StoreOp::Sb, 2, 7, 0x7ff)), // sb x7, 2047(x2)
-        (0xfec7_8fa3, store(StoreOp::Sb, 15, 12, 0xfff)), // sb x12, -1(x15)
-        (0x01c0_8023, store(StoreOp::Sb, 1, 28, 0)), // sb x28, 0(x1)
-        (0x013f_00a3, store(StoreOp::Sb, 30, 19, 1)), // sb x19, 1(x30)
-        (0x0004_0fa3, store(StoreOp::Sb, 8, 0, 0x1f)), // sb x0, 31(x8)
-        (0x80a8_1023, store(StoreOp::Sh, 16, 10, 0x800)), // sh x10, -2048(x16)
-        (0x7f7a_9fa3, store(StoreOp::Sh, 21, 23, 0x7ff)), // sh x23, 2047(x21)
-        (0xfee5_9fa3, store(StoreOp::Sh, 11, 14, 0xfff)), // sh x14, -1(x11)
-        (0x0062_1023, store(StoreOp::Sh, 4, 6, 0)), // sh x6, 0(x4)
-        (0x001f_90a3, store(StoreOp::Sh, 31, 1, 1)), // sh x1, 1(x31)
-        (0x03f0_1023, store(StoreOp::Sh, 0, 31, 0x20)), // sh x31, 32(x0)
-        (0x8001_2023, store(StoreOp::Sw, 2, 0, 0x800)), // sw x0, -2048(x2)
-        (0x7f07_afa3, store(StoreOp::Sw, 15, 16, 0x7ff)), // sw x16, 2047(x15)
-        (0xfe70_afa3, store(StoreOp::Sw, 1, 7, 0xfff)), // sw x7, -1(x1)
-        (0x00cf_2023, store(StoreOp::Sw, 30, 12, 0)), // sw x12, 0(x30)
-        (0x01c4_20a3, store(StoreOp::Sw, 8, 28, 1)), // sw x28, 1(x8)
-        (0xff38_2023, store(StoreOp::Sw, 16, 19, 0xfe0)), // sw x19, -32(x16)
-    ];
-    code_each_other(&rt, &rows);
-}
-
-#[test]
-fn immediate_and_shift_words(rt: HostRuntime) {
-    let rows = [
-        (0x800a_8f93, immediate(ImmediateOp::Addi, 31, 21, 0x800)), // addi x31, x21, -2048
-        (0x7ff5_8813, immediate(ImmediateOp::Addi, 16, 11, 0x7ff)), // addi x16, x11, 2047
-        (0xfff2_0293, immediate(ImmediateOp::Addi, 5, 4, 0xfff)), // addi x5, x4, -1
-        (0x000f_8513, immediate(ImmediateOp::Addi, 10, 31, 0)), // addi x10, x31, 0
-        (0x0010_0893, immediate(ImmediateOp::Addi, 17, 0, 1)), // addi x17, x0, 1
-        (0x8001_2013, immediate(ImmediateOp::Slti, 0, 2, 0x800)), // slti x0, x2, -2048
-        (0x7ff7_a093, immediate(ImmediateOp::Slti, 1, 15, 0x7ff)), // slti x1, x15, 2047
-        (0xfff0_af93, immediate(ImmediateOp::Slti, 31, 1, 0xfff)), // slti x31, x1, -1
-        (0x000f_2813, immediate(ImmediateOp::Slti, 16, 30, 0)), // slti x16, x30, 0
-        (0x0014_2293, immediate(ImmediateOp::Slti, 5, 8, 1)), // slti x5, x8, 1
-        (0x8008_3513, immediate(ImmediateOp::Sltiu, 10, 16, 0x800)), // sltiu x10, x16, -2048
-        (0x7ffa_b893, immediate(ImmediateOp::Sltiu, 17, 21, 0x7ff)), // sltiu x17, x21, 2047
-        (0xfff5_b013, immediate(ImmediateOp::Sltiu, 0, 11, 0xfff)), // sltiu x0, x11, -1
-        (0x0002_3093, immediate(ImmediateOp::Sltiu, 1, 4, 0)), // sltiu x1, x4, 0
-        (0x001f_bf93, immediate(ImmediateOp::Sltiu, 31, 31, 1)), // sltiu x31, x31, 1
-        (0x8000_4813, immediate(ImmediateOp::Xori, 16, 0, 0x800)), // xori x16, x0, -2048
-        (0x7ff1_4293, immediate(ImmediateOp::Xori, 5, 2, 0x7ff)), // xori x5, x2, 2047
-        (0xfff7_c513, immediate(ImmediateOp::Xori, 10, 15, 0xfff)), // xori x10, x15, -1
-        (0x0000_c893, immediate(ImmediateOp::Xori, 17, 1, 0)), // xori x17, x1, 0
-        (0x001f_4013, immediate(ImmediateOp::Xori, 0, 30, 1)), // xori x0, x30, 1
-        (0x8004_6093, immediate(ImmediateOp::Ori, 1, 8, 0x800)), // ori x1, x8, -2048
-        (0x7ff8_6f93, immediate(ImmediateOp::Ori, 31, 16, 0x7ff)), // ori x31, x16, 2047
-        (0xfffa_e813, immediate(ImmediateOp::Ori, 16, 21, 0xfff)), // ori x16, x21, -1
-        (0x0005_e293, immediate(ImmediateOp::Ori, 5, 11, 0)), // ori x5, x11, 0
-        (0x0012_6513, immediate(ImmediateOp::Ori, 10, 4, 1)), // ori x10, x4, 1
-        (0x800f_f893, immediate(ImmediateOp::Andi, 17, 31, 0x800)), // andi x17, x31, -2048
-        (0x7ff0_7013, immediate(ImmediateOp::Andi, 0, 0, 0x7ff)), // andi x0, x0, 2047
-        (0xfff1_7093, immediate(ImmediateOp::Andi, 1, 2, 0xfff)), // andi x1, x2, -1
-        (0x0007_ff93, immediate(ImmediateOp::Andi, 31, 15, 0)), // andi x31, x15, 0
-        (0x0010_f813, immediate(ImmediateOp::Andi, 16, 1, 1)), // andi x16, x1, 1
-        (0x000f_1293, shift(ShiftOp::Slli, 5, 30, 0)), // slli x5, x30, 0
-        (0x0014_1513, shift(ShiftOp::Slli, 10, 8, 1)), // slli x10, x8, 1
-        (0x01f8_1893, shift(ShiftOp::Slli, 17, 16, 0x1f)), // slli x17, x16, 31
-        (0x010a_9013, shift(ShiftOp::Slli, 0, 21, 0x10)), // slli x0, x21, 16
-        (0x0005_d093, shift(ShiftOp::Srli, 1, 11, 0)), // srli x1, x11, 0
-        (0x0012_5f93, shift(ShiftOp::Srli, 31, 4, 1)), // srli x31, x4, 1
-        (0x01ff_d813, shift(ShiftOp::Srli, 16, 31, 0x1f)), // srli x16, x31, 31
-        (0x0100_5293, shift(ShiftOp::Srli, 5, 0, 0x10)), // srli x5, x0, 16
-        (0x4001_5513, shift(ShiftOp::Srai, 10, 2, 0)), // srai x10, x2, 0
-        (0x4017_d893, shift(ShiftOp::Srai, 17, 15, 1)), // srai x17, x15, 1
-        (0x41f0_d013, shift(ShiftOp::Srai, 0, 1, 0x1f)), // srai x0, x1, 31
-        (0x410f_5093, shift(ShiftOp::Srai, 1, 30, 0x10)), // srai x1, x30, 16
-    ];
-    code_each_other(&rt, &rows);
-}
-
-#[test]
-fn register_words(rt: HostRuntime) {
-    let rows = [
-        (0x0004_0fb3, register(RegisterOp::Add, 31, 8, 0)), // add x31, x8, x0
-        (0x00a8_0833, register(RegisterOp::Add, 16, 16, 10)), // add x16, x16, x10
-        (0x017a_82b3, register(RegisterOp::Add, 5, 21, 23)), // add x5, x21, x23
-        (0x00e5_8533, register(RegisterOp::Add, 10, 11, 14)), // add x10, x11, x14
-        (0x4062_08b3, register(RegisterOp::Sub, 17, 4, 6)), // sub x17, x4, x6
-        (0x401f_8033, register(RegisterOp::Sub, 0, 31, 1)), // sub x0, x31, x1
-        (0x41f0_00b3, register(RegisterOp::Sub, 1, 0, 31)), // sub x1, x0, x31
-        (0x4001_0fb3, register(RegisterOp::Sub, 31, 2, 0)), // sub x31, x2, x0
-        (0x0107_9833, register(RegisterOp::Sll, 16, 15, 16)), // sll x16, x15, x16
-        (0x0070_92b3, register(RegisterOp::Sll, 5, 1, 7)), // sll x5, x1, x7
-        (0x00cf_1533, register(RegisterOp::Sll, 10, 30, 12)), // sll x10, x30, x12
-        (0x01c4_18b3, register(RegisterOp::Sll, 17, 8, 28)), // sll x17, x8, x28
-        (0x0138_2033, register(RegisterOp::Slt, 0, 16, 19)), // slt x0, x16, x19
-        (0x000a_a0b3, register(RegisterOp::Slt, 1, 21, 0)), // slt x1, x21, x0
-        (0x00a5_afb3, register(RegisterOp::Slt, 31, 11, 10)), // slt x31, x11, x10
-        (0x0172_2833, register(RegisterOp::Slt, 16, 4, 23)), // slt x16, x4, x23
-        (0x00ef_b2b3, register(RegisterOp::Sltu, 5, 31, 14)), // sltu x5, x31, x14
-        (0x0060_3533, register(RegisterOp::Sltu, 10, 0, 6)), // sltu x10, x0, x6
-        (0x0011_38b3, register(RegisterOp::Sltu, 17, 2, 1)), // sltu x17, x2, x1
-        (0x01f7_b033, register(RegisterOp::Sltu, 0, 15, 31)), // sltu x0, x15, x31
-        (0x0000_c0b3, register(RegisterOp::Xor, 1, 1, 0)), // xor x1, x1, x0
-        (0x010f_4fb3, register(RegisterOp::Xor, 31, 30, 16)), // xor x31, x30, x16
-        (0x0074_4833, register(RegisterOp::Xor, 16, 8, 7)), // xor x16, x8, x7
-        (0x00c8_42b3, register(RegisterOp::Xor, 5, 16, 12)), // xor x5, x16, x12
-        (0x01ca_d533, register(RegisterOp::Srl, 10, 21, 28)), // srl x10, x21, x28
-        (0x0135_d8b3, register(RegisterOp::Srl, 17, 11, 19)), // srl x17, x11, x19
-        (0x0002_5033, register(RegisterOp::Srl, 0, 4, 0)), // srl x0, x4, x0
-        (0x00af_d0b3, register(RegisterOp::Srl, 1, 31, 10)), // srl x1, x31, x10
-        (0x4170_5fb3, register(RegisterOp::Sra, 31, 0, 23)), // sra x31, x0, x23
-        (0x40e1_5833, register(RegisterOp::Sra, 16, 2, 14)), // sra x16, x2, x14
-        (0x4067_d2b3, register(RegisterOp::Sra, 5, 15, 6)), // sra x5, x15, x6
-        (0x4010_d533, register(RegisterOp::Sra, 10, 1, 1)), // sra x10, x1, x1
-        (0x01ff_68b3, register(RegisterOp::Or, 17, 30, 31)), // or x17, x30, x31
-        (0x0004_6033, register(RegisterOp::Or, 0, 8, 0)), // or x0, x8, x0
-        (0x0108_60b3, register(RegisterOp::Or, 1, 16, 16)), // or x1, x16, x16
-        (0x007a_efb3, register(RegisterOp::Or, 31, 21, 7)), // or x31, x21, x7
-        (0x00c5_f833, register(RegisterOp::And, 16, 11, 12)), // and x16, x11, x12
-        (0x01c2_72b3, register(RegisterOp::And, 5, 4, 28)), // and x5, x4, x28
-        (0x013f_f533, register(RegisterOp::And, 10, 31, 19)), // and x10, x31, x19
-        (0x0000_78b3, register(RegisterOp::And, 17, 0, 0)), // and x17, x0, x0
-    ];
-    code_each_other(&rt, &rows);
-}
-
-#[test]
-fn fence_and_system_words(rt: HostRuntime) {
-    let rows = [
-        (0x0ff0_000f, fence(0x3_fc00)), // fence iorw, iorw
-        (0x0230_000f, fence(0x8c00)), // fence r, rw
-        (0x0110_000f, fence(0x4400)), // fence w, w
-        (0x0310_000f, fence(0xc400)), // fence rw, w
-        (0x0840_000f, fence(0x2_1000)), // fence i, o
-        (0x0f20_000f, fence(0x3_c800)), // fence iorw, r
-        (0x04f0_000f, fence(0x1_3c00)), // fence o, iorw
-        (0x8330_000f, fence(0x20_cc00)), // fence.tso
-        (0x0100_000f, fence(0x4000)), // pause
-        (0x0000_000f, fence(0)), // .insn i 0x0f, 0, x0, x0, 0
-        (0x0ff0_0f8f, fence(0x3_fc1f)), // .insn i 0x0f, 0, x31, x0, 255
-        (0x0fff_800f, fence(0x3_ffe0)), // .insn i 0x0f, 0, x0, x31, 255
-        (0xffff_8f8f, fence(0x3f_ffff)), // .insn i 0x0f, 0, x31, x31, -1
-        (0x7248_008f, fence(0x1c_9201)), // .insn i 0x0f, 0, x1, x16, 1828
-        (0x0000_808f, fence(0x21)), // .insn i 0x0f, 0, x1, x1, 0
-        (0x8000_080f, fence(0x20_0010)), // .insn i 0x0f, 0, x16, x0, -2048
-        (0x0000_0073, Instr::Ecall), // ecall
-        (0x0010_0073, Instr::Ebreak), // ebreak
-    ];
-    code_each_other(&rt, &rows);
-}
-
-/// Fails at a word that codes an instruction.
-fn code_nothing(rt: &impl Abort, words: &[u32]) {
-    for &word in words {
-        assert_eq!(rt; decode(word), None, "at {word:#010x}");
+fn each_row(alloc: Global, rows: &str) -> Result<(), Fail> {
+    for row in rows.lines() {
+        row_holds(alloc, row)?;
     }
+    Ok(())
 }
 
-// The words by GNU as 2.40 (binutils), for the extensions that have them.
 #[test]
-fn words_of_extensions_code_nothing(rt: HostRuntime) {
-    let words = [
-        0x0000_100f, // fence.i
-        0x3000_1073, // csrrw x0, mstatus, x0
-        0x3410_2573, // csrrs x10, mepc, x0
-        0x3423_32f3, // csrrc x5, mcause, x6
-        0x305f_d073, // csrrwi x0, mtvec, 31
-        0xc000_60f3, // csrrsi x1, cycle, 0
-        0xc010_fff3, // csrrci x31, time, 1
-        0x0020_0073, // uret
-        0x1020_0073, // sret
-        0x3020_0073, // mret
-        0x1050_0073, // wfi
-        0x1200_0073, // sfence.vma x0, x0
-        0x02b5_0533, // mul x10, x10, x11
-        0x0220_ffb3, // remu x31, x1, x2
-        0x0200_9093, // slli x1, x1, 32
-        0x0200_d093, // srli x1, x1, 32
-        0x4200_d093, // srai x1, x1, 32
-        0x0001_3083, // ld x1, 0(x2)
-        0x0001_6083, // lwu x1, 0(x2)
-        0x0011_3023, // sd x1, 0(x2)
-        0x0000_809b, // addiw x1, x1, 0
-        0x0031_00bb, // addw x1, x2, x3
-        0x1001_20af, // lr.w x1, (x2)
-        0x0001_2087, // flw f1, 0(x2)
-        0x0031_70d3, // fadd.s f1, f2, f3
-        0x2031_20b3, // sh1add x1, x2, x3
-        0x4031_70b3, // andn x1, x2, x3
-        0x6001_1093, // clz x1, x2
-        0x0010_a00f, // cbo.clean (x1)
-        0x0000_4505, // c.li x10, 1
-        0x0000_8082, // c.jr x1
-        0x9002_0001, // c.nop and c.ebreak
-    ];
-    code_nothing(&rt, &words);
+fn upper_and_jump_words(rt: HostRuntime) -> Result<(), Fail> {
+    each_row(rt.alloc(), UPPER_AND_JUMPS)
 }
 
-// By the manual's listing of RV32I: what the fixed bits would be but for those that are named.
 #[test]
-fn words_with_other_fixed_bits_code_nothing(rt: HostRuntime) {
-    let words = [
-        0x0000_0000, // illegal by design
-        0xffff_ffff, // illegal by design
-        0x0000_0010, // addi with its lowest bits 0
-        0x0000_000b, // an opcode that is left to custom instructions
-        0x0000_00f3, // ecall with rd 1
-        0x0000_8073, // ecall with rs1 1
-        0x0010_00f3, // ebreak with rd 1
-        0x0010_8073, // ebreak with rs1 1
-        0x0000_1067, // jalr with funct3 1
-        0x0000_7067, // jalr with funct3 7
-        0x0000_2063, // a branch with funct3 2
-        0x0000_3063, // a branch with funct3 3
-        0x0000_7003, // a load with funct3 7
-        0x0000_4023, // a store with funct3 4
-        0x0000_7023, // a store with funct3 7
-        0x0000_200f, // fence with funct3 2
-        0x0000_700f, // fence with funct3 7
-        0x4000_1013, // slli with the funct7 of srai
-        0x6000_5013, // srai with funct7 0x30
-        0xc000_5013, // srai with funct7 0x60
-        0x8000_5013, // srli with funct7 0x40
-        0x0400_0033, // add with funct7 2
-        0x6000_0033, // sub with funct7 0x30
-        0x4000_1033, // sll with the funct7 of sub
-        0x4000_2033, // slt with the funct7 of sub
-        0x4000_3033, // sltu with the funct7 of sub
-        0x4000_4033, // xor with the funct7 of sub
-        0x8000_5033, // srl with funct7 0x40
-        0x4000_6033, // or with the funct7 of sub
-    ];
-    code_nothing(&rt, &words);
+fn branch_words(rt: HostRuntime) -> Result<(), Fail> {
+    each_row(rt.alloc(), BRANCHES)
 }
 
-// By hand, from the manual's formats.
 #[test]
-fn named_words(rt: HostRuntime) {
-    // addi x10, x0, 1
-    assert_eq!(rt;
-        decode(0x0010_0513),
-        Some(immediate(ImmediateOp::Addi, 10, 0, 1))
-    );
-    // fence.i, and the word of zeros
-    assert_eq!(rt; decode(0x0000_100f), None);
-    assert_eq!(rt; decode(0), None);
-    assert_eq!(rt; encode(&Instr::Ecall), 0x0000_0073);
+fn load_and_store_words(rt: HostRuntime) -> Result<(), Fail> {
+    each_row(rt.alloc(), LOADS_AND_STORES)
+}
+
+#[test]
+fn immediate_and_shift_words(rt: HostRuntime) -> Result<(), Fail> {
+    each_row(rt.alloc(), IMMEDIATES_AND_SHIFTS)
+}
+
+#[test]
+fn register_words(rt: HostRuntime) -> Result<(), Fail> {
+    each_row(rt.alloc(), REGISTERS)
+}
+
+#[test]
+fn fence_and_system_words(rt: HostRuntime) -> Result<(), Fail> {
+    each_row(rt.alloc(), FENCES_AND_SYSTEM)
+}
+
+#[test]
+fn words_of_extensions_code_nothing(rt: HostRuntime) -> Result<(), Fail> {
+    each_row(rt.alloc(), EXTENSIONS)
+}
+
+#[test]
+fn words_with_other_fixed_bits_code_nothing(rt: HostRuntime) -> Result<(), Fail> {
+    each_row(rt.alloc(), FIXED_BITS)
+}
+
+#[test]
+fn named_words(rt: HostRuntime) -> Result<(), Fail> {
+    each_row(rt.alloc(), NAMED)
 }
