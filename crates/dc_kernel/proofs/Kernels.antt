@@ -11,7 +11,7 @@ use Rattle.dc_kernel.specs.declared.faults.KernelFault.{KernelFault}
 use Rattle.dc_kernel.specs.declared.faults.KernelFault.TheVariants as fault
 use Rattle.dc_kernel.specs.declared.status.Status.{Status}
 use Rattle.dc_kernel.specs.declared.status.Status.TheVariants.{Running, Exited, Trapped}
-use Rattle.dc_kernel.specs.Faults.{fault_of, has_counts, has_status, is_entry, is_status, is_zero}
+use Rattle.dc_kernel.specs.Faults.{kernel_fault, has_counts, has_status, is_entry, is_status, is_zero}
 use Rattle.dc_kernel.specs.Kernels.{IsKernel, IsLink, IsProcess, IsStatus, Kernel}
 use Rattle.dc_kernel.specs.Layout.{entries_at, entries_of, entry_of, entry_words, kernel_words, parts, register_count, registers_at}
 use Rattle.dc_kernel.specs.Readings.{kernel_in, link_in, received_in, regs_in, status_in}
@@ -69,8 +69,8 @@ pub record IsRight (n p : ℕ) (words : List ℕ) : Type 0 where
   pub status : is_status (slice_index words 3) (slice_index words 4) ≡ true
   pub aligned : slice_index words 9 % 4 ≡ 0
 
-pub right_from : (n p : ℕ) (words : List ℕ) → fault_of n p words ≡ None → IsRight n p words
-unfolding fault_of
+pub right_from : (n p : ℕ) (words : List ℕ) → kernel_fault n p words ≡ None → IsRight n p words
+unfolding kernel_fault
 right_from n p words e =
     let size = passed (length words == kernel_words n) fault.Size _ e in
     let version = passed (slice_index words 0 == 1) fault.Version _ size.1 in
@@ -91,8 +91,8 @@ right_from n p words e =
       aligned = eqb-true (slice_index words 9 % 4) 0 four.1;
     }
 
-pub none_from : (n p : ℕ) (words : List ℕ) → IsRight n p words → fault_of n p words ≡ None
-unfolding fault_of
+pub none_from : (n p : ℕ) (words : List ℕ) → IsRight n p words → kernel_fault n p words ≡ None
+unfolding kernel_fault
 none_from n p words is = rw (
   eq-eqb (length words) (kernel_words n) is.long,
   eq-eqb (slice_index words 0) 1 is.version_is,
@@ -220,7 +220,7 @@ pub read_values : (n p : ℕ) (words : List ℕ) (status : Status) (regs : Regs)
       p = p;
       status = status;
       commit = slice_index words 5;
-      retired = slice_index words 6;
+      position = slice_index words 6;
       visible = slice_index words 7;
       place = slice_index words 8;
       regs = regs;
@@ -232,14 +232,14 @@ read_values n p words status regs received links a b c d = rw (a, b, c, d) refl
 
 -- what is read is a kernel with these words as its text, and the only one
 module _ (n p : ℕ) (words : List ℕ) (few : n ≤ 8) (one_of : p < n) (small : AllBelow (2 ^ 32) words) (new : Kernel) (read : new ≡ kernel_in n p words) where
-  pub read_is : fault_of n p words ≡ None → IsKernel n p new × (words ≡ text_of new)
+  pub read_is : kernel_fault n p words ≡ None → IsKernel n p new × (words ≡ text_of new)
   read_is none = let right = right_from n p words none in rw read (kernel_is n p words few one_of right small, text_is n p words few one_of right small)
 
 pub read_only : (n p : ℕ) (words : List ℕ) (new kernel : Kernel) → new ≡ kernel_in n p words → IsKernel n p kernel → words ≡ text_of kernel → new ≡ kernel
 read_only n p words new kernel read is text = read ∙ ap (kernel_in n p) text ∙ kernel_again n p kernel is
 
 -- and what is refused is no kernel's text
-pub refused_none : (n p : ℕ) (words : List ℕ) (kernel : Kernel) (f : KernelFault) → fault_of n p words ≡ Some f → IsKernel n p kernel → words ≡ text_of kernel → ⊥
+pub refused_none : (n p : ℕ) (words : List ℕ) (kernel : Kernel) (f : KernelFault) → kernel_fault n p words ≡ Some f → IsKernel n p kernel → words ≡ text_of kernel → ⊥
 refused_none n p words kernel f refused is text =
-    let none : fault_of n p words ≡ None = ap (fault_of n p) text ∙ none_from n p (text_of kernel) (text_right n p kernel is) in
+    let none : kernel_fault n p words ≡ None = ap (kernel_fault n p) text ∙ none_from n p (text_of kernel) (text_right n p kernel is) in
     let never : ⊥ = cc in never

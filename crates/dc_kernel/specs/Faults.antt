@@ -7,6 +7,7 @@ use Rattle.dc_kernel.specs.Layout.{behind_slots, bytes_at, code_at, entries_of, 
 use Rattle.dc_kernel.specs.declared.faults.KernelFault.{KernelFault}
 use Rattle.dc_kernel.specs.declared.faults.KernelFault.TheVariants.{Size, Version, Count, Status}
 
+-- whether all are 0
 abbrev pub is_zero : List ℕ → Bool
 is_zero words = list_all (λ w. w == 0) words
 
@@ -18,6 +19,7 @@ is_slot slot = nat_le (slice_index slot length_at) message_room && is_zero (drop
 abbrev pub keeps : ℕ → List ℕ → Bool
 keeps kept entry = nat_le kept slot_count && (nat_le kept (slice_index entry sent_at) && (list_all is_slot (slots_of kept entry) && is_zero (behind_slots kept entry)))
 
+-- whether an entry is that of a process: it keeps as many messages as it says
 abbrev pub is_entry : List ℕ → Bool
 is_entry entry = keeps (slice_index entry kept_at) entry
 
@@ -29,11 +31,13 @@ has_counts n p words = slice_index words n_at == n && (slice_index words p_at ==
 abbrev pub is_status : ℕ → ℕ → Bool
 is_status status code = (status == 0 && code == 0) || (status == 1 || (status == 2 && nat_le code greatest_cause))
 
+-- whether a text's status is one, and the address of the next instruction that of a word
 abbrev pub has_status : List ℕ → Bool
 has_status words = is_status (slice_index words status_at) (slice_index words code_at) && slice_index words pc_at % 4 == 0
 
-unfoldable pub fault_of : ℕ → ℕ → List ℕ → Option KernelFault
-fault_of n p words =
+-- the first thing that is wrong with words as the text of a kernel of process p of n, in the order of testing
+unfoldable pub kernel_fault : ℕ → ℕ → List ℕ → Option KernelFault
+kernel_fault n p words =
     if not (length words == kernel_words n) then Some Size
     else if not (slice_index words version_at == version) then Some Version
     else if not (has_counts n p words) then Some Count

@@ -8,14 +8,15 @@ use Rattle.dc_kernel.specs.Layout.{message_room, slot_count}
 use Rattle.dc_kernel.specs.declared.status.Status.{Status}
 use Rattle.dc_kernel.specs.declared.status.Status.TheVariants.{Running, Exited, Trapped}
 
--- the kernel of process p of n: its status, its commit number, how many instructions it retired and how many of its records were seen, its place in its input, its registers,
--- and for each process how many messages it received from it, and what it sent to it
+-- the kernel of process p of n: its status, its commit number, its position (how many events it has taken: an instruction, a call or a trap),
+-- how many of its records were seen, its place in its input, its registers, and for each process how many messages it received from it, and
+-- what it sent to it
 pub record Kernel : Type 0 where
   pub n : ℕ
   pub p : ℕ
   pub status : Status
   pub commit : ℕ
-  pub retired : ℕ
+  pub position : ℕ
   pub visible : ℕ
   pub place : ℕ
   pub regs : Regs
@@ -29,7 +30,7 @@ fresh n p = record {
   p = p;
   status = Running;
   commit = 0;
-  retired = 0;
+  position = 0;
   visible = 0;
   place = 0;
   regs = record { x = replicate 32 0; pc = 0 };
@@ -41,6 +42,7 @@ fresh n p = record {
 abbrev pub greatest_cause : ℕ
 greatest_cause = 7
 
+-- a status that a process can have: the cause of a trap is one of them
 abbrev pub IsStatus : Status → Type 0
 IsStatus Running = Unit {0}
 IsStatus (Exited code) = Unit {0}
@@ -52,6 +54,7 @@ pub record IsRegs (regs : Regs) : Type 0 where
   pub zero : slice_index regs.x 0 ≡ 0
   pub aligned : regs.pc % 4 ≡ 0
 
+-- a message: bytes that there is room for
 abbrev pub IsMessage : List ℕ → Type 0
 IsMessage message = (length message ≤ message_room) × AllBelow (2 ^ 8) message
 

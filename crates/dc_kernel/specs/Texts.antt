@@ -9,11 +9,13 @@ use Rattle.dc_kernel.specs.Layout.{version, slot_count, slot_words}
 use Rattle.dc_kernel.specs.declared.status.Status.{Status}
 use Rattle.dc_kernel.specs.declared.status.Status.TheVariants.{Running, Exited, Trapped}
 
+-- how a process stands, as a word: 0 running, 1 exited, 2 trapped
 abbrev pub status_word : Status → ℕ
 status_word Running = 0
 status_word (Exited code) = 1
 status_word (Trapped cause) = 2
 
+-- the code of an exit or the cause of a trap, else 0
 abbrev pub status_code : Status → ℕ
 status_code Running = 0
 status_code (Exited code) = code
@@ -31,12 +33,15 @@ slots_text kept = flat_map slot_text kept ++ replicate (slot_words * (slot_count
 abbrev pub entry_text : ℕ → Link → List ℕ
 entry_text received link = received ∷ link.sent ∷ length link.kept ∷ slots_text link.kept
 
+-- the entries of all processes, from process 0 on
 abbrev pub entries_text : List ℕ → List Link → List ℕ
 entries_text (received ∷ others) (link ∷ links) = entry_text received link ++ entries_text others links
 entries_text _ _ = []
 
+-- the words before the registers
 abbrev pub header_text : Kernel → List ℕ
-header_text k = version ∷ k.n ∷ k.p ∷ status_word k.status ∷ status_code k.status ∷ k.commit ∷ k.retired ∷ k.visible ∷ k.place ∷ k.regs.pc ∷ []
+header_text k = version ∷ k.n ∷ k.p ∷ status_word k.status ∷ status_code k.status ∷ k.commit ∷ k.position ∷ k.visible ∷ k.place ∷ k.regs.pc ∷ []
 
+-- the text: the header, x1 to x31, and the entries
 unfoldable pub text_of : Kernel → List ℕ
 text_of k = header_text k ++ drop 1 k.regs.x ++ entries_text k.received k.links

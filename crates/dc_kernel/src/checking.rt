@@ -1,6 +1,6 @@
 ghost use Rattle.std.specs.Prelude.{◌≡◌, ◌<◌, ◌≤◌, ◌*◌, length, drop};
 ghost use Rattle.std.specs.List.{list_all};
-ghost use Rattle.dc_kernel.specs.Faults.{fault_of, has_counts, has_status, is_entry, is_slot, is_status, is_zero};
+ghost use Rattle.dc_kernel.specs.Faults.{kernel_fault, has_counts, has_status, is_entry, is_slot, is_status, is_zero};
 ghost use Rattle.dc_kernel.specs.Layout.{entries_at, entry_words, kernel_words, parts, slot_words};
 ghost use Rattle.dc_words.specs.Words.{bytes_in};
 
@@ -128,11 +128,11 @@ fn has_status(words: &[u32]) -> bool
 }
 
 /// The first thing that is wrong with words as the text of a kernel of process `p` of `n`.
-#[tactic(auto, unfolding(crate::specs::Faults::fault_of))]
+#[tactic(auto, unfolding(crate::specs::Faults::kernel_fault))]
 pub fn fault_in(n: u32, p: u32, words: &[u32]) -> Option<KernelFault>
     requires few { n ≤ 8 }
     requires one_of { p < n }
-    ensures { result ≡ fault_of n p words.now }
+    ensures { result ≡ kernel_fault n p words.now }
 {
     if words.len() != kernel_words(n) {
         return Some(KernelFault::Size);

@@ -1,6 +1,6 @@
 ghost use Rattle.std.specs.Prelude.{◌≡◌, ◌<◌, ◌≤◌, ◌*◌, ◌∷◌, None, Ok, OnErr, OnOk, IsOk, drop, length, map, slice_index, slice_set, take, true};
 ghost use Rattle.std.specs.List.{list_all};
-ghost use Rattle.dc_kernel.specs.Faults.{fault_of, is_entry, is_slot};
+ghost use Rattle.dc_kernel.specs.Faults.{kernel_fault, is_entry, is_slot};
 ghost use Rattle.dc_kernel.specs.Kernels.{IsKernel};
 ghost use Rattle.dc_kernel.specs.Kernels as seen;
 ghost use Rattle.dc_kernel.specs.Layout.{entries_at, entry_words, parts, slot_words};
@@ -11,8 +11,8 @@ use crate::checking::{fault_in, slot_bytes};
 use crate::faults::KernelFault;
 use crate::kernel::Kernel;
 use crate::layout::{
-    CODE_AT, COMMIT_AT, ENTRIES_AT, ENTRY_WORDS, KEPT_AT, LENGTH_AT, PC_AT, PLACE_AT, RECEIVED_AT,
-    REGISTERS_AT, RETIRED_AT, SENT_AT, SLOT_WORDS, SLOTS_AT, STATUS_AT, VISIBLE_AT,
+    CODE_AT, COMMIT_AT, ENTRIES_AT, ENTRY_WORDS, KEPT_AT, LENGTH_AT, PC_AT, PLACE_AT, POSITION_AT,
+    RECEIVED_AT, REGISTERS_AT, SENT_AT, SLOT_WORDS, SLOTS_AT, STATUS_AT, VISIBLE_AT,
 };
 use crate::status::Status;
 use dc_isa::Regs;
@@ -86,14 +86,14 @@ fn read_entries(received: &mut [u32], links: &mut Links, entries: &[u32])
 
 impl Kernel {
     /// Sets every value to what a text says.
-    #[tactic(auto, unfolding(crate::specs::Faults::fault_of))]
+    #[tactic(auto, unfolding(crate::specs::Faults::kernel_fault))]
     fn read(&mut self, words: &[u32])
-        requires { fault_of self.old.n self.old.p words.now ≡ None }
+        requires { kernel_fault self.old.n self.old.p words.now ≡ None }
         ensures { self.new ≡ kernel_in self.old.n self.old.p words.now }
     {
         self.status = status_in(words[STATUS_AT], words[CODE_AT]);
         self.commit = words[COMMIT_AT];
-        self.retired = words[RETIRED_AT];
+        self.position = words[POSITION_AT];
         self.visible = words[VISIBLE_AT];
         self.place = words[PLACE_AT];
         self.regs = regs_in(words);
@@ -106,7 +106,7 @@ impl Kernel {
         ensures kernel { OnOk result (IsKernel self.old.n self.old.p self.new × (words.now ≡ text_of self.new)) }
         ensures only { (kernel : seen.Kernel) → IsKernel self.old.n self.old.p kernel → words.now ≡ text_of kernel → IsOk result × (self.new ≡ kernel) }
         // Which fault it is.
-        ensures exact { refusal result ≡ fault_of self.old.n self.old.p words.now }
+        ensures exact { refusal result ≡ kernel_fault self.old.n self.old.p words.now }
         ensures unchanged { OnErr result (self.new ≡ self.old) }
     {
         if let Some(fault) = fault_in(self.n, self.p, words) {

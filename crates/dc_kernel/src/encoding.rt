@@ -1,15 +1,15 @@
-ghost use Rattle.std.specs.Prelude.{◌≡◌, ◌<◌, ◌≤◌, ◌*◌, None, length};
+ghost use Rattle.std.specs.Prelude.{◌≡◌, ◌<◌, ◌≤◌, ◌*◌, None, length, slice_index};
 ghost use Rattle.std.specs.List.{AllByRecursion};
-ghost use Rattle.dc_kernel.specs.Faults.{fault_of};
+ghost use Rattle.dc_kernel.specs.Faults.{kernel_fault};
 ghost use Rattle.dc_kernel.specs.Kernels.{IsKernel, IsLink, IsMessage};
-ghost use Rattle.dc_kernel.specs.Layout.{entry_words, kernel_words, slot_count, slot_words};
+ghost use Rattle.dc_kernel.specs.Layout.{commit_at, entry_words, kernel_words, slot_count, slot_words};
 ghost use Rattle.dc_kernel.specs.Texts.{entries_text, entry_text, header_text, slot_text, slots_text, status_code, status_word, text_of};
 ghost use Rattle.dc_links.specs.Links.{link_to};
 
 use crate::kernel::Kernel;
 use crate::layout::{
     BYTES_AT, CODE_AT, COMMIT_AT, ENTRIES_AT, ENTRY_WORDS, KEPT_AT, LENGTH_AT, N_AT, P_AT, PC_AT,
-    PLACE_AT, RECEIVED_AT, REGISTERS_AT, RETIRED_AT, SENT_AT, SLOT_WORDS, SLOTS_AT, STATUS_AT,
+    PLACE_AT, POSITION_AT, RECEIVED_AT, REGISTERS_AT, SENT_AT, SLOT_WORDS, SLOTS_AT, STATUS_AT,
     VERSION, VERSION_AT, VISIBLE_AT,
 };
 use crate::status::Status;
@@ -103,7 +103,7 @@ impl Kernel {
         header[STATUS_AT] = status_word(self.status);
         header[CODE_AT] = status_code(self.status);
         header[COMMIT_AT] = self.commit;
-        header[RETIRED_AT] = self.retired;
+        header[POSITION_AT] = self.position;
         header[VISIBLE_AT] = self.visible;
         header[PLACE_AT] = self.place;
         header[PC_AT] = self.regs.pc;
@@ -115,7 +115,8 @@ impl Kernel {
         requires { length to.old ≡ kernel_words self.now.n }
         ensures text { to.new ≡ text_of self.now }
         ensures kernel { IsKernel self.now.n self.now.p self.now }
-        ensures faultless { fault_of self.now.n self.now.p to.new ≡ None }
+        ensures commit { slice_index to.new commit_at ≡ self.now.commit }
+        ensures faultless { kernel_fault self.now.n self.now.p to.new ≡ None }
     {
         to[..REGISTERS_AT].copy_from_slice(&self.header());
         to[REGISTERS_AT..ENTRIES_AT].copy_from_slice(&self.regs.x[1..]);

@@ -16,7 +16,7 @@ pub struct Kernel {
     pub(crate) p: u32,
     pub(crate) status: Status,
     pub(crate) commit: u32,
-    pub(crate) retired: u32,
+    pub(crate) position: u32,
     pub(crate) visible: u32,
     pub(crate) place: u32,
     pub(crate) regs: Regs,
@@ -34,7 +34,7 @@ impl Model for Kernel {
       p = k.p;
       status = k.status;
       commit = k.commit;
-      retired = k.retired;
+      position = k.position;
       visible = k.visible;
       place = k.place;
       regs = k.regs;
@@ -57,7 +57,7 @@ impl Kernel {
             p,
             status: Status::Running,
             commit: 0,
-            retired: 0,
+            position: 0,
             visible: 0,
             place: 0,
             regs: Regs { x: [0; 32], pc: 0 },
@@ -83,6 +83,7 @@ impl Kernel {
         self.p
     }
 
+    /// How the process stands.
     pub fn status(&self) -> Status
         ensures status { result ≡ self.now.status }
         ensures cause { IsStatus result }
@@ -90,6 +91,7 @@ impl Kernel {
         self.status
     }
 
+    /// Nothing else changes.
     pub fn set_status(&mut self, status: Status)
         requires { IsStatus status }
         ensures { self.new ≡ record self.old { status = status } }
@@ -104,23 +106,25 @@ impl Kernel {
         self.commit
     }
 
+    /// Nothing else changes.
     pub fn set_commit(&mut self, commit: u32)
         ensures { self.new ≡ record self.old { commit = commit } }
     {
         self.commit = commit;
     }
 
-    /// How many instructions the process has done.
-    pub fn retired(&self) -> u32
-        ensures { result ≡ self.now.retired }
+    /// How many events the process has taken since it began: an instruction, a call or a trap.
+    pub fn position(&self) -> u32
+        ensures { result ≡ self.now.position }
     {
-        self.retired
+        self.position
     }
 
-    pub fn set_retired(&mut self, retired: u32)
-        ensures { self.new ≡ record self.old { retired = retired } }
+    /// Nothing else changes.
+    pub fn set_position(&mut self, position: u32)
+        ensures { self.new ≡ record self.old { position = position } }
     {
-        self.retired = retired;
+        self.position = position;
     }
 
     /// How many records users have seen of the process.
@@ -130,6 +134,7 @@ impl Kernel {
         self.visible
     }
 
+    /// Nothing else changes.
     pub fn set_visible(&mut self, visible: u32)
         ensures { self.new ≡ record self.old { visible = visible } }
     {
@@ -143,6 +148,7 @@ impl Kernel {
         self.place
     }
 
+    /// Nothing else changes.
     pub fn set_place(&mut self, place: u32)
         ensures { self.new ≡ record self.old { place = place } }
     {
@@ -158,6 +164,7 @@ impl Kernel {
         &self.regs
     }
 
+    /// Nothing else changes. Register x0 is always 0, and an instruction stands at a multiple of 4 (RISC-V unprivileged manual, RV32I).
     pub fn set_regs(&mut self, regs: Regs)
         requires zero { slice_index regs.x 0 ≡ 0 }
         requires aligned { regs.pc % 4 ≡ 0 }
@@ -175,6 +182,7 @@ impl Kernel {
         self.received[q as usize]
     }
 
+    /// Nothing else changes. A process receives nothing from itself.
     pub fn set_received(&mut self, q: u32, received: u32)
         requires other { q ≢ self.old.p }
         requires one_of { q < self.old.n }

@@ -1,7 +1,7 @@
 //! Laws of the definitions, each the contract of a function that does nothing.
 
 ghost use Rattle.std.specs.Prelude.{◌≡◌, ◌<◌, ◌≤◌, ◌^◌, ◌↔◌, ℕ, List, None};
-ghost use Rattle.dc_kernel.specs.Faults.{fault_of};
+ghost use Rattle.dc_kernel.specs.Faults.{kernel_fault};
 ghost use Rattle.dc_kernel.specs.Kernels.{IsKernel, Kernel};
 ghost use Rattle.dc_kernel.specs.Texts.{text_of};
 ghost use Rattle.dc_words.specs.Words.{AllBelow};
@@ -9,7 +9,7 @@ ghost use Rattle.dc_words.specs.Words.{AllBelow};
 /// Nothing is wrong with words exactly where they are the text of a kernel of that process of so many.
 pub fn texts_are_those_of_kernels()
     ensures { (n p : ℕ) (words : List ℕ) → n ≤ 8 → p < n → AllBelow (2 ^ 32) words →
-        (fault_of n p words ≡ None) ↔ ((kernel : Kernel) × IsKernel n p kernel × (words ≡ text_of kernel)) }
+        (kernel_fault n p words ≡ None) ↔ ((kernel : Kernel) × IsKernel n p kernel × (words ≡ text_of kernel)) }
 {}
 
 /// One text has one kernel.

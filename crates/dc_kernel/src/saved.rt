@@ -11,18 +11,26 @@ const LOG_ROOM: usize = 64;
 /// and the body of what was received.
 #[derive(Clone, Copy, Debug, PartialEq, Eq)]
 pub struct LogRecord {
+    /// The process's position at it, in events.
     pub position: u32,
+    /// What it was.
     pub event: u32,
+    /// Its answer.
     pub answer: u32,
+    /// Who sent the message, where one was received.
     pub sender: u32,
+    /// The record or message that was received, empty where none was.
     pub body: Message,
 }
 
 /// What a store keeps of a process: its kernel, the events that were logged since, and the position that they lead to.
 #[derive(Drop)]
 pub struct Saved {
+    /// The process at its last commit.
     pub kernel: Kernel,
+    /// The events since, the oldest first.
     pub log: Vec<LogRecord>,
+    /// The position that they lead to, in events.
     pub position: u32,
 }
 

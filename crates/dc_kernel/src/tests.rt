@@ -1,132 +1,64 @@
-ghost use Rattle.std.specs.Prelude.{◌≤◌};
+//! Kernels and their texts. A text of words is given by those that are not 0, each as `place=word`, the word in hexadecimal.
+
+ghost use Rattle.std.specs.Prelude.{◌≤◌, ◌<◌};
 
 use crate::{CheckFault, Kernel, KernelFault, LogRecord, Saved, Status, StoreFault, kernel_words};
 use dc_isa::Regs;
 use dc_links::Message;
 use std::alloc::{AllocError, Global};
-use std::process::Abort;
 use std::test::Fail;
 
 /// Process 0 of 1, which exited with 7, at its third commit.
-const ONE: [(usize, u32); 40] = [
-    (0, 1),
-    (1, 1),
-    (3, 1),
-    (4, 7),
-    (5, 3),
-    (6, 1000),
-    (7, 2),
-    (8, 5),
-    (9, 0x104),
-    (10, 0x80000001),
-    (11, 0x80000002),
-    (12, 0x80000003),
-    (13, 0x80000004),
-    (14, 0x80000005),
-    (15, 0x80000006),
-    (16, 0x80000007),
-    (17, 0x80000008),
-    (18, 0x80000009),
-    (19, 0x8000000a),
-    (20, 0x8000000b),
-    (21, 0x8000000c),
-    (22, 0x8000000d),
-    (23, 0x8000000e),
-    (24, 0x8000000f),
-    (25, 0x80000010),
-    (26, 0x80000011),
-    (27, 0x80000012),
-    (28, 0x80000013),
-    (29, 0x80000014),
-    (30, 0x80000015),
-    (31, 0x80000016),
-    (32, 0x80000017),
-    (33, 0x80000018),
-    (34, 0x80000019),
-    (35, 0x8000001a),
-    (36, 0x8000001b),
-    (37, 0x8000001c),
-    (38, 0x8000001d),
-    (39, 0x8000001e),
-    (40, 0x8000001f),
-];
+const ONE: &str = "\
+0=1 1=1 3=1 4=7 5=3 6=3e8 7=2 8=5 9=104 10=80000001 11=80000002 12=80000003 13=80000004 14=80000005
+15=80000006 16=80000007 17=80000008 18=80000009 19=8000000a 20=8000000b 21=8000000c 22=8000000d 23=8000000e
+24=8000000f 25=80000010 26=80000011 27=80000012 28=80000013 29=80000014 30=80000015 31=80000016 32=80000017
+33=80000018 34=80000019 35=8000001a 36=8000001b 37=8000001c 38=8000001d 39=8000001e 40=8000001f
+";
 
 /// Process 3 of 8, which trapped for the greatest cause. It keeps two messages for process 0 and one for process 7.
-const EIGHT: [(usize, u32); 47] = [
-    (0, 0x1),
-    (1, 0x8),
-    (2, 0x3),
-    (3, 0x2),
-    (4, 0x7),
-    (5, 0xffffffff),
-    (6, 0x4),
-    (7, 0x5),
-    (8, 0x6),
-    (9, 0xfffffffc),
-    (40, 0xffffffff),
-    (41, 0xa),
-    (42, 0x2),
-    (43, 0x2),
-    (44, 0x5),
-    (45, 0x6c6c6568),
-    (46, 0x6f),
-    (180, 0xb),
-    (181, 0x1),
-    (319, 0xc),
-    (320, 0x2),
-    (597, 0xe),
-    (598, 0x4),
-    (736, 0xf),
-    (737, 0x5),
-    (875, 0x10),
-    (876, 0x6),
-    (1014, 0x11),
-    (1015, 0xffffffff),
-    (1016, 0x1),
-    (1017, 0x40),
-    (1018, 0x4030201),
-    (1019, 0x8070605),
-    (1020, 0xc0b0a09),
-    (1021, 0x100f0e0d),
-    (1022, 0x14131211),
-    (1023, 0x18171615),
-    (1024, 0x1c1b1a19),
-    (1025, 0x201f1e1d),
-    (1026, 0x24232221),
-    (1027, 0x28272625),
-    (1028, 0x2c2b2a29),
-    (1029, 0x302f2e2d),
-    (1030, 0x34333231),
-    (1031, 0x38373635),
-    (1032, 0x3c3b3a39),
-    (1033, 0x403f3e3d),
-];
+const EIGHT: &str = "\
+0=1 1=8 2=3 3=2 4=7 5=ffffffff 6=4 7=5 8=6 9=fffffffc 40=ffffffff 41=a 42=2 43=2 44=5 45=6c6c6568 46=6f 180=b
+181=1 319=c 320=2 597=e 598=4 736=f 737=5 875=10 876=6 1014=11 1015=ffffffff 1016=1 1017=40 1018=4030201
+1019=8070605 1020=c0b0a09 1021=100f0e0d 1022=14131211 1023=18171615 1024=1c1b1a19 1025=201f1e1d 1026=24232221
+1027=28272625 1028=2c2b2a29 1029=302f2e2d 1030=34333231 1031=38373635 1032=3c3b3a39 1033=403f3e3d
+";
 
 /// Process 0 of 2, which sent ten messages to process 1 and keeps the last eight of them.
-const TWO: [(usize, u32); 22] = [
-    (0, 0x1),
-    (1, 0x2),
-    (5, 0x1),
-    (180, 0x9),
-    (181, 0xa),
-    (182, 0x8),
-    (183, 0x2),
-    (184, 0x6602),
-    (200, 0x2),
-    (201, 0x6703),
-    (217, 0x2),
-    (218, 0x6804),
-    (234, 0x2),
-    (235, 0x6905),
-    (251, 0x2),
-    (252, 0x6a06),
-    (268, 0x2),
-    (269, 0x6b07),
-    (285, 0x2),
-    (286, 0x6c08),
-    (302, 0x2),
-    (303, 0x6d09),
-];
+const TWO: &str = "\
+0=1 1=2 5=1 180=9 181=a 182=8 183=2 184=6602 200=2 201=6703 217=2 218=6804 234=2 235=6905 251=2 252=6a06 268=2
+269=6b07 285=2 286=6c08 302=2 303=6d09
+";
+
+/// Process 0 of 2, which sent three empty messages to process 1 and keeps them.
+const THREE: &str = "0=1 1=2 181=3 182=3";
+
+/// What is wrong with the text of two where other words stand at some places: a version; another number of processes, another process;
+/// more kept than there are slots, than were sent; a message of 65 bytes, bytes past a length; a slot that is not used; the process's own
+/// entry; a status, a code, a cause and an address that are none.
+const FAULTS: &str = "\
+0=0|version
+0=2 1=3 3=3|version
+1=3|count
+2=1 3=3|count
+182=9|count
+181=7|count
+183=41|count
+184=16602|count
+199=80000000|count
+182=7|count
+182=7 302=0|count
+41=1|count
+42=1|count
+42=1 43=1|count
+179=1|count
+3=3|status
+3=3 4=1|status
+4=1|status
+3=2 4=8|status
+9=2|status
+3=1 9=1|status
+";
 
 /// The registers of that of one.
 const X: [u32; 32] = [
@@ -171,20 +103,34 @@ const FULL: [u8; 64] = [
     51, 52, 53, 54, 55, 56, 57, 58, 59, 60, 61, 62, 63, 64,
 ];
 
-fn set(words: &mut [u32], places: &[(usize, u32)]) {
-    for (at, word) in places {
-        if let Some(place) = words.get_mut(*at) {
-            *place = *word;
-        }
-    }
+fn holds(ok: bool, what: &str) -> Result<(), Fail> {
+    if ok { Ok(()) } else { Err(Fail::new(what)) }
 }
 
-/// As many words as a kernel of `n` has, zero but at these places.
-fn words(alloc: Global, n: u32, places: &[(usize, u32)]) -> Result<Vec<u32>, AllocError>
+fn set_place(words: &mut [u32], place: &str) -> Result<(), Fail> {
+    let Some((at, word)) = place.split_once('=') else {
+        return Err(Fail::new(place));
+    };
+    match words.get_mut(at.parse::<usize>()?) {
+        Some(slot) => *slot = u32::from_str_radix(word, 16)?,
+        None => return Err(Fail::new(place)),
+    }
+    Ok(())
+}
+
+fn set(words: &mut [u32], places: &str) -> Result<(), Fail> {
+    for place in places.split_whitespace() {
+        set_place(words, place)?;
+    }
+    Ok(())
+}
+
+/// As many words as a kernel of `n` has.
+fn words(alloc: Global, n: u32, places: &str) -> Result<Vec<u32>, Fail>
     requires { n ≤ 8 }
 {
     let mut words = vec![in alloc; 0; kernel_words(n)]?;
-    set(&mut words, places);
+    set(&mut words, places)?;
     Ok(words)
 }
 
@@ -194,19 +140,64 @@ fn encoded(alloc: Global, kernel: &Kernel) -> Result<Vec<u32>, AllocError> {
     Ok(words)
 }
 
-/// Keeps a message of these bytes.
-fn keep(rt: &impl Abort, kernel: &mut Kernel, q: u32, bytes: &[u8]) {
-    assert!(rt; bytes.len() <= 64);
-    assert!(rt; q < kernel.n());
-    assert!(rt; q != kernel.p());
-    assert!(rt; kernel.links().kept_count(q) < 8);
-    assert!(rt; kernel.links().sent(q) < u32::MAX);
-    kernel.keep(q, &Message::new(bytes));
+/// Fails where the kernel has another text.
+fn has_text(alloc: Global, kernel: &Kernel, places: &str) -> Result<(), Fail> {
+    let text = words(alloc, kernel.n(), places)?;
+    let written = encoded(alloc, kernel)?;
+    holds(written.as_slice() == text.as_slice(), places)
+}
+
+/// Decodes a text that has other words at some places. Fails where that answers another fault, or none.
+fn answers(
+    alloc: Global,
+    kernel: &mut Kernel,
+    text: &str,
+    others: &str,
+    fault: &str,
+) -> Result<(), Fail> {
+    let mut words = words(alloc, kernel.n(), text)?;
+    set(&mut words, others)?;
+    is_fault(alloc, kernel.decode(&words), fault)
+}
+
+/// Fails where another fault was answered, or none. An empty text stands for none.
+fn is_fault(alloc: Global, answer: Result<(), KernelFault>, want: &str) -> Result<(), Fail> {
+    match answer {
+        Ok(()) => holds(want.is_empty(), want),
+        Err(fault) => has_name(alloc, fault, want),
+    }
+}
+
+fn has_name(alloc: Global, fault: KernelFault, want: &str) -> Result<(), Fail> {
+    let told = format!(in alloc; "{fault}")?;
+    holds(told.as_str() == want, want)
+}
+
+/// Keeps a message of these bytes for process 1.
+fn keep(kernel: &mut Kernel, bytes: &[u8]) -> Result<(), Fail> {
+    if bytes.len() > 64 || 1 >= kernel.n() || kernel.p() == 1 {
+        return Err(Fail::new("no message"));
+    }
+    if kernel.links().kept_count(1) >= 8 || kernel.links().sent(1) == u32::MAX {
+        return Err(Fail::new("no room"));
+    }
+    kernel.keep(1, &Message::new(bytes));
+    Ok(())
+}
+
+fn trim(kernel: &mut Kernel, q: u32, upto: u32) -> Result<(), Fail> {
+    if q >= kernel.n() {
+        return Err(Fail::new("no receiver"));
+    }
+    kernel.trim(q, upto);
+    Ok(())
 }
 
 /// Whether the message to process `q` of that number is kept, with these bytes.
-fn has(rt: &impl Abort, kernel: &Kernel, q: u32, number: u32, bytes: &[u8]) -> bool {
-    assert!(rt; q < kernel.n());
+fn has(kernel: &Kernel, q: u32, number: u32, bytes: &[u8]) -> bool {
+    if q >= kernel.n() {
+        return false;
+    }
     match kernel.links().next_for(q, number) {
         Some(message) => message.as_slice() == bytes,
         None => false,
@@ -214,179 +205,175 @@ fn has(rt: &impl Abort, kernel: &Kernel, q: u32, number: u32, bytes: &[u8]) -> b
 }
 
 /// How many messages were received from process `q`.
-fn received(rt: &impl Abort, kernel: &Kernel, q: u32) -> u32 {
-    assert!(rt; q < kernel.n());
-    kernel.received(q)
-}
-
-/// What decoding a text answers that has other words at some places.
-fn decoded(
-    alloc: Global,
-    kernel: &mut Kernel,
-    text: &[(usize, u32)],
-    others: &[(usize, u32)],
-) -> Result<Result<(), KernelFault>, AllocError> {
-    let mut words = words(alloc, kernel.n(), text)?;
-    set(&mut words, others);
-    Ok(kernel.decode(&words))
+fn received(kernel: &Kernel, q: u32) -> Option<u32> {
+    if q < kernel.n() {
+        Some(kernel.received(q))
+    } else {
+        None
+    }
 }
 
 #[test]
 fn a_new_kernel_has_done_nothing(rt: HostRuntime) -> Result<(), Fail> {
     let kernel = Kernel::new(rt.alloc(), 1, 0)?;
-    assert_eq!(rt; kernel_words(1), 180);
-    let text = words(rt.alloc(), 1, &[(0, 1), (1, 1)])?;
-    assert_eq!(rt; encoded(rt.alloc(), &kernel)?, text);
-    Ok(())
+    holds(kernel_words(1) == 180, "words of one")?;
+    has_text(rt.alloc(), &kernel, "0=1 1=1")
+}
+
+fn one(alloc: Global) -> Result<Kernel, AllocError> {
+    let mut kernel = Kernel::new(alloc, 1, 0)?;
+    kernel.set_status(Status::Exited(7));
+    kernel.set_commit(3);
+    kernel.set_position(1000);
+    kernel.set_visible(2);
+    kernel.set_place(5);
+    kernel.set_regs(Regs { x: X, pc: 0x104 });
+    Ok(kernel)
+}
+
+fn has_values_of_one(kernel: &Kernel) -> Result<(), Fail> {
+    holds(kernel.status() == Status::Exited(7), "status")?;
+    holds(kernel.commit() == 3, "commit")?;
+    holds(kernel.position() == 1000, "position")?;
+    holds(kernel.visible() == 2, "visible")?;
+    holds(kernel.place() == 5, "place")?;
+    holds(*kernel.regs() == Regs { x: X, pc: 0x104 }, "registers")
 }
 
 #[test]
 fn a_kernel_of_one_has_its_text(rt: HostRuntime) -> Result<(), Fail> {
-    let text = words(rt.alloc(), 1, &ONE)?;
-    let mut kernel = Kernel::new(rt.alloc(), 1, 0)?;
-    kernel.set_status(Status::Exited(7));
-    kernel.set_commit(3);
-    kernel.set_retired(1000);
-    kernel.set_visible(2);
-    kernel.set_place(5);
-    kernel.set_regs(Regs { x: X, pc: 0x104 });
-    assert_eq!(rt; encoded(rt.alloc(), &kernel)?, text);
+    let kernel = one(rt.alloc())?;
+    has_text(rt.alloc(), &kernel, ONE)?;
     let mut other = Kernel::new(rt.alloc(), 1, 0)?;
-    assert_eq!(rt; other.decode(&text), Ok(()));
-    assert_eq!(rt; other.status(), Status::Exited(7));
-    assert_eq!(rt; other.commit(), 3);
-    assert_eq!(rt; other.retired(), 1000);
-    assert_eq!(rt; other.visible(), 2);
-    assert_eq!(rt; other.place(), 5);
-    assert!(rt; *other.regs() == Regs { x: X, pc: 0x104 });
-    assert_eq!(rt; encoded(rt.alloc(), &other)?, text);
-    Ok(())
+    answers(rt.alloc(), &mut other, ONE, "", "")?;
+    has_values_of_one(&other)?;
+    has_text(rt.alloc(), &other, ONE)
+}
+
+fn has_values_of_eight(kernel: &Kernel) -> Result<(), Fail> {
+    holds(kernel.n() == 8, "n")?;
+    holds(kernel.p() == 3, "p")?;
+    holds(kernel.status() == Status::Trapped(7), "status")?;
+    holds(kernel.commit() == u32::MAX, "commit")?;
+    holds(kernel.regs().pc == 0xffff_fffc, "pc")?;
+    holds(kernel.regs().x[31] == u32::MAX, "x31")
+}
+
+fn has_messages_of_eight(kernel: &Kernel) -> Result<(), Fail> {
+    holds(received(kernel, 2) == Some(12), "received from 2")?;
+    holds(received(kernel, 3) == Some(0), "received from itself")?;
+    holds(received(kernel, 7) == Some(17), "received from 7")?;
+    holds(has(kernel, 0, 0, b"hello"), "first to 0")?;
+    holds(has(kernel, 0, 1, b""), "second to 0")?;
+    holds(has(kernel, 7, u32::MAX - 1, &FULL), "last to 7")
 }
 
 #[test]
 fn a_kernel_of_eight_is_read_from_its_text(rt: HostRuntime) -> Result<(), Fail> {
-    assert_eq!(rt; kernel_words(8), 1153);
-    let text = words(rt.alloc(), 8, &EIGHT)?;
+    holds(kernel_words(8) == 1153, "words of eight")?;
     let mut kernel = Kernel::new(rt.alloc(), 8, 3)?;
-    assert_eq!(rt; kernel.decode(&text), Ok(()));
-    assert_eq!(rt; kernel.n(), 8);
-    assert_eq!(rt; kernel.p(), 3);
-    assert_eq!(rt; kernel.status(), Status::Trapped(7));
-    assert_eq!(rt; kernel.commit(), u32::MAX);
-    assert_eq!(rt; kernel.regs().pc, 0xffff_fffc);
-    assert_eq!(rt; kernel.regs().x[31], u32::MAX);
-    assert_eq!(rt; received(&rt, &kernel, 2), 12);
-    assert_eq!(rt; received(&rt, &kernel, 3), 0);
-    assert_eq!(rt; received(&rt, &kernel, 7), 17);
-    assert!(rt; has(&rt, &kernel, 0, 0, b"hello"));
-    assert!(rt; has(&rt, &kernel, 0, 1, b""));
-    assert!(rt; has(&rt, &kernel, 7, u32::MAX - 1, &FULL));
-    assert_eq!(rt; encoded(rt.alloc(), &kernel)?, text);
+    answers(rt.alloc(), &mut kernel, EIGHT, "", "")?;
+    has_values_of_eight(&kernel)?;
+    has_messages_of_eight(&kernel)?;
+    has_text(rt.alloc(), &kernel, EIGHT)
+}
+
+/// Keeps the messages of these numbers for process 1.
+fn keep_numbered(kernel: &mut Kernel, from: u8, end: u8) -> Result<(), Fail> {
+    for k in from..end {
+        keep(kernel, &[k, k.saturating_add(100)])?;
+    }
     Ok(())
+}
+
+fn ten_sent(alloc: Global) -> Result<Kernel, Fail> {
+    let mut kernel = Kernel::new(alloc, 2, 0)?;
+    kernel.set_commit(1);
+    kernel.set_received(1, 9);
+    keep_numbered(&mut kernel, 0, 8)?;
+    trim(&mut kernel, 1, 2)?;
+    keep_numbered(&mut kernel, 8, 10)?;
+    Ok(kernel)
+}
+
+fn keeps_the_last(kernel: &Kernel) -> Result<(), Fail> {
+    holds(!has(kernel, 1, 1, &[1, 101]), "message 1")?;
+    holds(has(kernel, 1, 2, &[2, 102]), "message 2")?;
+    holds(has(kernel, 1, 9, &[9, 109]), "message 9")
 }
 
 #[test]
 fn slots_hold_the_last_messages(rt: HostRuntime) -> Result<(), Fail> {
-    let mut kernel = Kernel::new(rt.alloc(), 2, 0)?;
-    kernel.set_commit(1);
-    kernel.set_received(1, 9);
-    for k in 0..10u8 {
-        if k == 8 {
-            assert!(rt; 1 < kernel.n());
-            kernel.trim(1, 2);
-        }
-        keep(&rt, &mut kernel, 1, &[k, 100 + k]);
-    }
-    let text = words(rt.alloc(), 2, &TWO)?;
-    assert_eq!(rt; encoded(rt.alloc(), &kernel)?, text);
+    let kernel = ten_sent(rt.alloc())?;
+    has_text(rt.alloc(), &kernel, TWO)?;
     let mut other = Kernel::new(rt.alloc(), 2, 0)?;
-    assert_eq!(rt; other.decode(&text), Ok(()));
-    assert!(rt; !has(&rt, &other, 1, 1, &[1, 101]));
-    assert!(rt; has(&rt, &other, 1, 2, &[2, 102]));
-    assert!(rt; has(&rt, &other, 1, 9, &[9, 109]));
-    Ok(())
+    answers(rt.alloc(), &mut other, TWO, "", "")?;
+    keeps_the_last(&other)
+}
+
+fn row_holds(alloc: Global, kernel: &mut Kernel, row: &str) -> Result<(), Fail> {
+    let Some((others, fault)) = row.split_once('|') else {
+        return Err(Fail::new(row));
+    };
+    answers(alloc, kernel, TWO, others, fault)
 }
 
 #[test]
 fn the_first_fault_is_answered(rt: HostRuntime) -> Result<(), Fail> {
-    let cases: [(&[(usize, u32)], KernelFault); 21] = [
-        (&[(0, 0)], KernelFault::Version),
-        (&[(0, 2), (1, 3), (3, 3)], KernelFault::Version),
-        // another number of processes, another process
-        (&[(1, 3)], KernelFault::Count),
-        (&[(2, 1), (3, 3)], KernelFault::Count),
-        // more kept than there are slots, than were sent
-        (&[(182, 9)], KernelFault::Count),
-        (&[(181, 7)], KernelFault::Count),
-        // a message of 65 bytes, bytes past a length
-        (&[(183, 65)], KernelFault::Count),
-        (&[(184, 0x0001_6602)], KernelFault::Count),
-        (&[(199, 0x8000_0000)], KernelFault::Count),
-        // a slot that is not used
-        (&[(182, 7)], KernelFault::Count),
-        (&[(182, 7), (302, 0)], KernelFault::Count),
-        // the process's own entry
-        (&[(41, 1)], KernelFault::Count),
-        (&[(42, 1)], KernelFault::Count),
-        (&[(42, 1), (43, 1)], KernelFault::Count),
-        (&[(179, 1)], KernelFault::Count),
-        // a status, a code, a cause and an address that are none
-        (&[(3, 3)], KernelFault::Status),
-        (&[(3, 3), (4, 1)], KernelFault::Status),
-        (&[(4, 1)], KernelFault::Status),
-        (&[(3, 2), (4, 8)], KernelFault::Status),
-        (&[(9, 2)], KernelFault::Status),
-        (&[(3, 1), (9, 1)], KernelFault::Status),
-    ];
     let mut kernel = Kernel::new(rt.alloc(), 2, 0)?;
-    let before = encoded(rt.alloc(), &kernel)?;
-    for (others, fault) in &cases {
-        assert_eq!(rt;
-            decoded(rt.alloc(), &mut kernel, &TWO, others)?,
-            Err(*fault)
-        );
+    for row in FAULTS.lines() {
+        row_holds(rt.alloc(), &mut kernel, row)?;
     }
-    assert_eq!(rt; encoded(rt.alloc(), &kernel)?, before);
-    Ok(())
+    // and the kernel is as new
+    has_text(rt.alloc(), &kernel, "0=1 1=2")
 }
 
 #[test]
 fn three_are_not_kept_of_two(rt: HostRuntime) -> Result<(), Fail> {
     let mut kernel = Kernel::new(rt.alloc(), 2, 0)?;
-    let three: [(usize, u32); 4] = [(0, 1), (1, 2), (181, 3), (182, 3)];
-    assert_eq!(rt;
-        decoded(rt.alloc(), &mut kernel, &three, &[(181, 2)])?,
-        Err(KernelFault::Count)
-    );
-    assert_eq!(rt; decoded(rt.alloc(), &mut kernel, &three, &[])?, Ok(()));
-    assert!(rt; has(&rt, &kernel, 1, 2, b""));
-    assert_eq!(rt;
-        decoded(rt.alloc(), &mut kernel, &TWO, &[(3, 1), (4, u32::MAX)])?,
-        Ok(())
-    );
-    assert_eq!(rt; kernel.status(), Status::Exited(u32::MAX));
-    Ok(())
+    answers(rt.alloc(), &mut kernel, THREE, "181=2", "count")?;
+    answers(rt.alloc(), &mut kernel, THREE, "", "")?;
+    holds(has(&kernel, 1, 2, b""), "message 2")?;
+    answers(rt.alloc(), &mut kernel, TWO, "3=1 4=ffffffff", "")?;
+    holds(kernel.status() == Status::Exited(u32::MAX), "status")
+}
+
+fn decodes(alloc: Global, words: &[u32], fault: &str) -> Result<(), Fail> {
+    let mut kernel = Kernel::new(alloc, 2, 0)?;
+    is_fault(alloc, kernel.decode(words), fault)
 }
 
 #[test]
 fn other_sizes_are_refused_first(rt: HostRuntime) -> Result<(), Fail> {
-    let mut kernel = Kernel::new(rt.alloc(), 2, 0)?;
-    let zeros = vec![in rt.alloc(); 0; 320]?;
-    assert_eq!(rt; kernel.decode(&[]), Err(KernelFault::Size));
-    assert_eq!(rt; kernel.decode(&zeros[..180]), Err(KernelFault::Size));
-    assert_eq!(rt; kernel.decode(&zeros[..318]), Err(KernelFault::Size));
-    assert_eq!(rt; kernel.decode(&zeros), Err(KernelFault::Size));
-    assert_eq!(rt; kernel.decode(&zeros[..319]), Err(KernelFault::Version));
-    Ok(())
+    let zeros = [0; 320];
+    decodes(rt.alloc(), &[], "size")?;
+    decodes(rt.alloc(), &zeros[..180], "size")?;
+    decodes(rt.alloc(), &zeros[..318], "size")?;
+    decodes(rt.alloc(), &zeros, "size")?;
+    decodes(rt.alloc(), &zeros[..319], "version")
+}
+
+fn with_record(alloc: Global, record: LogRecord) -> Result<Saved, AllocError> {
+    let mut saved = Saved::new(alloc, Kernel::new(alloc, 2, 1)?)?;
+    saved.log.push(record)?;
+    Ok(saved)
+}
+
+fn is_empty(saved: &Saved) -> Result<(), Fail> {
+    holds(saved.log.is_empty(), "an empty log")?;
+    holds(saved.log.capacity() >= 64, "the room of the log")?;
+    holds(saved.position == 0, "position")?;
+    holds(saved.kernel.p() == 1, "p")
 }
 
 #[test]
 fn a_checkpoint_has_room_for_its_log(rt: HostRuntime) -> Result<(), Fail> {
-    let mut saved = Saved::new(rt.alloc(), Kernel::new(rt.alloc(), 2, 1)?)?;
-    assert!(rt; saved.log.is_empty());
-    assert!(rt; saved.log.capacity() >= 64);
-    assert_eq!(rt; saved.position, 0);
-    assert_eq!(rt; saved.kernel.p(), 1);
+    let saved = Saved::new(rt.alloc(), Kernel::new(rt.alloc(), 2, 1)?)?;
+    is_empty(&saved)
+}
+
+#[test]
+fn a_log_has_its_record(rt: HostRuntime) -> Result<(), Fail> {
     let record = LogRecord {
         position: 1,
         event: 2,
@@ -394,10 +381,21 @@ fn a_checkpoint_has_room_for_its_log(rt: HostRuntime) -> Result<(), Fail> {
         sender: 4,
         body: Message::new(b"body"),
     };
-    saved.log.push(record)?;
-    assert!(rt; saved.log[0] == record);
-    assert!(rt;
-        CheckFault::Refused(StoreFault::Record(3)) != CheckFault::Refused(StoreFault::Kernel)
-    );
-    Ok(())
+    let saved = with_record(rt.alloc(), record)?;
+    holds(saved.log.first() == Some(&record), "the record")
+}
+
+fn is_said(alloc: Global, fault: CheckFault, text: &str) -> Result<(), Fail> {
+    let told = format!(in alloc; "{fault}")?;
+    holds(told.as_str() == text, text)
+}
+
+#[test]
+fn faults_of_checkpoints_have_their_texts(rt: HostRuntime) -> Result<(), Fail> {
+    let record = CheckFault::Refused(StoreFault::Record(3));
+    let kernel = CheckFault::Refused(StoreFault::Kernel);
+    holds(record != kernel, "two faults")?;
+    is_said(rt.alloc(), record, "refused: record 3")?;
+    is_said(rt.alloc(), kernel, "refused: kernel")?;
+    is_said(rt.alloc(), CheckFault::Stopped, "stopped")
 }

@@ -1,8 +1,8 @@
-use Rattle.std.proofs.Common.{◌≡◌, ◌∙◌, ◌≤◌, ◌++◌, ◌-◌, length, drop, ap, arith, length-drop, refl, subst}
+use Rattle.std.proofs.Common.{◌≡◌, ◌∙◌, ◌≤◌, ◌++◌, ◌-◌, length, drop, ap, arith, length-drop, refl, slice_index, subst}
 use Rattle.std.proofs.lemmas.List.{take_all}
-use Rattle.dc_kernel.specs.Faults.{fault_of}
+use Rattle.dc_kernel.specs.Faults.{kernel_fault}
 use Rattle.dc_kernel.specs.Kernels.{IsKernel, Kernel}
-use Rattle.dc_kernel.specs.Layout.{entries_at, register_count}
+use Rattle.dc_kernel.specs.Layout.{commit_at, entries_at, register_count}
 use Rattle.dc_kernel.specs.Texts.{entries_text, header_text, text_of}
 use Rattle.dc_kernel.proofs.Kernels.{none_from, text_right}
 use Rattle.dc_kernel.proofs.Written.{text_written}
@@ -36,8 +36,12 @@ returns-clause-text c =
     entries = c.write_entries.ensures.text ∙ ap (λ xs. entries_text xs c.self.inside.links) c.deref.ensures.value
         ∙ ap (λ (k : Kernel). entries_text k.received k.links) c.self.view_is
 
+pub returns-clause-commit : goal.returns-clause-commit
+unfolding text_of
+returns-clause-commit c = ap (λ xs. slice_index xs commit_at) (returns-clause-text c)
+
 pub returns-clause-faultless : goal.returns-clause-faultless
-returns-clause-faultless c = ap (fault_of c.args.self.now.n c.args.self.now.p) (returns-clause-text c)
+returns-clause-faultless c = ap (kernel_fault c.args.self.now.n c.args.self.now.p) (returns-clause-text c)
     ∙ none_from c.args.self.now.n c.args.self.now.p (text_of c.args.self.now) (text_right c.args.self.now.n c.args.self.now.p c.args.self.now kernel)
   where
     kernel : IsKernel c.args.self.now.n c.args.self.now.p c.args.self.now

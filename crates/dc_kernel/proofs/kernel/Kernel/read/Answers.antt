@@ -1,7 +1,7 @@
 use Rattle.std.proofs.Common.{◌≡◌, ◌∙◌, ◌++◌, ◌-◌, ℕ, List, length, map, take, drop, ap}
 use Rattle.std.proofs.lemmas.List.{take_at, take_rest}
 use Rattle.std.specs.List.{list_all}
-use Rattle.dc_kernel.specs.Faults.{fault_of, is_entry}
+use Rattle.dc_kernel.specs.Faults.{kernel_fault, is_entry}
 use Rattle.dc_kernel.specs.Kernels.{Kernel}
 use Rattle.dc_kernel.specs.Layout.{entries_at, entries_of, entry_words, parts}
 use Rattle.dc_kernel.specs.Readings.{kernel_in, link_in, received_in}
@@ -14,7 +14,7 @@ read_entries-requires-clause-entries c =
     ∙ ap (λ ws. list_all is_entry (parts c.self.inside.n entry_words ws)) (take_rest c.args.words.now entries_at) ∙ right.entries
   where
     right : IsRight c.self.inside.n c.self.inside.p c.args.words.now
-    right = right_from c.self.inside.n c.self.inside.p c.args.words.now (ap (λ (k : Kernel). fault_of k.n k.p c.args.words.now) c.self.view_is ∙ c.requires)
+    right = right_from c.self.inside.n c.self.inside.p c.args.words.now (ap (λ (k : Kernel). kernel_fault k.n k.p c.args.words.now) c.self.view_is ∙ c.requires)
 
 -- the values in the entries of words, as they are seen in the vector whose slice was written and in what was lent
 entries_seen : {X : Type 0} (f : List ℕ → X) (n m : ℕ) (words : List ℕ) (new : List X) → m ≡ n
@@ -30,7 +30,7 @@ invariant_of-self c = rw (received, links, c.status_in-self-inside.ensures, c.re
     (process_in c.self.inside.n c.self.inside.p c.args.words.now c.self.invariant.few c.self.invariant.one_of right)
   where
     right : IsRight c.self.inside.n c.self.inside.p c.args.words.now
-    right = right_from c.self.inside.n c.self.inside.p c.args.words.now (ap (λ (k : Kernel). fault_of k.n k.p c.args.words.now) c.self.view_is ∙ c.requires)
+    right = right_from c.self.inside.n c.self.inside.p c.args.words.now (ap (λ (k : Kernel). kernel_fault k.n k.p c.args.words.now) c.self.view_is ∙ c.requires)
 
     size : length c.deref_mut.result.now ≡ c.self.inside.n
     size = ap length c.deref_mut.ensures.value ∙ c.self.invariant.received_from
