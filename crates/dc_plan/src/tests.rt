@@ -1,4 +1,8 @@
-use crate::{Key, Medium, PlanError, PlanFault, read_plan};
+//! What a plan's text comes to. The rows of the tables are `keys|text|fault`: the plan below without the lines of the keys, and with
+//! the text at its end, has that fault, or none. In the text `~` stands for a line feed.
+
+use crate::{Key, Medium, Plan, PlanError, PlanFault, read_plan};
+use dc_links::Message;
 use dc_protocols::Protocol;
 use std::alloc::{AllocError, Global};
 use std::test::Fail;
@@ -40,440 +44,327 @@ fn repeated(
     Ok(whole)
 }
 
-fn refusal(alloc: Global, bytes: &[u8]) -> Option<PlanError> {
-    read_plan(alloc, bytes).err()
+fn holds(ok: bool, what: &str) -> Result<(), Fail> {
+    if ok { Ok(()) } else { Err(Fail::new(what)) }
 }
 
-/// What is wrong with the changed plan, if anything is.
-fn refused(alloc: Global, removed: &str, added: &str) -> Result<Option<PlanError>, AllocError> {
-    let text = changed(alloc, removed, added)?;
-    Ok(refusal(alloc, text.as_bytes()))
+/// The text of what is wrong with a plan, empty where nothing is.
+fn said(alloc: Global, bytes: &[u8]) -> Result<String, Fail> {
+    match read_plan(alloc, bytes) {
+        Ok(_) => Ok(String::new(alloc)),
+        Err(PlanError::Refused(fault)) => Ok(format!(in alloc; "{fault}")?),
+        Err(PlanError::Memory) => Err(Fail::new("out of memory")),
+    }
+}
+
+/// Fails where another fault is told than this one, or none.
+fn is_told(alloc: Global, bytes: &[u8], fault: &str, what: &str) -> Result<(), Fail> {
+    let told = said(alloc, bytes)?;
+    holds(told.as_str() == fault, what)
+}
+
+fn row_holds(alloc: Global, row: &str) -> Result<(), Fail> {
+    let Some((removed, rest)) = row.split_once('|') else {
+        return Err(Fail::new("a row without a text"));
+    };
+    let Some((added, fault)) = rest.split_once('|') else {
+        return Err(Fail::new("a row without a fault"));
+    };
+    let added = added.replace(alloc, "~", "\n")?;
+    let text = changed(alloc, removed, added.as_str())?;
+    is_told(alloc, text.as_bytes(), fault, row)
+}
+
+fn each_row(alloc: Global, rows: &str) -> Result<(), Fail> {
+    for row in rows.lines() {
+        row_holds(alloc, row)?;
+    }
+    Ok(())
+}
+
+/// Plans that are read.
+const READ: &str = "\
+||
+protocol|protocol = 'cpvs'|
+protocol|protocol = 'cbndvs'|
+memory|memory = 69632|
+memory|memory = 1048576|
+memory|memory = 65_536|
+memory|memory = 0x10000|
+memory|\"memory\" = 65536|
+memory|'memory' = +65536 # bytes|
+guests|guests = [~  'b', # one~]|
+guests|guests = ['']|
+schedule|schedule = \"\\u0073\"|
+|\r~# CR LF\r~inputs = [[]]\r~|
+|inputs = [['']]|
+|inputs = [['00ff', 'abcdef0123456789']]|
+|inputs = [['0123456789abcdef0123456789abcdef0123456789abcdef0123456789abcdef0123456789abcdef0123456789abcdef0123456789abcdef0123456789abcdef']]|
+|stop = []|
+|inputs = [[]]~stop = []|
+guests memory|memory = 131072~guests = ['a']|
+protocol|protocol = '''~cand'''|
+";
+
+#[test]
+fn plans_are_read(rt: HostRuntime) -> Result<(), Fail> {
+    each_row(rt.alloc(), READ)
+}
+
+/// No plans, for a text that is none or a key that none has.
+const KEYS: &str = "\
+|memory = 65536|text
+|inputs|text
+|inputs = [[]|text
+|seed = 9223372036854775808|text
+|colour = 1~colour = 2|text
+|colour = 1|unknown
+|Seed = 1|unknown
+|'' = 1|unknown
+protocol|protocol.name = 'cand'~memo = 1|unknown
+protocol|memo = 1|unknown
+|[[stop]]~turns = 1|unknown
+|stop = [1, {}, {turn = 1, halt = 1}]|unknown
+";
+
+#[test]
+fn unknown_keys_come_first(rt: HostRuntime) -> Result<(), Fail> {
+    each_row(rt.alloc(), KEYS)
+}
+
+/// No plans, for their protocol or medium.
+const PROTOCOLS: &str = "\
+protocol||missing protocol
+protocol medium||missing protocol
+protocol|protocol = 1|kind protocol
+protocol|protocol = ['cand']|kind protocol
+protocol|protocol = 'CAND'|range protocol
+protocol|protocol = ''|range protocol
+protocol|protocol = 'cand-log'|range protocol
+protocol|protocol = 'cbndvs-log'|range protocol
+protocol|protocol = 'cpv-2pc'|range protocol
+protocol|protocol = 'cbndv-2pc'|range protocol
+protocol medium|protocol = 'cpv'|range protocol
+medium||missing medium
+medium|medium = true|kind medium
+medium|medium = 'tape'|range medium
+medium|medium = 'disk'|range medium
+medium memory|medium = 'disk'|range medium
+";
+
+#[test]
+fn protocols_and_media_are_named(rt: HostRuntime) -> Result<(), Fail> {
+    each_row(rt.alloc(), PROTOCOLS)
+}
+
+/// No plans, for their memory.
+const MEMORY: &str = "\
+memory||missing memory
+memory|memory = 65536.0|kind memory
+memory|memory = 1.5|kind memory
+memory|memory = '65536'|kind memory
+memory|memory = 1979-05-27|kind memory
+memory|memory = 65537|range memory
+memory|memory = 61440|range memory
+memory|memory = 1052672|range memory
+memory|memory = 4295032832|range memory
+memory|memory = 0|range memory
+memory|memory = -1|range memory
+memory|memory = -65536|range memory
+memory guests|memory = 0|range memory
+";
+
+#[test]
+fn memory_has_pages(rt: HostRuntime) -> Result<(), Fail> {
+    each_row(rt.alloc(), MEMORY)
+}
+
+/// No plans, for their guests.
+const GUESTS: &str = "\
+guests||missing guests
+guests|guests = 'a'|kind guests
+guests|guests = [1]|kind guests
+guests|guests = ['a', 'b', 1]|kind guests
+guests|guests = ['a', 'b']|too many guests
+guests|guests = ['1', '2', '3', '4', '5', '6', '7', '8', '9']|too many guests
+guests|guests = []|range guests
+guests|guests = []~inputs = 1|range guests
+";
+
+#[test]
+fn guests_are_named(rt: HostRuntime) -> Result<(), Fail> {
+    each_row(rt.alloc(), GUESTS)
+}
+
+/// No plans, for their inputs.
+const INPUTS: &str = "\
+|inputs = '6f6b'|kind inputs
+|inputs = ['6f6b']|kind inputs
+|inputs = [[1]]|kind inputs
+|inputs = [['6F'], [], 1]|kind inputs
+|inputs = []|range inputs
+|inputs = [[], []]|range inputs
+|inputs = [['6F']]|range inputs
+|inputs = [['00', '0']]|range inputs
+|inputs = [['0g']]|range inputs
+|inputs = [['0123456789abcdef0123456789abcdef0123456789abcdef0123456789abcdef0123456789abcdef0123456789abcdef0123456789abcdef0123456789abcdef00']]|range inputs
+schedule|inputs = [[], []]|range inputs
+";
+
+#[test]
+fn inputs_are_hexadecimal(rt: HostRuntime) -> Result<(), Fail> {
+    each_row(rt.alloc(), INPUTS)
+}
+
+/// No plans, for their schedule, seed or turns.
+const TURNS: &str = "\
+schedule||missing schedule
+schedule|turns = 1|missing schedule
+schedule|schedule = 1|kind schedule
+schedule|schedule = ['s']~seed = 'x'|kind schedule
+schedule|seed = 'x'~turns = 1|kind seed
+schedule|seed = 0~turns = 1|range seed
+schedule|seed = -1~turns = 1|range seed
+schedule|seed = 9223372036854775807~turns = 1|range seed
+schedule|seed = 0|range seed
+|seed = 1.0|kind seed
+|seed = 1|range seed
+|seed = 1~turns = 'x'|range seed
+|turns = 'x'|kind turns
+|turns = 1|range turns
+|turns = 1000001|range turns
+|turns = -1|range turns
+|turns = 1~stop = 1|range turns
+";
+
+#[test]
+fn turns_have_one_source(rt: HostRuntime) -> Result<(), Fail> {
+    each_row(rt.alloc(), TURNS)
+}
+
+/// No plans, for their stops.
+const STOPS: &str = "\
+|stop = 1|kind stop
+|stop = {}|kind stop
+|[stop]~turn = 1~colour = 1|kind stop
+|stop = [1]|kind stop
+|stop = [[]]|kind stop
+|stop = [{}]|missing stop
+|stop = [1, {}]|missing stop
+|stop = [{turn = 'x', process = 0, call = 1}]|missing stop
+|stop = [{process = 0, call = 1, keep = 0}]|missing stop
+|stop = [{turn = 0, call = 1, keep = 0}]|missing stop
+|[[stop]]~turn = 0~process = 0~keep = 0|missing stop
+|stop = [{turn = 'x', process = 0, call = 1, keep = 0}, {turn = 0, process = 0, keep = 0}]|missing stop
+|stop = [{turn = -1, process = 0, call = 1, keep = 0}, {turn = 'x', process = 0, call = 1, keep = 0}]|kind stop
+|stop = [{turn = 0, process = 0, call = 1, keep = 0, fill = '0'}]|kind stop
+|stop = [{turn = 1000000, process = 0, call = 1, keep = 0}]|range stop
+|stop = [{turn = 0, process = 1, call = 1, keep = 0}]|range stop
+|stop = [{turn = 0, process = 0, call = 0, keep = 0}]|range stop
+|stop = [{turn = 0, process = 0, call = 1, keep = 4000000001}]|range stop
+|stop = [{turn = 0, process = 0, call = 1, keep = 0, fill = 0}]|range stop
+|[[stop]]~turn = 0~process = 0~call = 1~keep = 0|range stop
+";
+
+#[test]
+fn stops_are_whole(rt: HostRuntime) -> Result<(), Fail> {
+    each_row(rt.alloc(), STOPS)
+}
+
+fn has_values(plan: &Plan) -> Result<(), Fail> {
+    holds(plan.protocol == Protocol::Cbndvs, "protocol")?;
+    holds(plan.medium == Medium::Rio, "medium")?;
+    holds(plan.memory == 1048576, "memory")?;
+    holds(plan.schedule.as_str() == "turns", "schedule")
+}
+
+fn has_guest(guests: &[String]) -> Result<(), Fail> {
+    match guests {
+        [guest] => holds(guest.as_str() == "ping", "guest"),
+        _ => Err(Fail::new("guests")),
+    }
+}
+
+/// Whether the one guest has this input.
+fn is_input(inputs: &[Vec<Message>], want: &[&[u8]]) -> Result<(), Fail> {
+    match inputs {
+        [input] => are_records(input, want),
+        _ => Err(Fail::new("inputs")),
+    }
+}
+
+fn are_records(records: &[Message], want: &[&[u8]]) -> Result<(), Fail> {
+    holds(records.len() == want.len(), "how many records")?;
+    for (record, bytes) in records.iter().zip(want.iter()) {
+        holds(record.as_slice() == *bytes, "record")?;
+    }
+    Ok(())
 }
 
 #[test]
 fn a_plan_says_its_values(rt: HostRuntime) -> Result<(), Fail> {
-    let alloc = rt.alloc();
     let text =
         "protocol = \"cbndvs\"\nmedium = \"rio\"\nmemory = 1048576\nguests = [\"ping\"]\ninputs = [[\"6f6b\", \"\"]]\nschedule = \"turns\"\n";
-    let plan = read_plan(alloc, text.as_bytes())?;
-    assert_eq!(rt; plan.protocol, Protocol::Cbndvs);
-    assert_eq!(rt; plan.medium, Medium::Rio);
-    assert_eq!(rt; plan.memory, 1048576);
-    assert_eq!(rt; plan.guests.len(), 1);
-    assert_eq!(rt; plan.guests[0].as_str(), "ping");
-    assert_eq!(rt; plan.inputs.len(), 1);
-    assert_eq!(rt; plan.inputs[0].len(), 2);
-    assert_eq!(rt; plan.inputs[0][0].as_slice(), b"ok".as_slice());
-    assert_eq!(rt; plan.inputs[0][1].as_slice(), b"".as_slice());
-    assert_eq!(rt; plan.schedule.as_str(), "turns");
-    Ok(())
+    let plan = read_plan(rt.alloc(), text.as_bytes())?;
+    has_values(&plan)?;
+    has_guest(&plan.guests)?;
+    is_input(&plan.inputs, &[b"ok".as_slice(), b"".as_slice()])
 }
 
 #[test]
 fn a_guest_without_inputs_has_no_records(rt: HostRuntime) -> Result<(), Fail> {
-    let alloc = rt.alloc();
-    let text = changed(alloc, "", "")?;
-    let plan = read_plan(alloc, text.as_bytes())?;
-    assert_eq!(rt; plan.inputs.len(), 1);
-    assert_eq!(rt; plan.inputs[0].len(), 0);
-    Ok(())
+    let text = changed(rt.alloc(), "", "")?;
+    let plan = read_plan(rt.alloc(), text.as_bytes())?;
+    is_input(&plan.inputs, &[])
 }
 
 #[test]
-fn plans_are_read(rt: HostRuntime) -> Result<(), Fail> {
+fn no_document_is_no_plan(rt: HostRuntime) -> Result<(), Fail> {
     let alloc = rt.alloc();
-    let good = [
-        ("", ""),
-        ("protocol", "protocol = 'cpvs'"),
-        ("protocol", "protocol = 'cbndvs'"),
-        ("memory", "memory = 69632"),
-        ("memory", "memory = 1048576"),
-        ("memory", "memory = 65_536"),
-        ("memory", "memory = 0x10000"),
-        ("memory", "\"memory\" = 65536"),
-        ("memory", "'memory' = +65536 # bytes"),
-        ("guests", "guests = [\n  'b', # one\n]"),
-        ("guests", "guests = ['']"),
-        ("schedule", "schedule = \"\\u0073\""),
-        ("", "\r\n# CR LF\r\ninputs = [[]]\r\n"),
-        ("", "inputs = [['']]"),
-        ("", "inputs = [['00ff', 'abcdef0123456789']]"),
-        (
-            "",
-            "inputs = [['0123456789abcdef0123456789abcdef0123456789abcdef0123456789abcdef0123456789abcdef0123456789abcdef0123456789abcdef0123456789abcdef']]",
-        ),
-        ("", "stop = []"),
-        ("", "inputs = [[]]\nstop = []"),
-        ("guests memory", "memory = 131072\nguests = ['a']"),
-        ("protocol", "protocol = '''\ncand'''"),
-    ];
-    for (removed, added) in &good {
-        assert_eq!(rt; refused(alloc, removed, added)?, None, "{added}");
-    }
-    Ok(())
+    is_told(alloc, b"protocol = '\xff'", "text", "no UTF-8")?;
+    is_told(alloc, b"protocol", "text", "a key alone")?;
+    is_told(alloc, b"", "missing protocol", "nothing")?;
+    is_told(alloc, b"# nothing\r\n", "missing protocol", "a comment")
 }
 
-#[test]
-fn unknown_keys_come_first(rt: HostRuntime) -> Result<(), Fail> {
-    let alloc = rt.alloc();
-    let rows = [
-        ("", "memory = 65536", PlanFault::Text),
-        ("", "inputs", PlanFault::Text),
-        ("", "inputs = [[]", PlanFault::Text),
-        ("", "seed = 9223372036854775808", PlanFault::Text),
-        ("", "colour = 1\ncolour = 2", PlanFault::Text),
-        ("", "colour = 1", PlanFault::Unknown),
-        ("", "Seed = 1", PlanFault::Unknown),
-        ("", "'' = 1", PlanFault::Unknown),
-        (
-            "protocol",
-            "protocol.name = 'cand'\nmemo = 1",
-            PlanFault::Unknown,
-        ),
-        ("protocol", "memo = 1", PlanFault::Unknown),
-        ("", "[[stop]]\nturns = 1", PlanFault::Unknown),
-        (
-            "",
-            "stop = [1, {}, {turn = 1, halt = 1}]",
-            PlanFault::Unknown,
-        ),
-    ];
-    for (removed, added, fault) in &rows {
-        let want = Some(PlanError::Refused(*fault));
-        assert_eq!(rt; refused(alloc, removed, added)?, want, "{added}");
-    }
-    Ok(())
-}
-
-#[test]
-fn protocols_and_media_are_named(rt: HostRuntime) -> Result<(), Fail> {
-    let alloc = rt.alloc();
-    let rows = [
-        ("protocol", "", PlanFault::Missing(Key::Protocol)),
-        ("protocol medium", "", PlanFault::Missing(Key::Protocol)),
-        ("protocol", "protocol = 1", PlanFault::Kind(Key::Protocol)),
-        (
-            "protocol",
-            "protocol = ['cand']",
-            PlanFault::Kind(Key::Protocol),
-        ),
-        (
-            "protocol",
-            "protocol = 'CAND'",
-            PlanFault::Range(Key::Protocol),
-        ),
-        ("protocol", "protocol = ''", PlanFault::Range(Key::Protocol)),
-        (
-            "protocol",
-            "protocol = 'cand-log'",
-            PlanFault::Range(Key::Protocol),
-        ),
-        (
-            "protocol",
-            "protocol = 'cbndvs-log'",
-            PlanFault::Range(Key::Protocol),
-        ),
-        (
-            "protocol",
-            "protocol = 'cpv-2pc'",
-            PlanFault::Range(Key::Protocol),
-        ),
-        (
-            "protocol",
-            "protocol = 'cbndv-2pc'",
-            PlanFault::Range(Key::Protocol),
-        ),
-        (
-            "protocol medium",
-            "protocol = 'cpv'",
-            PlanFault::Range(Key::Protocol),
-        ),
-        ("medium", "", PlanFault::Missing(Key::Medium)),
-        ("medium", "medium = true", PlanFault::Kind(Key::Medium)),
-        ("medium", "medium = 'tape'", PlanFault::Range(Key::Medium)),
-        ("medium", "medium = 'disk'", PlanFault::Range(Key::Medium)),
-        (
-            "medium memory",
-            "medium = 'disk'",
-            PlanFault::Range(Key::Medium),
-        ),
-    ];
-    for (removed, added, fault) in &rows {
-        let want = Some(PlanError::Refused(*fault));
-        assert_eq!(rt; refused(alloc, removed, added)?, want, "{added}");
-    }
-    Ok(())
-}
-
-#[test]
-fn memory_has_pages(rt: HostRuntime) -> Result<(), Fail> {
-    let alloc = rt.alloc();
-    let rows = [
-        ("memory", "", PlanFault::Missing(Key::Memory)),
-        ("memory", "memory = 65536.0", PlanFault::Kind(Key::Memory)),
-        ("memory", "memory = 1.5", PlanFault::Kind(Key::Memory)),
-        ("memory", "memory = '65536'", PlanFault::Kind(Key::Memory)),
-        (
-            "memory",
-            "memory = 1979-05-27",
-            PlanFault::Kind(Key::Memory),
-        ),
-        ("memory", "memory = 65537", PlanFault::Range(Key::Memory)),
-        ("memory", "memory = 61440", PlanFault::Range(Key::Memory)),
-        ("memory", "memory = 1052672", PlanFault::Range(Key::Memory)),
-        (
-            "memory",
-            "memory = 4295032832",
-            PlanFault::Range(Key::Memory),
-        ),
-        ("memory", "memory = 0", PlanFault::Range(Key::Memory)),
-        ("memory", "memory = -1", PlanFault::Range(Key::Memory)),
-        ("memory", "memory = -65536", PlanFault::Range(Key::Memory)),
-        ("memory guests", "memory = 0", PlanFault::Range(Key::Memory)),
-    ];
-    for (removed, added, fault) in &rows {
-        let want = Some(PlanError::Refused(*fault));
-        assert_eq!(rt; refused(alloc, removed, added)?, want, "{added}");
-    }
-    Ok(())
-}
-
-#[test]
-fn guests_are_named(rt: HostRuntime) -> Result<(), Fail> {
-    let alloc = rt.alloc();
-    let rows = [
-        ("guests", "", PlanFault::Missing(Key::Guests)),
-        ("guests", "guests = 'a'", PlanFault::Kind(Key::Guests)),
-        ("guests", "guests = [1]", PlanFault::Kind(Key::Guests)),
-        (
-            "guests",
-            "guests = ['a', 'b', 1]",
-            PlanFault::Kind(Key::Guests),
-        ),
-        (
-            "guests",
-            "guests = ['a', 'b']",
-            PlanFault::TooMany(Key::Guests),
-        ),
-        (
-            "guests",
-            "guests = ['1', '2', '3', '4', '5', '6', '7', '8', '9']",
-            PlanFault::TooMany(Key::Guests),
-        ),
-        ("guests", "guests = []", PlanFault::Range(Key::Guests)),
-        (
-            "guests",
-            "guests = []\ninputs = 1",
-            PlanFault::Range(Key::Guests),
-        ),
-    ];
-    for (removed, added, fault) in &rows {
-        let want = Some(PlanError::Refused(*fault));
-        assert_eq!(rt; refused(alloc, removed, added)?, want, "{added}");
-    }
-    Ok(())
-}
-
-#[test]
-fn inputs_are_hexadecimal(rt: HostRuntime) -> Result<(), Fail> {
-    let alloc = rt.alloc();
-    let rows = [
-        ("", "inputs = '6f6b'", PlanFault::Kind(Key::Inputs)),
-        ("", "inputs = ['6f6b']", PlanFault::Kind(Key::Inputs)),
-        ("", "inputs = [[1]]", PlanFault::Kind(Key::Inputs)),
-        ("", "inputs = [['6F'], [], 1]", PlanFault::Kind(Key::Inputs)),
-        ("", "inputs = []", PlanFault::Range(Key::Inputs)),
-        ("", "inputs = [[], []]", PlanFault::Range(Key::Inputs)),
-        ("", "inputs = [['6F']]", PlanFault::Range(Key::Inputs)),
-        ("", "inputs = [['00', '0']]", PlanFault::Range(Key::Inputs)),
-        ("", "inputs = [['0g']]", PlanFault::Range(Key::Inputs)),
-        (
-            "",
-            "inputs = [['0123456789abcdef0123456789abcdef0123456789abcdef0123456789abcdef0123456789abcdef0123456789abcdef0123456789abcdef0123456789abcdef00']]",
-            PlanFault::Range(Key::Inputs),
-        ),
-        (
-            "schedule",
-            "inputs = [[], []]",
-            PlanFault::Range(Key::Inputs),
-        ),
-    ];
-    for (removed, added, fault) in &rows {
-        let want = Some(PlanError::Refused(*fault));
-        assert_eq!(rt; refused(alloc, removed, added)?, want, "{added}");
-    }
-    Ok(())
-}
-
-#[test]
-fn turns_have_one_source(rt: HostRuntime) -> Result<(), Fail> {
-    let alloc = rt.alloc();
-    let rows = [
-        ("schedule", "", PlanFault::Missing(Key::Schedule)),
-        ("schedule", "turns = 1", PlanFault::Missing(Key::Schedule)),
-        ("schedule", "schedule = 1", PlanFault::Kind(Key::Schedule)),
-        (
-            "schedule",
-            "schedule = ['s']\nseed = 'x'",
-            PlanFault::Kind(Key::Schedule),
-        ),
-        (
-            "schedule",
-            "seed = 'x'\nturns = 1",
-            PlanFault::Kind(Key::Seed),
-        ),
-        (
-            "schedule",
-            "seed = 0\nturns = 1",
-            PlanFault::Range(Key::Seed),
-        ),
-        (
-            "schedule",
-            "seed = -1\nturns = 1",
-            PlanFault::Range(Key::Seed),
-        ),
-        (
-            "schedule",
-            "seed = 9223372036854775807\nturns = 1",
-            PlanFault::Range(Key::Seed),
-        ),
-        ("schedule", "seed = 0", PlanFault::Range(Key::Seed)),
-        ("", "seed = 1.0", PlanFault::Kind(Key::Seed)),
-        ("", "seed = 1", PlanFault::Range(Key::Seed)),
-        ("", "seed = 1\nturns = 'x'", PlanFault::Range(Key::Seed)),
-        ("", "turns = 'x'", PlanFault::Kind(Key::Turns)),
-        ("", "turns = 1", PlanFault::Range(Key::Turns)),
-        ("", "turns = 1000001", PlanFault::Range(Key::Turns)),
-        ("", "turns = -1", PlanFault::Range(Key::Turns)),
-        ("", "turns = 1\nstop = 1", PlanFault::Range(Key::Turns)),
-    ];
-    for (removed, added, fault) in &rows {
-        let want = Some(PlanError::Refused(*fault));
-        assert_eq!(rt; refused(alloc, removed, added)?, want, "{added}");
-    }
-    Ok(())
-}
-
-#[test]
-fn stops_are_whole(rt: HostRuntime) -> Result<(), Fail> {
-    let alloc = rt.alloc();
-    let rows = [
-        ("", "stop = 1", PlanFault::Kind(Key::Stop)),
-        ("", "stop = {}", PlanFault::Kind(Key::Stop)),
-        (
-            "",
-            "[stop]\nturn = 1\ncolour = 1",
-            PlanFault::Kind(Key::Stop),
-        ),
-        ("", "stop = [1]", PlanFault::Kind(Key::Stop)),
-        ("", "stop = [[]]", PlanFault::Kind(Key::Stop)),
-        ("", "stop = [{}]", PlanFault::Missing(Key::Stop)),
-        ("", "stop = [1, {}]", PlanFault::Missing(Key::Stop)),
-        (
-            "",
-            "stop = [{turn = 'x', process = 0, call = 1}]",
-            PlanFault::Missing(Key::Stop),
-        ),
-        (
-            "",
-            "stop = [{process = 0, call = 1, keep = 0}]",
-            PlanFault::Missing(Key::Stop),
-        ),
-        (
-            "",
-            "stop = [{turn = 0, call = 1, keep = 0}]",
-            PlanFault::Missing(Key::Stop),
-        ),
-        (
-            "",
-            "[[stop]]\nturn = 0\nprocess = 0\nkeep = 0",
-            PlanFault::Missing(Key::Stop),
-        ),
-        (
-            "",
-            "stop = [{turn = 'x', process = 0, call = 1, keep = 0}, {turn = 0, process = 0, keep = 0}]",
-            PlanFault::Missing(Key::Stop),
-        ),
-        (
-            "",
-            "stop = [{turn = -1, process = 0, call = 1, keep = 0}, {turn = 'x', process = 0, call = 1, keep = 0}]",
-            PlanFault::Kind(Key::Stop),
-        ),
-        (
-            "",
-            "stop = [{turn = 0, process = 0, call = 1, keep = 0, fill = '0'}]",
-            PlanFault::Kind(Key::Stop),
-        ),
-        (
-            "",
-            "stop = [{turn = 1000000, process = 0, call = 1, keep = 0}]",
-            PlanFault::Range(Key::Stop),
-        ),
-        (
-            "",
-            "stop = [{turn = 0, process = 1, call = 1, keep = 0}]",
-            PlanFault::Range(Key::Stop),
-        ),
-        (
-            "",
-            "stop = [{turn = 0, process = 0, call = 0, keep = 0}]",
-            PlanFault::Range(Key::Stop),
-        ),
-        (
-            "",
-            "stop = [{turn = 0, process = 0, call = 1, keep = 4000000001}]",
-            PlanFault::Range(Key::Stop),
-        ),
-        (
-            "",
-            "stop = [{turn = 0, process = 0, call = 1, keep = 0, fill = 0}]",
-            PlanFault::Range(Key::Stop),
-        ),
-        (
-            "",
-            "[[stop]]\nturn = 0\nprocess = 0\ncall = 1\nkeep = 0",
-            PlanFault::Range(Key::Stop),
-        ),
-    ];
-    for (removed, added, fault) in &rows {
-        let want = Some(PlanError::Refused(*fault));
-        assert_eq!(rt; refused(alloc, removed, added)?, want, "{added}");
-    }
-    Ok(())
-}
-
-#[test]
-fn no_document_is_no_plan(rt: HostRuntime) {
-    let alloc = rt.alloc();
-    let text = Some(PlanError::Refused(PlanFault::Text));
-    assert_eq!(rt; refusal(alloc, b"protocol = '\xff'"), text);
-    assert_eq!(rt; refusal(alloc, b"protocol"), text);
-    let missing = Some(PlanError::Refused(PlanFault::Missing(Key::Protocol)));
-    assert_eq!(rt; refusal(alloc, b""), missing);
-    assert_eq!(rt; refusal(alloc, b"# nothing\r\n"), missing);
+/// A value of so many members has this fault.
+fn counted(
+    alloc: Global,
+    front: &str,
+    text: &str,
+    count: u32,
+    back: &str,
+    fault: &str,
+) -> Result<(), Fail> {
+    let value = repeated(alloc, front, text, count, back)?;
+    let plan = changed(alloc, "", value.as_str())?;
+    is_told(alloc, plan.as_bytes(), fault, front)
 }
 
 #[test]
 fn members_are_counted(rt: HostRuntime) -> Result<(), Fail> {
     let alloc = rt.alloc();
-    let ten_thousand = repeated(alloc, "inputs = [[", "'',", 10_000, "]]")?;
-    assert_eq!(rt; refused(alloc, "", ten_thousand.as_str())?, None);
-    let one_more = repeated(alloc, "inputs = [[], [", "'x',", 10_001, "]]")?;
-    let many = Some(PlanError::Refused(PlanFault::TooMany(Key::Inputs)));
-    assert_eq!(rt; refused(alloc, "", one_more.as_str())?, many);
+    counted(alloc, "inputs = [[", "'',", 10_000, "]]", "")?;
+    counted(
+        alloc,
+        "inputs = [[], [",
+        "'x',",
+        10_001,
+        "]]",
+        "too many inputs",
+    )?;
     let stop = "{turn = -1, process = 0, call = 1, keep = 0},";
-    let thousand = repeated(alloc, "stop = [", stop, 1_000, "]")?;
-    let range = Some(PlanError::Refused(PlanFault::Range(Key::Stop)));
-    assert_eq!(rt; refused(alloc, "", thousand.as_str())?, range);
-    let one_more = repeated(alloc, "stop = [", stop, 1_001, "]")?;
-    let many = Some(PlanError::Refused(PlanFault::TooMany(Key::Stop)));
-    assert_eq!(rt; refused(alloc, "", one_more.as_str())?, many);
-    Ok(())
+    counted(alloc, "stop = [", stop, 1_000, "]", "range stop")?;
+    counted(alloc, "stop = [", stop, 1_001, "]", "too many stop")
+}
+
+fn has_text(alloc: Global, fault: PlanFault, text: &str) -> Result<(), Fail> {
+    let told = format!(in alloc; "{fault}")?;
+    holds(told.as_str() == text, text)
 }
 
 #[test]
 fn a_fault_names_its_key(rt: HostRuntime) -> Result<(), Fail> {
-    let alloc = rt.alloc();
     let texts = [
         (PlanFault::Text, "text"),
         (PlanFault::Unknown, "unknown"),
@@ -487,8 +378,8 @@ fn a_fault_names_its_key(rt: HostRuntime) -> Result<(), Fail> {
         (PlanFault::Missing(Key::Turns), "missing turns"),
         (PlanFault::TooMany(Key::Stop), "too many stop"),
     ];
-    for (fault, text) in &texts {
-        assert_eq!(rt; format!(in alloc; "{}", fault)?.as_str(), *text);
+    for (fault, text) in texts {
+        has_text(rt.alloc(), fault, text)?;
     }
     Ok(())
 }
