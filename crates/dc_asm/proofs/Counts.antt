@@ -5,7 +5,7 @@ use Rattle.dc_words.specs.Texts.{fields_of}
 use Rattle.dc_words.proofs.Splitting.{fields_some}
 use Rattle.dc_asm.specs.declared.faults.AsmKind.TheVariants as kind
 use Rattle.dc_asm.specs.declared.forms.Meant.{Meant}
-use Rattle.dc_asm.specs.Source.{operands_of, trimmed}
+use Rattle.dc_asm.specs.Source.{operands_of, without_blanks}
 use Rattle.dc_words.specs.Results.{◌>>=◌}
 use Rattle.dc_asm.specs.Forms.{bare_form, no_operands, one, two, three}
 
@@ -13,23 +13,23 @@ abbrev parts : List ℕ → List (List ℕ)
 parts text = fields_of 44 text
 
 -- the operands of a text with a comma
-split : (text first rest : List ℕ) → parts text ≡ first ∷ parts rest → operands_of text ≡ trimmed first ∷ map trimmed (parts rest)
+split : (text first rest : List ℕ) → parts text ≡ first ∷ parts rest → operands_of text ≡ without_blanks first ∷ map without_blanks (parts rest)
 unfolding operands_of
 split [] first rest e = absurd (omega (arith, ap length e, fields_some 44 rest))
-split (c ∷ text) first rest e = ap (map trimmed) e
+split (c ∷ text) first rest e = ap (map without_blanks) e
 
 empty : (text : List ℕ) (b : Bool) → b ≡ (length text == 0) → b ≡ true → operands_of text ≡ []
 unfolding operands_of
 empty [] b e full = refl
 empty (c ∷ text) b e full = let h : length (c ∷ text) ≡ 0 = eqb-true (length (c ∷ text)) 0 (sym e ∙ full) in absurd (omega arith)
 
-filled : (text : List ℕ) (b : Bool) → b ≡ (length text == 0) → b ≡ false → operands_of text ≡ map trimmed (parts text)
+filled : (text : List ℕ) (b : Bool) → b ≡ (length text == 0) → b ≡ false → operands_of text ≡ map without_blanks (parts text)
 unfolding operands_of
 filled [] b e less = absurd (let never : true ≡ false = sym e ∙ less in cc)
 filled (c ∷ text) b e less = refl
 
 module _ (meant : Meant) where
-  some_parts : (texts : List (List ℕ)) → 0 < length texts → Err kind.Word ≡ (no_operands (map trimmed texts) >>= λ _. Ok meant)
+  some_parts : (texts : List (List ℕ)) → 0 < length texts → Err kind.Word ≡ (no_operands (map without_blanks texts) >>= λ _. Ok meant)
   unfolding no_operands
   some_parts [] some = absurd (omega arith)
   some_parts (text ∷ texts) some = refl
@@ -47,11 +47,11 @@ pub one_none : (text : List ℕ) (b : Bool) → b ≡ (length text == 0) → b �
 unfolding one
 one_none text b e full = rw (empty text b e full) refl
 
-pub one_ok : (text : List ℕ) (b : Bool) → b ≡ (length text == 0) → b ≡ false → parts text ≡ text ∷ [] → Ok (trimmed text) ≡ one (operands_of text)
+pub one_ok : (text : List ℕ) (b : Bool) → b ≡ (length text == 0) → b ≡ false → parts text ≡ text ∷ [] → Ok (without_blanks text) ≡ one (operands_of text)
 unfolding one
 one_ok text b e less last = rw (filled text b e less, last) refl
 
-after_one : (first : List ℕ) (texts : List (List ℕ)) → 0 < length texts → Err kind.Word ≡ one (trimmed first ∷ map trimmed texts)
+after_one : (first : List ℕ) (texts : List (List ℕ)) → 0 < length texts → Err kind.Word ≡ one (without_blanks first ∷ map without_blanks texts)
 unfolding one
 after_one first [] some = absurd (omega arith)
 after_one first (text ∷ texts) some = refl
@@ -65,11 +65,11 @@ unfolding two operands_of
 two_alone [] last = refl
 two_alone (c ∷ text) last = rw last refl
 
-pub two_ok : (text first second : List ℕ) → parts text ≡ first ∷ parts second → parts second ≡ second ∷ [] → Ok (trimmed first, trimmed second) ≡ two (operands_of text)
+pub two_ok : (text first second : List ℕ) → parts text ≡ first ∷ parts second → parts second ≡ second ∷ [] → Ok (without_blanks first, without_blanks second) ≡ two (operands_of text)
 unfolding two
 two_ok text first second e last = rw (split text first second e, last) refl
 
-after_two : (first second : List ℕ) (texts : List (List ℕ)) → 0 < length texts → Err kind.Word ≡ two (trimmed first ∷ trimmed second ∷ map trimmed texts)
+after_two : (first second : List ℕ) (texts : List (List ℕ)) → 0 < length texts → Err kind.Word ≡ two (without_blanks first ∷ without_blanks second ∷ map without_blanks texts)
 unfolding two
 after_two first second [] some = absurd (omega arith)
 after_two first second (text ∷ texts) some = refl
@@ -89,11 +89,11 @@ module _ (text first second : List ℕ) where
   three_short e last = rw (split text first second e, last) refl
 
   pub three_ok : (behind third : List ℕ) → parts text ≡ first ∷ parts behind → parts behind ≡ second ∷ parts third → parts third ≡ third ∷ []
-      → Ok (trimmed first, trimmed second, trimmed third) ≡ three (operands_of text)
+      → Ok (without_blanks first, without_blanks second, without_blanks third) ≡ three (operands_of text)
   unfolding three
   three_ok behind third e f last = rw (split text first behind e, f, last) refl
 
-  after_three : (third : List ℕ) (texts : List (List ℕ)) → 0 < length texts → Err kind.Word ≡ three (trimmed first ∷ trimmed second ∷ trimmed third ∷ map trimmed texts)
+  after_three : (third : List ℕ) (texts : List (List ℕ)) → 0 < length texts → Err kind.Word ≡ three (without_blanks first ∷ without_blanks second ∷ without_blanks third ∷ map without_blanks texts)
   unfolding three
   after_three third [] some = absurd (omega arith)
   after_three third (more ∷ texts) some = refl

@@ -10,7 +10,9 @@ use Rattle.dc_words.proofs.Bytes.{bytes_long, word_again}
 use Rattle.dc_elf.specs.declared.part.Part.{Part}
 use Rattle.dc_elf.specs.declared.faults.ElfFault.{ElfFault}
 use Rattle.dc_elf.specs.declared.faults.ElfFault.TheVariants.{Short, Entry}
-use Rattle.dc_elf.specs.Files.{fault_if, fault_of, faulty_from, has_bad_entry, header_fault, is_faulty, or_else, parts_of}
+use Rattle.dc_elf.specs.Files.{fault_if, file_fault, faulty_from, has_bad_entry, header_fault, is_faulty, parts_of}
+use Rattle.std.specs.Option.{option_or}
+use Rattle.std.proofs.Math.Bool.{and-false}
 use Rattle.dc_elf.specs.Images.{Image, byte_of, image_of}
 use Rattle.dc_asm.specs.Elf.{elf_of, header}
 use Rattle.dc_asm.specs.Loading.{image_with}
@@ -19,16 +21,12 @@ use Rattle.dc_asm.specs.Loading.{image_with}
 abbrev part : ℕ → Part
 part size = record { kind = 1; offset = 84; address = 1024; filed = size; sized = size }
 
-and_off : (b : Bool) → (b && false) ≡ false
-and_off true = refl
-and_off false = refl
-
 part_right : (file : List ℕ) (size bytes : ℕ) → length file ≡ 84 + bytes → 1024 + bytes ≤ size → is_faulty file size (part bytes) ≡ false
 part_right file size bytes long fits = rw (le-ltb bytes bytes (omega arith), le-ltb (length file) (84 + bytes) (omega (arith, long)), le-ltb size (1024 + bytes) fits)
-    (and_off (not (bytes == 0) || not (bytes == 0)))
+    (and-false (not (bytes == 0) || not (bytes == 0)))
 
 right_if : (short bad : Bool) (front parts : Option ElfFault) → short ≡ false → front ≡ None → parts ≡ None → bad ≡ false
-    → (if short then Some Short else or_else front (or_else parts (fault_if bad Entry))) ≡ None
+    → (if short then Some Short else option_or front (option_or parts (fault_if bad Entry))) ≡ None
 right_if short bad front parts a b c d = rw (a, b, c, d) refl
 
 module _ (count : ℕ) (rest : List ℕ) (small : 4 * count < 2 ^ 32) (long : length rest ≡ 4 * count) where
@@ -50,7 +48,7 @@ module _ (count : ℕ) (rest : List ℕ) (small : 4 * count < 2 ^ 32) (long : le
   parts_right : (size : ℕ) → 1024 + 4 * count ≤ size → faulty_from file size 0 (parts_of file) ≡ None
   parts_right size fits = ap (faulty_from file size 0) parts_are ∙ rw (part_right file size (4 * count) file_long fits) refl
 
-  file_right : (size : ℕ) → 1024 + 4 * count ≤ size → 1028 ≤ size → fault_of file size ≡ None
+  file_right : (size : ℕ) → 1024 + 4 * count ≤ size → 1028 ≤ size → file_fault file size ≡ None
   file_right size fits some = right_if (nat_lt (length file) 52) (has_bad_entry file size) (header_fault file) (faulty_from file size 0 (parts_of file))
       (le-ltb (length file) 52 (omega (arith, file_long))) header_right (parts_right size fits) (entry_right size some)
 
@@ -71,8 +69,8 @@ module _ (words : List ℕ) where
   unfolding elf_of
   parted = flat_map-append word_bytes (header (length words)) words
 
-  pub is_right : (size : ℕ) → 1024 + 4 * length words ≤ size → 1028 ≤ size → size < 2 ^ 32 → fault_of (elf_of words) size ≡ None
-  is_right size fits some small = ap (λ (f : List ℕ). fault_of f size) parted
+  pub is_right : (size : ℕ) → 1024 + 4 * length words ≤ size → 1028 ≤ size → size < 2 ^ 32 → file_fault (elf_of words) size ≡ None
+  is_right size fits some small = ap (λ (f : List ℕ). file_fault f size) parted
       ∙ file_right (length words) (bytes_in words) (omega (arith, fits, small)) (bytes_long words) size fits some
 
   pub image_is : (size : ℕ) → 1024 + 4 * length words ≤ size → size < 2 ^ 32 → image_of size (elf_of words) ≡ image_with size words

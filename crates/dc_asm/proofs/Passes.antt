@@ -12,7 +12,7 @@ use Rattle.dc_asm.specs.declared.forms.Meant.{Meant}
 use Rattle.dc_asm.specs.declared.names.Place.{Place}
 use Rattle.dc_asm.specs.Source.{bare}
 use Rattle.dc_asm.specs.Forms.{IsWordOf}
-use Rattle.dc_asm.specs.Program.{AreWordsOf, Assembles, Words, count_of, line_meaning, prefixed, program_from, program_of, with_front}
+use Rattle.dc_asm.specs.Program.{AreWordsOf, IsFileOf, Makes, count_of, line_meaning, prefixed, program_from, program_of, with_front}
 use Rattle.dc_asm.specs.Names.{place_in}
 use Rattle.dc_asm.specs.Elf.{elf_of}
 use Rattle.dc_asm.specs.declared.faults.AsmError.{AsmError}
@@ -74,9 +74,9 @@ module _ (places : List ℕ → Option Place) (number : ℕ) (words line rest af
 
 -- all is read
 pub all_read : (places : List ℕ → Option Place) (number word : ℕ) (words : Vec ℕ Global) (rest : List ℕ) (told : Result (List Meant) AsmFault) → length rest ≡ 0
-    → LeftBehind words.items (program_from places number word (lines_of rest)) told → Words (Ok words) told
+    → LeftBehind words.items (program_from places number word (lines_of rest)) told → Makes AreWordsOf (Ok words) told
 unfolding program_from
-all_read places number word words [] told none so_far = subst (λ r. Words (Ok words) r) (sym (so_far.rest_decides ∙ ap (λ (xs : List Meant). Ok xs) (append-nil so_far.front))) so_far.are_words
+all_read places number word words [] told none so_far = subst (λ r. Makes AreWordsOf (Ok words) r) (sym (so_far.rest_decides ∙ ap (λ (xs : List Meant). Ok xs) (append-nil so_far.front))) so_far.are_words
 all_read places number word words (c ∷ rest) told none so_far = absurd (omega arith)
 
 -- where nothing was refused
@@ -86,14 +86,14 @@ kept xs ys (Err v) e = absurd (let never : ⊥ = cc in never)
 
 -- with the names of the source itself
 pub of_source : (source : List ℕ) (places : List ℕ → Option Place) (words : Result (Vec ℕ Global) AsmError) → places ≡ place_in source
-    → Words words (program_from places 1 0 (lines_of source)) → Words words (program_of source)
+    → Makes AreWordsOf words (program_from places 1 0 (lines_of source)) → Makes AreWordsOf words (program_of source)
 unfolding program_of
-of_source source places words same told = subst (λ p. Words words (program_from p 1 0 (lines_of source))) same told
+of_source source places words same told = subst (λ p. Makes AreWordsOf words (program_from p 1 0 (lines_of source))) same told
 
-pub is_filed : (told : Result (List Meant) AsmFault) (words file : Vec ℕ Global) → Words (Ok words) told → file.items ≡ elf_of words.items → Assembles (Ok file) told
+pub is_filed : (told : Result (List Meant) AsmFault) (words file : Vec ℕ Global) → Makes AreWordsOf (Ok words) told → file.items ≡ elf_of words.items → Makes IsFileOf (Ok file) told
 is_filed (Ok program) words file are is = record { words = words.items; are_words = are; is_file = is }
 is_filed (Err fault) words file are is = absurd are
 
-pub fails_too : (told : Result (List Meant) AsmFault) (e : AsmError) → Words (Err e) told → Assembles (Err e) told
+pub fails_too : (told : Result (List Meant) AsmFault) (e : AsmError) → Makes AreWordsOf (Err e) told → Makes IsFileOf (Err e) told
 fails_too told error.Memory fails = tt
 fails_too told (error.Refused fault) fails = fails

@@ -17,6 +17,7 @@ file_header = word_of_bytes 127 69 76 70 ∷ word_of_bytes 1 1 1 0 ∷ 0 ∷ 0
 abbrev pub part_header : ℕ → List ℕ
 part_header size = 1 ∷ 84 ∷ 1024 ∷ 1024 ∷ size ∷ size ∷ 7 ∷ 4 ∷ []
 
+-- the words of both headers, of a file with so many words
 abbrev pub header : ℕ → List ℕ
 header count = file_header ++ part_header (4 * count)
 

@@ -17,24 +17,27 @@ use Rattle.dc_asm.specs.declared.forms.Meant.TheVariants.{Instruction, Raw}
 use Rattle.dc_asm.specs.declared.names.Place.{Place}
 use Rattle.dc_asm.specs.declared.table.Form.{Form}
 use Rattle.dc_asm.specs.declared.table.Form.TheVariants as form
-use Rattle.dc_asm.specs.Source.{is_high, operands_of, parts_of}
+use Rattle.dc_asm.specs.Source.{is_high, line_parts, operands_of}
 use Rattle.dc_words.specs.Results.{◌>>=◌, or_fault}
 use Rattle.dc_asm.specs.Operands.{register, immediate, offset, unsigned, indirect}
 use Rattle.dc_asm.specs.Table.{form_of}
 
--- so many operands
+-- no operand
 unfoldable pub no_operands : List (List ℕ) → Result (Unit {0}) AsmKind
 no_operands [] = Ok tt
 no_operands (x ∷ xs) = Err kind.Word
 
+-- one operand
 unfoldable pub one : List (List ℕ) → Result (List ℕ) AsmKind
 one (x ∷ []) = Ok x
 one _ = Err kind.Word
 
+-- two operands
 unfoldable pub two : List (List ℕ) → Result (List ℕ × List ℕ) AsmKind
 two (x ∷ y ∷ []) = Ok (x, y)
 two _ = Err kind.Word
 
+-- three operands
 unfoldable pub three : List (List ℕ) → Result (List ℕ × List ℕ × List ℕ) AsmKind
 three (x ∷ y ∷ z ∷ []) = Ok (x, y, z)
 three _ = Err kind.Word
@@ -46,7 +49,7 @@ based operands = do
   parts ← or_fault kind.Word (indirect texts.1)
   Ok (texts.0, parts.0, parts.1)
 
--- each form's instruction
+-- `REGISTER,REGISTER,REGISTER`
 unfoldable pub register_form : RegisterOp → List (List ℕ) → Result Meant AsmKind
 register_form op operands = do
   texts ← three operands
@@ -55,6 +58,7 @@ register_form op operands = do
   rs2 ← register texts.2
   Ok (Instruction (instr.Register op rd rs1 rs2))
 
+-- `REGISTER,REGISTER,IMMEDIATE`
 unfoldable pub immediate_form : (List ℕ → Option Place) → ImmediateOp → List (List ℕ) → Result Meant AsmKind
 immediate_form places op operands = do
   texts ← three operands
@@ -63,6 +67,7 @@ immediate_form places op operands = do
   imm ← immediate places texts.2
   Ok (Instruction (instr.Immediate op rd rs1 imm))
 
+-- `REGISTER,REGISTER,AMOUNT`
 unfoldable pub shift_form : ShiftOp → List (List ℕ) → Result Meant AsmKind
 shift_form op operands = do
   texts ← three operands
@@ -71,6 +76,7 @@ shift_form op operands = do
   amount ← unsigned 31 texts.2
   Ok (Instruction (instr.Shift op rd rs1 amount))
 
+-- `REGISTER,IMMEDIATE(REGISTER)`, the register that is written in front
 unfoldable pub load_form : (List ℕ → Option Place) → LoadOp → List (List ℕ) → Result Meant AsmKind
 load_form places op operands = do
   texts ← based operands
@@ -79,6 +85,7 @@ load_form places op operands = do
   imm ← immediate places texts.1
   Ok (Instruction (instr.Load op rd rs1 imm))
 
+-- JALR, `REGISTER,IMMEDIATE(REGISTER)`
 unfoldable pub jump_register_form : (List ℕ → Option Place) → List (List ℕ) → Result Meant AsmKind
 jump_register_form places operands = do
   texts ← based operands
@@ -87,6 +94,7 @@ jump_register_form places operands = do
   imm ← immediate places texts.1
   Ok (Instruction (instr.Jalr rd rs1 imm))
 
+-- `REGISTER,IMMEDIATE(REGISTER)`, the register that is stored in front
 unfoldable pub store_form : (List ℕ → Option Place) → StoreOp → List (List ℕ) → Result Meant AsmKind
 store_form places op operands = do
   texts ← based operands
@@ -95,6 +103,7 @@ store_form places op operands = do
   imm ← immediate places texts.1
   Ok (Instruction (instr.Store op rs1 rs2 imm))
 
+-- `REGISTER,REGISTER,OFFSET`
 unfoldable pub branch_form : (List ℕ → Option Place) → ℕ → BranchOp → List (List ℕ) → Result Meant AsmKind
 branch_form places word op operands = do
   texts ← three operands
@@ -103,6 +112,7 @@ branch_form places word op operands = do
   imm ← offset (2 ^ 12) places word texts.2
   Ok (Instruction (instr.Branch op rs1 rs2 imm))
 
+-- JAL, `REGISTER,OFFSET`
 unfoldable pub jump_form : (List ℕ → Option Place) → ℕ → List (List ℕ) → Result Meant AsmKind
 jump_form places word operands = do
   texts ← two operands
@@ -110,6 +120,7 @@ jump_form places word operands = do
   imm ← offset (2 ^ 20) places word texts.1
   Ok (Instruction (instr.Jal rd imm))
 
+-- `REGISTER,IMMEDIATE`, the upper 20 bits of a word
 unfoldable pub upper_form : UpperOp → List (List ℕ) → Result Meant AsmKind
 upper_form op operands = do
   texts ← two operands
@@ -117,12 +128,14 @@ upper_form op operands = do
   imm ← unsigned (2 ^ 20 - 1) texts.1
   Ok (Instruction (instr.Upper op rd imm))
 
+-- `.word NUMBER`
 unfoldable pub word_form : List (List ℕ) → Result Meant AsmKind
 word_form operands = do
   text ← one operands
   word ← unsigned (2 ^ 32 - 1) text
   Ok (Raw word)
 
+-- a mnemonic alone
 unfoldable pub bare_form : Meant → List (List ℕ) → Result Meant AsmKind
 bare_form meant operands = no_operands operands >>= λ _. Ok meant
 
@@ -130,6 +143,7 @@ bare_form meant operands = no_operands operands >>= λ _. Ok meant
 abbrev pub fence : Meant
 fence = Raw 267386895
 
+-- what a form stands for with its operands
 unfoldable pub meant_by : (List ℕ → Option Place) → ℕ → Form → List (List ℕ) → Result Meant AsmKind
 meant_by places word (form.Register op) operands = register_form op operands
 meant_by places word (form.Immediate op) operands = immediate_form places op operands
@@ -148,8 +162,8 @@ meant_by places word form.Ebreak operands = bare_form (Instruction instr.Ebreak)
 -- what the line of a word stands for, by its bytes without comment
 unfoldable pub meaning : (List ℕ → Option Place) → ℕ → List ℕ → Result Meant AsmKind
 meaning places word line = if list_any is_high line then Err kind.Word else do
-  form ← or_fault kind.Word (form_of (parts_of line).0)
-  meant_by places word form (operands_of (parts_of line).1)
+  form ← or_fault kind.Word (form_of (line_parts line).0)
+  meant_by places word form (operands_of (line_parts line).1)
 
 -- the one word of 32 bits that codes it
 abbrev pub IsWordOf : Meant → ℕ → Type 0

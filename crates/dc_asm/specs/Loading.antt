@@ -8,5 +8,6 @@ use Rattle.dc_words.specs.Words.{bytes_in}
 abbrev pub byte_at : List ℕ → ℕ → ℕ
 byte_at words a = if nat_le 1024 a && nat_lt a (1024 + 4 * length words) then slice_index (bytes_in words) (a - 1024) else 0
 
+-- the image of words in a memory of this size, which begin at 1024
 abbrev pub image_with : ℕ → List ℕ → Image
 image_with size words = record { memory = map (byte_at words) (range_with_len 0 size); entry = 1024 }

@@ -18,6 +18,7 @@ abbrev pub words_by : Option (List ℕ) → ℕ
 words_by None = 1
 words_by (Some name) = 0
 
+-- how many words a line without its comment stands for
 unfoldable pub words_in_line : List ℕ → ℕ
 words_in_line [] = 0
 words_in_line (c ∷ line) = words_by (defined (c ∷ line))
@@ -32,11 +33,7 @@ definitions_from number word (line ∷ lines) =
 abbrev pub first_of : List (List ℕ × Place) → List ℕ → Option Place
 first_of definitions name = lookup (λ key. bytes_eq key name) definitions
 
--- the first of two
-abbrev pub or_place : Option Place → Option Place → Option Place
-or_place None other = other
-or_place (Some place) other = Some place
-
+-- where a source defines a name
 unfoldable pub place_in : List ℕ → List ℕ → Option Place
 place_in source name = first_of (definitions_from 1 0 (lines_of source)) name
 

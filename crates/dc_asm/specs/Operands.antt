@@ -19,9 +19,11 @@ unfoldable pub register : List ℕ → Result ℕ AsmKind
 register [] = Err kind.Register
 register (c ∷ digits) = if c == 120 then or_fault kind.Register (result_ok (number_of 31 digits)) else Err kind.Register
 
+-- a number from 0 on
 abbrev pub positive : ℕ → Value
 positive n = record { plus = n; minus = 0 }
 
+-- a number below 0, or 0
 abbrev pub negative : ℕ → Value
 negative n = record { plus = 0; minus = n }
 
@@ -35,9 +37,11 @@ abbrev pub placed : Option Place → Result Value AsmKind
 placed None = Err kind.Label
 placed (Some place) = Ok (positive (address place.word))
 
+-- the address of a name, which has to be one
 unfoldable pub named : (List ℕ → Option Place) → List ℕ → Result Value AsmKind
 named places text = if is_name text then placed (places text) else Err kind.Immediate
 
+-- a number, or what else there is
 abbrev pub number_or : Option Value → Result Value AsmKind → Result Value AsmKind
 number_or None other = other
 number_or (Some value) other = Ok value
@@ -60,6 +64,7 @@ signed half value = if nat_le value.minus value.plus
     then (if nat_lt (value.plus - value.minus) half then Ok (value.plus - value.minus) else Err kind.Immediate)
     else (if nat_le (value.minus - value.plus) half then Ok (2 * half - (value.minus - value.plus)) else Err kind.Immediate)
 
+-- an even number
 abbrev pub even : ℕ → Result ℕ AsmKind
 even bits = if bits % 2 == 0 then Ok bits else Err kind.Immediate
 
@@ -74,6 +79,7 @@ offset half places word text = do
   bits ← signed half value
   even bits
 
+-- a number from 0 up to this one
 abbrev pub up_to : ℕ → Value → Result ℕ AsmKind
 up_to max value = if value.minus == 0 && nat_le value.plus max then Ok value.plus else Err kind.Immediate
 

@@ -24,6 +24,7 @@ is_earlier number (Some place) = if nat_lt place.line number then Err kind.Twice
 abbrev pub counted : ℕ → Meant → Result (Option Meant) AsmKind
 counted word meant = if nat_lt word 16000 then Ok (Some meant) else Err kind.TooLong
 
+-- a line that defines a name stands for no word, and another for the word that it means
 abbrev pub defines_or : (List ℕ → Option Place) → ℕ → ℕ → List ℕ → Option (List ℕ) → Result (Option Meant) AsmKind
 defines_or places number word line (Some name) = is_earlier number (places name)
 defines_or places number word line None = meaning places word line >>= counted word
@@ -39,10 +40,12 @@ with_front None rest = rest
 with_front (Some meant) (Ok others) = Ok (meant ∷ others)
 with_front (Some meant) (Err fault) = Err fault
 
+-- how many words that is
 abbrev pub count_of : Option Meant → ℕ
 count_of None = 0
 count_of (Some meant) = 1
 
+-- a line's fault with its number, or what follows a line that has none
 abbrev pub line_then : ℕ → Result (Option Meant) AsmKind → (Option Meant → Result (List Meant) AsmFault) → Result (List Meant) AsmFault
 line_then number (Err kind) rest = Err (record { line = number; kind = kind })
 line_then number (Ok found) rest = rest found
@@ -53,6 +56,7 @@ program_from places number word [] = Ok []
 program_from places number word (line ∷ lines) = line_then number (line_meaning places number word (bare line))
     (λ found. with_front found (program_from places (suc number) (word + count_of found) lines))
 
+-- what a source stands for: the meaning of each line in order, or the first faulty line
 unfoldable pub program_of : List ℕ → Result (List Meant) AsmFault
 program_of source = program_from (place_in source) 1 0 (lines_of source)
 
@@ -74,16 +78,9 @@ abbrev pub prefixed : List Meant → Result (List Meant) AsmFault → Result (Li
 prefixed front (Ok others) = Ok (front ++ others)
 prefixed front (Err fault) = Err fault
 
--- what an assembler made of a source's program: its file or its first fault, unless it wanted memory
-abbrev pub Assembles : Result (Vec ℕ Global) AsmError → Result (List Meant) AsmFault → Type 0
-Assembles (Ok file) (Ok program) = IsFileOf program file.items
-Assembles (Ok file) (Err fault) = ⊥
-Assembles (Err (error.Refused fault)) told = told ≡ Err fault
-Assembles (Err error.Memory) told = Unit {0}
-
--- the same of the words alone
-abbrev pub Words : Result (Vec ℕ Global) AsmError → Result (List Meant) AsmFault → Type 0
-Words (Ok words) (Ok program) = AreWordsOf program words.items
-Words (Ok words) (Err fault) = ⊥
-Words (Err (error.Refused fault)) told = told ≡ Err fault
-Words (Err error.Memory) told = Unit {0}
+-- what was made of a source's program: something that is so of it, or its first fault, unless memory was wanting
+abbrev pub Makes : (List Meant → List ℕ → Type 0) → Result (Vec ℕ Global) AsmError → Result (List Meant) AsmFault → Type 0
+Makes IsSo (Ok made) (Ok program) = IsSo program made.items
+Makes IsSo (Ok made) (Err fault) = ⊥
+Makes IsSo (Err (error.Refused fault)) told = told ≡ Err fault
+Makes IsSo (Err error.Memory) told = Unit {0}

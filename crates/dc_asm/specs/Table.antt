@@ -1,5 +1,6 @@
 -- The mnemonics, each with its form.
 use Rattle.std.specs.Prelude.{ℕ, List, Option, None, Some, option_map, if◌then◌else◌, codes}
+use Rattle.std.specs.Option.{option_or}
 use Rattle.std.specs.Str.{bytes_eq}
 use Rattle.dc_isa.specs.declared.instr.UpperOp.TheVariants.{Lui, Auipc}
 use Rattle.dc_isa.specs.declared.instr.BranchOp.{BranchOp}
@@ -17,6 +18,7 @@ use Rattle.dc_isa.specs.declared.instr.RegisterOp.TheVariants.{Add, Sub, Sll, Sl
 use Rattle.dc_asm.specs.declared.table.Form.{Form}
 use Rattle.dc_asm.specs.declared.table.Form.TheVariants as form
 
+-- the operation on two registers of a mnemonic
 unfoldable pub register_op : List ℕ → Option RegisterOp
 register_op text =
     if bytes_eq text (codes "add") then Some Add
@@ -31,6 +33,7 @@ register_op text =
     else if bytes_eq text (codes "and") then Some And
     else None
 
+-- the operation on a register and an immediate of a mnemonic
 unfoldable pub immediate_op : List ℕ → Option ImmediateOp
 immediate_op text =
     if bytes_eq text (codes "addi") then Some Addi
@@ -41,6 +44,7 @@ immediate_op text =
     else if bytes_eq text (codes "andi") then Some Andi
     else None
 
+-- the shift by an immediate of a mnemonic
 unfoldable pub shift_op : List ℕ → Option ShiftOp
 shift_op text =
     if bytes_eq text (codes "slli") then Some Slli
@@ -48,6 +52,7 @@ shift_op text =
     else if bytes_eq text (codes "srai") then Some Srai
     else None
 
+-- the load of a mnemonic
 unfoldable pub load_op : List ℕ → Option LoadOp
 load_op text =
     if bytes_eq text (codes "lb") then Some Lb
@@ -57,6 +62,7 @@ load_op text =
     else if bytes_eq text (codes "lhu") then Some Lhu
     else None
 
+-- the store of a mnemonic
 unfoldable pub store_op : List ℕ → Option StoreOp
 store_op text =
     if bytes_eq text (codes "sb") then Some Sb
@@ -64,6 +70,7 @@ store_op text =
     else if bytes_eq text (codes "sw") then Some Sw
     else None
 
+-- the branch of a mnemonic
 unfoldable pub branch_op : List ℕ → Option BranchOp
 branch_op text =
     if bytes_eq text (codes "beq") then Some Beq
@@ -87,17 +94,13 @@ single_form text =
     else if bytes_eq text (codes ".word") then Some form.Word
     else None
 
--- the first of two
-abbrev pub or_form : Option Form → Option Form → Option Form
-or_form None other = other
-or_form (Some found) other = Some found
-
+-- the form of a mnemonic
 unfoldable pub form_of : List ℕ → Option Form
 form_of text =
-    or_form (option_map form.Register (register_op text))
-    (or_form (option_map form.Immediate (immediate_op text))
-    (or_form (option_map form.Shift (shift_op text))
-    (or_form (option_map form.Load (load_op text))
-    (or_form (option_map form.Store (store_op text))
-    (or_form (option_map form.Branch (branch_op text))
+    option_or (option_map form.Register (register_op text))
+    (option_or (option_map form.Immediate (immediate_op text))
+    (option_or (option_map form.Shift (shift_op text))
+    (option_or (option_map form.Load (load_op text))
+    (option_or (option_map form.Store (store_op text))
+    (option_or (option_map form.Branch (branch_op text))
     (single_form text))))))

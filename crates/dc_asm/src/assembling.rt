@@ -3,7 +3,7 @@ ghost use Rattle.std.specs.Option.{option_to_list};
 ghost use Rattle.dc_asm.specs.declared.forms.Meant.{Meant as Means};
 ghost use Rattle.dc_asm.specs.Names.{found};
 ghost use Rattle.dc_asm.specs.Forms.{HasFields};
-ghost use Rattle.dc_asm.specs.Program.{AreWordsOf, Assembles, Words, count_of, line_meaning, program_from, program_of};
+ghost use Rattle.dc_asm.specs.Program.{AreWordsOf, IsFileOf, Makes, count_of, line_meaning, program_from, program_of};
 ghost use Rattle.dc_words.specs.Texts.{lines_of};
 
 use crate::elf::elf_of;
@@ -64,7 +64,7 @@ fn push_word(words: &mut Vec<u32>, meant: Option<Meant>) -> Result<(), AsmError>
 
 /// The words of a source.
 fn words_of(alloc: Global, names: &Names, source: &[u8]) -> Result<Vec<u32>, AsmError>
-    ensures words { Words result (program_from (found names.now) 1 0 (lines_of source.now)) }
+    ensures words { Makes AreWordsOf result (program_from (found names.now) 1 0 (lines_of source.now)) }
     ensures few { IfOk result (λ words. length words.items ≤ 16000) }
 {
     let mut words = Vec::new(alloc);
@@ -87,7 +87,7 @@ fn words_of(alloc: Global, names: &Names, source: &[u8]) -> Result<Vec<u32>, Asm
 
 /// The ELF file of a source, or its first faulty line.
 pub fn assemble(alloc: Global, source: &[u8]) -> Result<Vec<u8>, AsmError>
-    ensures { Assembles result (program_of source.now) }
+    ensures { Makes IsFileOf result (program_of source.now) }
 {
     let Ok(names) = names_in(alloc, source) else {
         return Err(AsmError::Memory);

@@ -27,7 +27,9 @@ pub enum AsmKind {
 #[derive(Clone, Copy, Debug, PartialEq, Eq, Error)]
 #[error("line {line}: {kind}")]
 pub struct AsmFault {
+    /// The number of the line, from 1 on.
     pub line: u64,
+    /// What is wrong with it.
     pub kind: AsmKind,
 }
 

@@ -7,7 +7,7 @@ ghost use Rattle.dc_asm.specs.Forms.{HasFields, IsWordOf, bare_form, based, bran
 use crate::AsmKind;
 use crate::names::Names;
 use crate::operands::{immediate, indirect, offset, register, unsigned};
-use crate::source::{has_high, parts_of, trimmed};
+use crate::source::{has_high, line_parts, without_blanks};
 use crate::table::{Form, form_of};
 use dc_isa::{BranchOp, ImmediateOp, Instr, LoadOp, RegisterOp, ShiftOp, StoreOp, UpperOp, encode};
 use dc_words::first_field;
@@ -15,7 +15,9 @@ use dc_words::first_field;
 /// What a line stands for.
 #[derive(Clone, Copy)]
 pub enum Meant {
+    /// An instruction.
     Instruction(Instr),
+    /// A word, as it is written.
     Raw(u32),
 }
 
@@ -29,7 +31,7 @@ fn one(text: &[u8]) -> Result<&[u8], AsmKind>
     }
     match first_field(b',', text) {
         Some(_) => Err(AsmKind::Word),
-        None => Ok(trimmed(text)),
+        None => Ok(without_blanks(text)),
     }
 }
 
@@ -43,7 +45,7 @@ fn two(text: &[u8]) -> Result<(&[u8], &[u8]), AsmKind>
     };
     match first_field(b',', rest) {
         Some(_) => Err(AsmKind::Word),
-        None => Ok((trimmed(first), trimmed(rest))),
+        None => Ok((without_blanks(first), without_blanks(rest))),
     }
 }
 
@@ -60,7 +62,11 @@ fn three(text: &[u8]) -> Result<(&[u8], &[u8], &[u8]), AsmKind>
     };
     match first_field(b',', rest) {
         Some(_) => Err(AsmKind::Word),
-        None => Ok((trimmed(first), trimmed(second), trimmed(rest))),
+        None => Ok((
+            without_blanks(first),
+            without_blanks(second),
+            without_blanks(rest),
+        )),
     }
 }
 
@@ -241,7 +247,7 @@ pub fn meaning(names: &Names, word: u64, line: &[u8]) -> Result<Meant, AsmKind>
     if has_high(line) {
         return Err(AsmKind::Word);
     }
-    let (mnemonic, operands) = parts_of(line);
+    let (mnemonic, operands) = line_parts(line);
     match form_of(mnemonic) {
         Some(form) => meant_by(names, word, form, operands),
         None => Err(AsmKind::Word),

@@ -1,6 +1,7 @@
 ghost use Rattle.std.specs.Prelude.{◌≡◌, ◌≤◌, ◌+◌, ◌∷◌, [], List, ℕ, IfOk, OnOk, None, length};
 ghost use Rattle.dc_asm.specs.Source.{defined};
-ghost use Rattle.dc_asm.specs.Names.{definition, found, first_of, or_place, place_in, words_in_line};
+ghost use Rattle.dc_asm.specs.Names.{definition, found, first_of, place_in, words_in_line};
+ghost use Rattle.std.specs.Option.{option_or};
 
 use crate::source::{bare, defined};
 use dc_words::first_line;
@@ -10,7 +11,9 @@ use std::collections::HashMap;
 /// Where a name is defined: in that line, before that word.
 #[derive(Clone, Copy)]
 pub struct Place {
+    /// The number of the line, from 1 on.
     pub line: u64,
+    /// How many words stand before it.
     pub word: u64,
 }
 
@@ -38,7 +41,7 @@ impl<'a> Names<'a> {
 
     /// Keeps a definition, unless the name has one.
     fn define(&mut self, name: &'a [u8], place: Place) -> Result<(), AllocError>
-        ensures { OnOk result ((other : List ℕ) → found self.new other ≡ or_place (found self.old other) (first_of ((name.now, place) ∷ []) other)) }
+        ensures { OnOk result ((other : List ℕ) → found self.new other ≡ option_or (found self.old other) (first_of ((name.now, place) ∷ []) other)) }
     {
         if self.find(name).is_some() {
             return Ok(());
@@ -55,7 +58,7 @@ fn define_line<'a>(
     word: u64,
     text: &'a [u8],
 ) -> Result<(), AllocError>
-    ensures { OnOk result ((other : List ℕ) → found names.new other ≡ or_place (found names.old other) (first_of (definition line word (defined text.now)) other)) }
+    ensures { OnOk result ((other : List ℕ) → found names.new other ≡ option_or (found names.old other) (first_of (definition line word (defined text.now)) other)) }
 {
     match defined(text) {
         Some(name) => names.define(name, Place { line, word }),

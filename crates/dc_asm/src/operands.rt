@@ -10,7 +10,9 @@ use dc_words::read_number;
 /// The number `plus - minus`.
 #[derive(Clone, Copy)]
 pub struct Value {
+    /// What counts up.
     pub plus: u128,
+    /// What counts down.
     pub minus: u128,
 }
 

@@ -1,6 +1,6 @@
 ghost use Rattle.std.specs.Prelude.{◌≡◌, ◌<◌, ◌==◌, IfSome, length, option_map};
 ghost use Rattle.std.specs.List.{list_all, list_any, position};
-ghost use Rattle.dc_asm.specs.Source.{bare, cut_at, defined, ended_by, is_blank, is_first, is_further, is_high, is_name, operands_of, parts_of, trimmed, without_end, without_front};
+ghost use Rattle.dc_asm.specs.Source.{bare, cut_at, defined, ended_by, is_blank, is_first, is_further, is_high, is_name, operands_of, line_parts, without_blanks, without_end, without_front};
 
 use dc_words::place;
 
@@ -37,9 +37,9 @@ fn without_end(text: &[u8]) -> &[u8]
 }
 
 /// A text without the blanks at both ends.
-#[tactic(auto, unfolding(crate::specs::Source::trimmed))]
-pub fn trimmed(text: &[u8]) -> &[u8]
-    ensures { result.now ≡ trimmed text.now }
+#[tactic(auto, unfolding(crate::specs::Source::without_blanks))]
+pub fn without_blanks(text: &[u8]) -> &[u8]
+    ensures { result.now ≡ without_blanks text.now }
 {
     without_end(without_front(text))
 }
@@ -59,8 +59,8 @@ pub fn bare(line: &[u8]) -> &[u8]
     ensures { result.now ≡ bare line.now }
 {
     match cut_at(b'#', line) {
-        Some((code, _)) => trimmed(code),
-        None => trimmed(line),
+        Some((code, _)) => without_blanks(code),
+        None => without_blanks(line),
     }
 }
 
@@ -125,9 +125,9 @@ pub fn has_high(line: &[u8]) -> bool
 }
 
 /// The mnemonic of a bare line, and the text of its operands.
-#[tactic(auto, unfolding(crate::specs::Source::parts_of))]
-pub fn parts_of(line: &[u8]) -> (&[u8], &[u8])
-    ensures { (result.0.now, result.1.now) ≡ parts_of line.now }
+#[tactic(auto, unfolding(crate::specs::Source::line_parts))]
+pub fn line_parts(line: &[u8]) -> (&[u8], &[u8])
+    ensures { (result.0.now, result.1.now) ≡ line_parts line.now }
 {
     match cut_at(b' ', line) {
         Some(parts) => parts,

@@ -6,18 +6,31 @@ use dc_isa::{BranchOp, ImmediateOp, LoadOp, RegisterOp, ShiftOp, StoreOp, UpperO
 /// How the operands of a mnemonic are read.
 #[derive(Clone, Copy)]
 pub enum Form {
+    /// `REGISTER,REGISTER,REGISTER`
     Register(RegisterOp),
+    /// `REGISTER,REGISTER,IMMEDIATE`
     Immediate(ImmediateOp),
+    /// `REGISTER,REGISTER,AMOUNT`
     Shift(ShiftOp),
+    /// `REGISTER,IMMEDIATE(REGISTER)`, of a load
     Load(LoadOp),
+    /// `REGISTER,IMMEDIATE(REGISTER)`, of a store
     Store(StoreOp),
+    /// `REGISTER,REGISTER,OFFSET`
     Branch(BranchOp),
+    /// `REGISTER,IMMEDIATE(REGISTER)`, of JALR
     JumpRegister,
+    /// `REGISTER,OFFSET`
     Jump,
+    /// `REGISTER,NUMBER`
     Upper(UpperOp),
+    /// `fence` alone
     Fence,
+    /// `ecall` alone
     Ecall,
+    /// `ebreak` alone
     Ebreak,
+    /// `.word NUMBER`
     Word,
 }
 

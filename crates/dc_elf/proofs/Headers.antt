@@ -5,8 +5,9 @@ use Rattle.std.specs.List.{starts_with}
 use Rattle.std.proofs.lemmas.Bool.{eqb-true}
 use Rattle.dc_elf.specs.declared.faults.ElfFault.{ElfFault}
 use Rattle.dc_elf.specs.declared.faults.ElfFault.TheVariants.{Short, Magic, Class, Order, FileType, Machine, Flags, Headers, Entry}
-use Rattle.dc_elf.specs.Files.{fault_if, fault_of, faulty_from, has_bad_entry, has_bad_headers, has_other_flags, header_fault}
-use Rattle.dc_elf.specs.Files.{or_else, parts_of}
+use Rattle.dc_elf.specs.Files.{fault_if, file_fault, faulty_from, has_bad_entry, has_bad_headers, has_other_flags, header_fault}
+use Rattle.dc_elf.specs.Files.{parts_of}
+use Rattle.std.specs.Option.{option_or}
 use Rattle.dc_words.specs.Words.{half_at, word_at}
 
 pub faultless : (file : List ℕ) → starts_with nat_eq file (127 ∷ 69 ∷ 76 ∷ 70 ∷ []) ≡ true → slice_index file 4 ≡ 1
@@ -34,7 +35,7 @@ right_headers file none =
     (not (half_at file 16 == 2)) (not (half_at file 18 == 243)) (has_other_flags (word_at file 36)) (has_bad_headers file) none
 
 -- a file in which nothing is wrong: its headers and its parts
-none_before : (first later : Option ElfFault) → None ≡ or_else first later → (None ≡ first) × (None ≡ later)
+none_before : (first later : Option ElfFault) → None ≡ option_or first later → (None ≡ first) × (None ≡ later)
 none_before None later e = (refl, e)
 none_before (Some fault) later e = absurd (let never : ⊥ = cc in never)
 
@@ -42,11 +43,11 @@ long_enough : (b : Bool) (later : Option ElfFault) → None ≡ (if b then Some 
 long_enough true later e = absurd (let never : ⊥ = cc in never)
 long_enough false later e = e
 
-pub right_file : (file : List ℕ) (size : ℕ) → None ≡ fault_of file size
+pub right_file : (file : List ℕ) (size : ℕ) → None ≡ file_fault file size
     → (has_bad_headers file ≡ false) × (faulty_from file size 0 (parts_of file) ≡ None)
 right_file file size none =
     let tests = none_before (header_fault file)
-    (or_else (faulty_from file size 0 (parts_of file)) (fault_if (has_bad_entry file size) Entry))
+    (option_or (faulty_from file size 0 (parts_of file)) (fault_if (has_bad_entry file size) Entry))
     (long_enough (nat_lt (length file) 52) _ none) in (
       right_headers file tests.0,
       sym (none_before (faulty_from file size 0 (parts_of file)) (fault_if (has_bad_entry file size) Entry) tests.1).0,
@@ -57,10 +58,10 @@ aligned_by : (off past : Bool) → None ≡ fault_if (off || past) Entry → off
 aligned_by true past e = absurd (let never : ⊥ = cc in never)
 aligned_by false past e = refl
 
-pub right_entry : (file : List ℕ) (size : ℕ) → None ≡ fault_of file size → word_at file 24 % 4 ≡ 0
+pub right_entry : (file : List ℕ) (size : ℕ) → None ≡ file_fault file size → word_at file 24 % 4 ≡ 0
 right_entry file size none =
     let tests = none_before (header_fault file)
-    (or_else (faulty_from file size 0 (parts_of file)) (fault_if (has_bad_entry file size) Entry))
+    (option_or (faulty_from file size 0 (parts_of file)) (fault_if (has_bad_entry file size) Entry))
     (long_enough (nat_lt (length file) 52) _ none) in
     let entry = (none_before (faulty_from file size 0 (parts_of file)) (fault_if (has_bad_entry file size) Entry) tests.1).1 in
     eqb-true (word_at file 24 % 4) 0 (not_off (word_at file 24 % 4 == 0) (aligned_by (not (word_at file 24 % 4 == 0)) (nat_lt size (word_at file 24 + 4)) entry))

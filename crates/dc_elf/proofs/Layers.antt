@@ -12,6 +12,7 @@ use Rattle.std.proofs.lemmas.Grind.{reverse_onto}
 use Rattle.std.proofs.lemmas.List.Sorted.{IsPermutation-reverse, list_any-IsPermutation}
 use Rattle.std.proofs.lemmas.List.Folds.{find-append}
 use Rattle.dc_elf.specs.declared.part.Part.{Part}
+use Rattle.std.proofs.Math.Bool.{and-false}
 use Rattle.dc_elf.specs.Files.{is_loaded, parts_of}
 use Rattle.dc_words.specs.Words.{word_at}
 use Rattle.dc_elf.specs.Images.{byte_in, byte_of, covers, image_of}
@@ -69,15 +70,11 @@ module _ (file : List ℕ) (part : Part) (parts : List Part) (a : ℕ) where
 covers_in : (a : ℕ) (part : Part) → is_loaded part ≡ true → part.address ≤ a → a < part.address + part.sized → covers a part ≡ true
 covers_in a part loaded from to = rw (loaded, le-leb part.address a from, lt-ltb a (part.address + part.sized) to) refl
 
-and_off : (b : Bool) → (b && false) ≡ false
-and_off true = refl
-and_off false = refl
-
 covers_low : (a : ℕ) (part : Part) → a < part.address → covers a part ≡ false
-covers_low a part low = rw (lt-leb part.address a low) (and_off (is_loaded part))
+covers_low a part low = rw (lt-leb part.address a low) (and-false (is_loaded part))
 
 covers_high : (a : ℕ) (part : Part) → part.address + part.sized ≤ a → covers a part ≡ false
-covers_high a part high = rw (le-ltb a (part.address + part.sized) high, and_off (nat_le part.address a)) (and_off (is_loaded part))
+covers_high a part high = rw (le-ltb a (part.address + part.sized) high, and-false (nat_le part.address a)) (and-false (is_loaded part))
 
 -- what lies below an address
 laid_low : (at a : ℕ) (part : Part) (parts : List Part) → a < at → below at part parts a ≡ part ∷ parts

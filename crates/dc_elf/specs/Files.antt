@@ -2,6 +2,7 @@
 use Rattle.std.specs.Prelude.{ℕ, zero, suc, ◌+◌, ◌*◌, ◌%◌, ◌/◌, ◌==◌, ◌&&◌, ◌||◌, not, Bool, List, [], ◌∷◌, length, Option, None}
 use Rattle.std.specs.Prelude.{Some, if◌then◌else◌, nat_eq, nat_lt, slice_index}
 use Rattle.std.specs.List.{starts_with}
+use Rattle.std.specs.Option.{option_or}
 use Rattle.dc_words.specs.Words.{half_at, word_at}
 use Rattle.dc_elf.specs.declared.part.Part.{Part}
 use Rattle.dc_elf.specs.declared.faults.ElfFault.{ElfFault}
@@ -23,9 +24,11 @@ abbrev pub parts_from : List ℕ → ℕ → ℕ → List Part
 parts_from file at zero = []
 parts_from file at (suc count) = part_at file at ∷ parts_from file (at + 32) count
 
+-- how many program headers there are (ELF e_phnum)
 abbrev pub part_count : List ℕ → ℕ
 part_count file = half_at file 44
 
+-- all program headers, in the order of their table (ELF e_phoff says where it begins)
 abbrev pub parts_of : List ℕ → List Part
 parts_of file = parts_from file (word_at file 28) (part_count file)
 
@@ -52,14 +55,11 @@ abbrev pub has_bad_headers : List ℕ → Bool
 has_bad_headers file = part_count file == 65535
     || (not (part_count file == 0) && (not (half_at file 42 == 32) || nat_lt (length file) (word_at file 28 + 32 * part_count file)))
 
+-- the entry is no word's address, or past a memory of this size (ELF e_entry)
 abbrev pub has_bad_entry : List ℕ → ℕ → Bool
 has_bad_entry file size = not (word_at file 24 % 4 == 0) || nat_lt size (word_at file 24 + 4)
 
--- the first of two
-abbrev pub or_else : Option ElfFault → Option ElfFault → Option ElfFault
-or_else None later = later
-or_else (Some fault) later = Some fault
-
+-- this fault where it is so
 abbrev pub fault_if : Bool → ElfFault → Option ElfFault
 fault_if b fault = if b then Some fault else None
 
@@ -76,6 +76,10 @@ header_fault file =
     else None
 
 -- the first thing that is wrong with a file as the guest of a memory of this size
+abbrev pub file_fault : List ℕ → ℕ → Option ElfFault
+file_fault file size = if nat_lt (length file) 52 then Some Short
+    else option_or (header_fault file) (option_or (faulty_from file size 0 (parts_of file)) (fault_if (has_bad_entry file size) Entry))
+
+-- the same, by its earlier name
 abbrev pub fault_of : List ℕ → ℕ → Option ElfFault
-fault_of file size = if nat_lt (length file) 52 then Some Short
-    else or_else (header_fault file) (or_else (faulty_from file size 0 (parts_of file)) (fault_if (has_bad_entry file size) Entry))
+fault_of file size = file_fault file size

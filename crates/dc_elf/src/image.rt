@@ -1,6 +1,6 @@
 ghost use Rattle.std.specs.Prelude.{◌≡◌, ◌↔◌, ◌%◌, ◌^◌, ◌+◌, ◌≤◌, ◌<◌, ◌∷◌, [], Err, IfOk, List, None, Some, false, length, map, true};
 ghost use Rattle.std.specs.List.{range_with_len};
-ghost use Rattle.dc_elf.specs.Files.{fault_of, faulty_from, has_bad_headers, is_faulty, is_loaded, parts_of};
+ghost use Rattle.dc_elf.specs.Files.{file_fault, faulty_from, has_bad_headers, is_faulty, is_loaded, parts_of};
 ghost use Rattle.dc_elf.specs.Filling.{Filled, everywhere};
 ghost use Rattle.dc_elf.specs.Images.{byte_in, byte_of, image_of};
 ghost use Rattle.dc_elf.specs.declared.faults.ElfFault.{ElfFault as Faults};
@@ -16,7 +16,9 @@ use std::alloc::{AllocError, Global};
 /// A guest before its first instruction: its memory's bytes from address 0, and the address of its first instruction.
 #[derive(Drop)]
 pub struct Image {
+    /// The bytes, from address 0 on.
     pub memory: Vec<u8>,
+    /// Where the guest begins, a multiple of 4 (ELF e_entry).
     pub entry: u32,
 }
 
@@ -116,7 +118,7 @@ fn memory_of(alloc: Global, file: &[u8], size: u32) -> Result<Vec<u8>, AllocErro
 
 /// The first thing that is wrong with a file as the guest of a memory of this size.
 fn fault_in(file: &[u8], size: u32) -> Option<ElfFault>
-    ensures { result ≡ fault_of file.now size }
+    ensures { result ≡ file_fault file.now size }
 {
     if file.len() < HEADER {
         return Some(ElfFault::Short);
@@ -135,7 +137,7 @@ fn fault_in(file: &[u8], size: u32) -> Option<ElfFault>
 
 /// Loads a guest's file into a memory of this many bytes. What is wrong with the file comes before want of memory.
 pub fn load(alloc: Global, file: &[u8], size: u32) -> Result<Image, LoadFault>
-    ensures refused { (fault : Faults) → (result ≡ Err (LoadFault.Refused fault)) ↔ (fault_of file.now size ≡ Some fault) }
+    ensures refused { (fault : Faults) → (result ≡ Err (LoadFault.Refused fault)) ↔ (file_fault file.now size ≡ Some fault) }
     ensures image { IfOk result (λ image. record { memory = image.memory.items; entry = image.entry } ≡ image_of size file.now) }
     ensures aligned { IfOk result (λ image. image.entry % 4 ≡ 0) }
 {

@@ -2,7 +2,7 @@
 use Rattle.std.proofs.Common.{◌≡◌, ◌∙◌, ◌+◌, ◌-◌, ◌*◌, ◌/◌, ◌%◌, ◌^◌, ◌<◌, ◌≤◌, ℕ, List, [], ◌∷◌, ◌++◌, length, drop, take, set, get_or, Option, None, Some, ap, sym, refl, arith}
 use Rattle.std.proofs.lemmas.Bool.Decides.{nat_tests}
 use Rattle.std.proofs.lemmas.List.{take_all, take_more_set, append_assoc}
-use Rattle.dc_words.specs.Hex.{byte_before, byte_of, bytes_before, bytes_of_hex, hex_byte, hex_digit, hex_of, value_of}
+use Rattle.dc_words.specs.Hex.{byte_before, byte_of_digits, bytes_before, bytes_of_hex, hex_byte, hex_digit, hex_of, value_of}
 use Rattle.dc_words.specs.Words.{AllBelow}
 
 -- a digit and its value
@@ -14,7 +14,7 @@ digit_again n small = grind (arith, nat_tests)
 
 -- the first two digits of a text
 hex_two : (rest : List ℕ) (n : ℕ) → 2 ≤ length rest → length rest - 2 ≤ n
-    → bytes_of_hex rest ≡ byte_before (byte_of (value_of (get_or rest 0 0)) (value_of (get_or rest 1 0))) (bytes_of_hex (take n (drop 2 rest)))
+    → bytes_of_hex rest ≡ byte_before (byte_of_digits (value_of (get_or rest 0 0)) (value_of (get_or rest 1 0))) (bytes_of_hex (take n (drop 2 rest)))
 hex_two [] n two long = absurd (omega arith)
 hex_two (c ∷ []) n two long = absurd (omega arith)
 hex_two (high ∷ low ∷ rest) n two long = rw (take_all n rest (omega (arith, long))) refl
@@ -26,7 +26,7 @@ moved front b (Some bytes) = ap Some (sym (append_assoc front (b ∷ []) bytes))
 -- one byte more is read
 pub one_read : (text to rest : List ℕ) (count b n : ℕ) → 2 ≤ length rest → length rest - 2 ≤ n → count < length to
     → bytes_of_hex text ≡ bytes_before (take count to) (bytes_of_hex rest)
-    → byte_of (value_of (get_or rest 0 0)) (value_of (get_or rest 1 0)) ≡ Some b
+    → byte_of_digits (value_of (get_or rest 0 0)) (value_of (get_or rest 1 0)) ≡ Some b
     → bytes_of_hex text ≡ bytes_before (take (count + 1) (set to count b)) (bytes_of_hex (take n (drop 2 rest)))
 one_read text to rest count b n two long within so_far is =
     so_far ∙ ap (bytes_before (take count to)) (hex_two rest n two long ∙ ap (λ x. byte_before x (bytes_of_hex (take n (drop 2 rest)))) is)
@@ -36,7 +36,7 @@ one_read text to rest count b n two long within so_far is =
 -- two characters that are no digits
 pub none_read : (text to rest : List ℕ) (count : ℕ) → 2 ≤ length rest
     → bytes_of_hex text ≡ bytes_before (take count to) (bytes_of_hex rest)
-    → byte_of (value_of (get_or rest 0 0)) (value_of (get_or rest 1 0)) ≡ None
+    → byte_of_digits (value_of (get_or rest 0 0)) (value_of (get_or rest 1 0)) ≡ None
     → bytes_of_hex text ≡ None
 none_read text to rest count two so_far is =
     so_far ∙ ap (bytes_before (take count to)) (hex_two rest (length rest) two (omega arith) ∙ ap (λ x. byte_before x (bytes_of_hex (take (length rest) (drop 2 rest)))) is)
@@ -51,7 +51,7 @@ record AreParts (x y : Option ℕ) (rest : Option (List ℕ)) (bytes : List ℕ)
   more_is : rest ≡ Some more
   bytes_are : bytes ≡ (16 * high + low) ∷ more
 
-taken_apart : (x y : Option ℕ) (rest : Option (List ℕ)) (bytes : List ℕ) → byte_before (byte_of x y) rest ≡ Some bytes → AreParts x y rest bytes
+taken_apart : (x y : Option ℕ) (rest : Option (List ℕ)) (bytes : List ℕ) → byte_before (byte_of_digits x y) rest ≡ Some bytes → AreParts x y rest bytes
 taken_apart None y rest bytes e = absurd (let never : ⊥ = cc in never)
 taken_apart (Some high) None rest bytes e = absurd (let never : ⊥ = cc in never)
 taken_apart (Some high) (Some low) None bytes e = absurd (let never : ⊥ = cc in never)
@@ -81,8 +81,8 @@ hex_again [] small = refl
 hex_again (b ∷ bytes) small =
     let below : b < 256 = small.0 in
     let sum : 16 * (b / 16) + b % 16 ≡ b = omega arith in
-    ap (λ x. byte_before (byte_of x (value_of (hex_digit (b % 16)))) (bytes_of_hex (hex_of bytes))) (digit_again (b / 16) (omega (arith, below)))
-    ∙ ap (λ x. byte_before (byte_of (Some (b / 16)) x) (bytes_of_hex (hex_of bytes))) (digit_again (b % 16) (omega arith))
+    ap (λ x. byte_before (byte_of_digits x (value_of (hex_digit (b % 16)))) (bytes_of_hex (hex_of bytes))) (digit_again (b / 16) (omega (arith, below)))
+    ∙ ap (λ x. byte_before (byte_of_digits (Some (b / 16)) x) (bytes_of_hex (hex_of bytes))) (digit_again (b % 16) (omega arith))
     ∙ ap (byte_before (Some (16 * (b / 16) + b % 16))) (hex_again bytes small.1)
     ∙ ap (λ x. Some (x ∷ bytes)) sum
 

@@ -5,13 +5,16 @@ use Rattle.std.specs.Str.Parse.{digits_value}
 use Rattle.dc_words.specs.declared.numbers.NumberFault.{NumberFault}
 use Rattle.dc_words.specs.declared.numbers.NumberFault.TheVariants.{NotNumber, Range}
 
+-- a digit from 0 to 9
 abbrev pub is_digit : ℕ → Bool
 is_digit c = nat_le 48 c && nat_le c 57
 
+-- the digits of a number: at least one, and no zero in front of others
 abbrev pub is_number : List ℕ → Bool
 is_number [] = false
 is_number (c ∷ cs) = list_all is_digit (c ∷ cs) && (length cs == 0 || not (c == 48))
 
+-- the number of a text, up to the greatest, or what is wrong
 abbrev pub number_of : ℕ → List ℕ → Result ℕ NumberFault
 number_of max text = if is_number text
     then (if nat_le (digits_value 10 text) max then Ok (digits_value 10 text) else Err Range)

@@ -1,8 +1,8 @@
 -- Results one after the other.
 use Rattle.std.specs.Prelude.{Option, None, Some, Result, Ok, Err}
 
--- with the value of the first, or its fault
 infixl 10 ◌>>=◌
+-- with the value of the first, or its fault
 abbrev pub ◌>>=◌ : {A B E : Type 0} → Result A E → (A → Result B E) → Result B E
 (Ok x) >>= f = f x
 (Err e) >>= f = Err e

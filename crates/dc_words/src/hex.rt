@@ -1,5 +1,5 @@
 ghost use Rattle.std.specs.Prelude.{◌≡◌, ◌*◌, ◌≤◌, ◌<◌, ◌^◌, List, ℕ, IfOk, IfErr, IfSome, IsOk, None, Some, length, take};
-ghost use Rattle.dc_words.specs.Hex.{byte_of, bytes_of_hex, hex_digit, hex_of, value_of};
+ghost use Rattle.dc_words.specs.Hex.{byte_of_digits, bytes_of_hex, hex_digit, hex_of, value_of};
 ghost use Rattle.dc_words.specs.Words.{AllBelow};
 
 use thiserror::Error;
@@ -42,7 +42,7 @@ fn value(c: u8) -> Option<u8>
 
 /// The byte of two digits, the higher first.
 fn byte(high: u8, low: u8) -> Option<u8>
-    ensures { result ≡ byte_of (value_of high) (value_of low) }
+    ensures { result ≡ byte_of_digits (value_of high) (value_of low) }
 {
     let high = value(high)?;
     let low = value(low)?;

@@ -13,5 +13,5 @@ returns-in-Some-first_field-2 c = three_more c.args.text.now c.in-Some.first.now
     c.in-Some-first_field-2.field-0.0.now c.in-Some-first_field-2.field-0.1.now c.in-Some.ensures.some c.in-Some-first_field.ensures.some c.in-Some-first_field-2.ensures.some
 
 pub returns-in-None : goal.returns-in-None
-returns-in-None c = rw (c.trimmed.ensures, c.trimmed-in-None.ensures, c.trimmed-in-None-2.ensures)
+returns-in-None c = rw (c.without_blanks.ensures, c.without_blanks-in-None.ensures, c.without_blanks-in-None-2.ensures)
     (three_ok c.args.text.now c.in-Some.first.now c.in-Some-first_field.second.now c.in-Some.rest.now c.in-Some-first_field.rest.now c.in-Some.ensures.some c.in-Some-first_field.ensures.some (search rules))

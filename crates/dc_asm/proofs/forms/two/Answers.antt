@@ -10,4 +10,4 @@ returns-in-Some-first_field c = two_more c.args.text.now c.in-Some.first.now c.i
     c.in-Some.ensures.some c.in-Some-first_field.ensures.some
 
 pub returns-in-None : goal.returns-in-None
-returns-in-None c = rw (c.trimmed.ensures, c.trimmed-in-None.ensures) (two_ok c.args.text.now c.in-Some.first.now c.in-Some.rest.now c.in-Some.ensures.some (search rules))
+returns-in-None c = rw (c.without_blanks.ensures, c.without_blanks-in-None.ensures) (two_ok c.args.text.now c.in-Some.first.now c.in-Some.rest.now c.in-Some.ensures.some (search rules))
