@@ -9,7 +9,7 @@ use Rattle.toml.specs.Parse.{parse_document}
 use Rattle.dc_protocols.specs.declared.protocol.Protocol.{Protocol}
 use Rattle.dc_plan.specs.Allowed.{IsAllowed}
 use Rattle.dc_plan.specs.Built.{is_built, is_medium_built, most_guests}
-use Rattle.dc_plan.specs.Plans.{Plan, are_inputs_few, are_inputs_right, at_key, guests_row, has_known_keys, inputs_row, inputs_said, is_record, medium_named, medium_row, memory_row, needed, only_if, optional, plan_from, plan_of, protocol_named, protocol_row, record_of, rows, schedule_row, seed_row, stops_row, tested, turns_row}
+use Rattle.dc_plan.specs.Plans.{Plan, are_inputs_few, are_inputs_right, at_key, guests_row, has_known_keys, inputs_row, inputs_said, is_input_record, medium_named, medium_row, memory_row, needed, only_if, optional, plan_from, plan_of, protocol_named, protocol_row, input_record_of, rows, schedule_row, seed_row, stops_row, tested, turns_row}
 use Rattle.dc_words.specs.Results.{◌>>=◌, or_fault}
 use Rattle.dc_plan.specs.Values.{is_array_of, is_between, is_from_to, is_text, is_whole, items_in, natural_in, natural_or_zero, text_in}
 use Rattle.dc_plan.specs.declared.fault.PlanFault.{PlanFault}
@@ -91,8 +91,8 @@ inputs_allowed ms guests inputs e = at (at_key key.Inputs ms) e
     at None e = let is : replicate guests [] ≡ inputs = cc in ap length (sym is) ∙ length-replicate guests []
     at (Some d) e =
         let p = passed key.Inputs (is_array_of (is_array_of is_text) d) (are_inputs_few d) (are_inputs_right guests d) (inputs_said guests (Some (items_in d))) inputs e in
-        let parts = and_parts (length (items_in d) == guests) (list_all (λ records. list_all is_record (items_in records)) (items_in d)) p.range_is in
-        ap length (sym p.said_is) ∙ length-map (items_in d) (λ records. map record_of (items_in records)) ∙ eqb-true (length (items_in d)) guests parts.0
+        let parts = and_parts (length (items_in d) == guests) (list_all (λ records. list_all is_input_record (items_in records)) (items_in d)) p.range_is in
+        ap length (sym p.said_is) ∙ length-map (items_in d) (λ records. map input_record_of (items_in records)) ∙ eqb-true (length (items_in d)) guests parts.0
 
 rows_allowed : (ms : Members) (plan : Plan) → rows ms ≡ Ok plan → IsAllowed plan
 rows_allowed ms plan e =

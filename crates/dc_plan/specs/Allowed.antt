@@ -3,6 +3,7 @@ use Rattle.std.specs.Prelude.{◌≡◌, ◌≤◌, ◌%◌, true, length}
 use Rattle.dc_plan.specs.Built.{is_built, is_medium_built, most_guests}
 use Rattle.dc_plan.specs.Plans.{Plan}
 
+-- a plan that is within every bound
 pub record IsAllowed (plan : Plan) : Type 0 where
   pub protocol : is_built plan.protocol ≡ true
   pub medium : is_medium_built plan.medium ≡ true

@@ -61,6 +61,7 @@ protocol_named name = if bytes_eq name (codes "cand") then Some protocol.Cand
     else (if bytes_eq name (codes "cbndv-2pc") then Some protocol.Cbndv2pc
     else None))))))
 
+-- the media by their names
 abbrev pub medium_named : List ℕ → Option Medium
 medium_named name = if bytes_eq name (codes "rio") then Some medium.Rio else (if bytes_eq name (codes "disk") then Some medium.Disk else None)
 
@@ -92,15 +93,17 @@ guests_row ms = needed key.Guests ms >>= (λ d. tested key.Guests (is_array_of i
 abbrev pub record_in : List ℕ → Option (List ℕ)
 record_in text = if nat_le (length text) 128 then bytes_of_hex text else None
 
-abbrev pub is_record : Data → Bool
-is_record d = is_some (record_in (text_in d))
+-- a text that is the text of an input's record
+abbrev pub is_input_record : Data → Bool
+is_input_record d = is_some (record_in (text_in d))
 
-abbrev pub record_of : Data → List ℕ
-record_of d = text_or_empty (record_in (text_in d))
+-- the bytes of an input's record; none where it is no such text
+abbrev pub input_record_of : Data → List ℕ
+input_record_of d = text_or_empty (record_in (text_in d))
 
 -- the records of some lists, or as many empty lists as there are guests
 abbrev pub inputs_said : ℕ → Option (List Data) → List (List (List ℕ))
-inputs_said guests (Some lists) = map (λ records. map record_of (items_in records)) lists
+inputs_said guests (Some lists) = map (λ records. map input_record_of (items_in records)) lists
 inputs_said guests None = replicate guests []
 
 -- arrays of no more than 10,000 texts
@@ -109,7 +112,7 @@ are_inputs_few d = list_all (λ records. nat_le (length (items_in records)) 1000
 
 -- an array of records for each guest
 abbrev pub are_inputs_right : ℕ → Data → Bool
-are_inputs_right guests d = length (items_in d) == guests && list_all (λ records. list_all is_record (items_in records)) (items_in d)
+are_inputs_right guests d = length (items_in d) == guests && list_all (λ records. list_all is_input_record (items_in records)) (items_in d)
 
 -- inputs: the records of each guest; none where the key is absent
 abbrev pub inputs_row : ℕ → Members → Result (List (List (List ℕ))) PlanFault
@@ -170,6 +173,7 @@ items_at (Some d) = items_in d
 abbrev pub has_known_keys : Members → Bool
 has_known_keys ms = list_all is_key (names_in ms) && list_all has_stop_keys (items_at (at_key key.Stop ms))
 
+-- what a document says, or the first rule that it breaks
 abbrev pub plan_from : Members → Result Plan PlanFault
 plan_from ms = if has_known_keys ms then rows ms else Err Unknown
 

@@ -13,6 +13,7 @@ use Rattle.dc_plan.specs.declared.plan.Medium.TheVariants as medium
 abbrev pub at_stop_key : StopKey → Data → Option Data
 at_stop_key key d = get_member (stop_key_text key) (members_in d)
 
+-- a key that each stop has
 abbrev pub is_needed : StopKey → Bool
 is_needed stop.Fill = false
 is_needed _ = true
@@ -30,6 +31,7 @@ is_stop_value medium.Disk guests stop.Fill d = is_between 0 255 d
 abbrev pub has_stop_keys : Data → Bool
 has_stop_keys d = list_all is_stop_key (names_in (members_in d))
 
+-- each needed key is there
 abbrev pub has_needed_keys : Data → Bool
 has_needed_keys d = list_all (λ key. not (is_needed key) || is_some (at_stop_key key d)) stop_keys
 
@@ -37,6 +39,7 @@ has_needed_keys d = list_all (λ key. not (is_needed key) || is_some (at_stop_ke
 abbrev pub is_complete : Data → Bool
 is_complete d = not (is_table d) || has_needed_keys d
 
+-- each key that is there has a whole number
 abbrev pub has_whole_numbers : Data → Bool
 has_whole_numbers d = list_all (λ key. absent_or is_whole (at_stop_key key d)) stop_keys
 

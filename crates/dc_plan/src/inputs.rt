@@ -2,7 +2,7 @@ ghost use Rattle.std.specs.Prelude.{◌≡◌, ◌&&◌, List, None, Some, lengt
 ghost use Rattle.std.specs.List.{list_all};
 ghost use Rattle.toml.specs.View.{view};
 ghost use Rattle.dc_plan.specs.Values.{is_array_of, is_text, items_in};
-ghost use Rattle.dc_plan.specs.Plans.{are_inputs_few, are_inputs_right, is_record, record_in, record_of};
+ghost use Rattle.dc_plan.specs.Plans.{are_inputs_few, are_inputs_right, is_input_record, record_in, input_record_of};
 
 use crate::values::{is_array_of_texts, items_in, text_in};
 use dc_links::{MESSAGE_ROOM, Message};
@@ -26,15 +26,15 @@ fn record_in(text: &str) -> Option<Message>
     }
 }
 
-fn is_record(value: &Value) -> bool
-    ensures { result ≡ is_record (view value.now) }
+fn is_input_record(value: &Value) -> bool
+    ensures { result ≡ is_input_record (view value.now) }
 {
     record_in(text_in(value)).is_some()
 }
 
 /// The record of a value; empty where it has none.
-pub fn record_of(value: &Value) -> Message
-    ensures { result ≡ record_of (view value.now) }
+pub fn input_record_of(value: &Value) -> Message
+    ensures { result ≡ input_record_of (view value.now) }
 {
     match record_in(text_in(value)) {
         Some(record) => record,
@@ -48,6 +48,7 @@ fn are_arrays_of_texts(lists: &[Value]) -> bool
     lists.iter().all(|list| is_array_of_texts(list))
 }
 
+/// Whether a value is an array of arrays of texts.
 pub fn is_array_of_lists(value: &Value) -> bool
     ensures { result ≡ is_array_of (is_array_of is_text) (view value.now) }
 {
@@ -66,6 +67,7 @@ fn are_short(lists: &[Value]) -> bool
     lists.iter().all(|list| is_short(list))
 }
 
+/// Whether no guest has more than 10,000 records.
 pub fn are_inputs_few(value: &Value) -> bool
     ensures { result ≡ are_inputs_few (view value.now) }
 {
@@ -73,19 +75,19 @@ pub fn are_inputs_few(value: &Value) -> bool
 }
 
 fn are_records(values: &[Value]) -> bool
-    ensures { result ≡ list_all (λ v. is_record (view v)) values.now }
+    ensures { result ≡ list_all (λ v. is_input_record (view v)) values.now }
 {
-    values.iter().all(|value| is_record(value))
+    values.iter().all(|value| is_input_record(value))
 }
 
 fn has_records(list: &Value) -> bool
-    ensures { result ≡ list_all is_record (items_in (view list.now)) }
+    ensures { result ≡ list_all is_input_record (items_in (view list.now)) }
 {
     are_records(items_in(list))
 }
 
 fn have_records(lists: &[Value]) -> bool
-    ensures { result ≡ list_all (λ v. list_all is_record (items_in (view v))) lists.now }
+    ensures { result ≡ list_all (λ v. list_all is_input_record (items_in (view v))) lists.now }
 {
     lists.iter().all(|list| has_records(list))
 }

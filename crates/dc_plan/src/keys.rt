@@ -88,6 +88,7 @@ pub enum StopKey {
     Fill,
 }
 
+/// All keys of a stop.
 pub const STOP_KEYS: [StopKey; 5] = [
     StopKey::Turn,
     StopKey::Process,

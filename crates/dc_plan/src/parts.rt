@@ -22,8 +22,11 @@ use toml::{Table, Value};
 /// What a plan that keeps all rules says, where it stands in the document.
 #[derive(Clone, Copy)]
 pub struct Parts<'a> {
+    /// When processes commit and what they log.
     pub protocol: Protocol,
+    /// Where checkpoints are kept.
     pub medium: Medium,
+    /// The size of each guest's memory in bytes.
     pub memory: u32,
     /// The names of the guests' files.
     pub guests: &'a [Value],

@@ -2,12 +2,12 @@ ghost use Rattle.std.specs.Prelude.{◌≡◌, [], IfOk, List, length, map, repl
 ghost use Rattle.std.specs.Str.{is_utf8};
 ghost use Rattle.toml.specs.View.{view};
 ghost use Rattle.dc_plan.specs.Values.{items_in, text_in};
-ghost use Rattle.dc_plan.specs.Plans.{IsExact, plan_of, plan_view, record_of};
+ghost use Rattle.dc_plan.specs.Plans.{IsExact, plan_of, plan_view, input_record_of};
 ghost use Rattle.dc_plan.specs.Allowed.{IsAllowed};
 ghost use Rattle.dc_plan.specs.Parts.{parts_view};
 
 use crate::fault::{PlanError, PlanFault};
-use crate::inputs::record_of;
+use crate::inputs::input_record_of;
 use crate::parts::{Parts, parts_in};
 use crate::plan::Plan;
 use crate::values::{items_in, text_in};
@@ -29,18 +29,18 @@ fn texts_of(alloc: Global, values: &[Value]) -> Result<Vec<String>, AllocError>
 
 /// The records of some texts.
 fn records_of(alloc: Global, values: &[Value]) -> Result<Vec<Message>, AllocError>
-    ensures { IfOk result (λ records. records.items ≡ map record_of (map view values.now)) }
+    ensures { IfOk result (λ records. records.items ≡ map input_record_of (map view values.now)) }
 {
     let mut records = Vec::new(alloc);
     for value in values {
-        records.push(record_of(value))?;
+        records.push(input_record_of(value))?;
     }
     Ok(records)
 }
 
 /// The records of each list.
 fn inputs_of(alloc: Global, lists: &[Value]) -> Result<Vec<Vec<Message>>, AllocError>
-    ensures { IfOk result (λ inputs. map (λ records. records.items) inputs.items ≡ map (λ records. map record_of (items_in records)) (map view lists.now)) }
+    ensures { IfOk result (λ inputs. map (λ records. records.items) inputs.items ≡ map (λ records. map input_record_of (items_in records)) (map view lists.now)) }
 {
     let mut inputs = Vec::new(alloc);
     for list in lists {

@@ -126,6 +126,7 @@ fn have_stop_kinds(stops: &[Value]) -> bool
     stops.iter().all(|stop| has_stop_kinds(stop))
 }
 
+/// Whether a value is an array of tables whose stop keys have whole numbers.
 pub fn is_array_of_stops(value: &Value) -> bool
     ensures { result ≡ is_array_of has_stop_kinds (view value.now) }
 {
@@ -140,6 +141,7 @@ fn have_stop_ranges(medium: Medium, guests: usize, stops: &[Value]) -> bool
         .all(|stop| has_stop_ranges(medium, guests, stop))
 }
 
+/// Whether each table among the stops has the keys that a stop needs.
 pub fn are_stops_complete(value: &Value) -> bool
     ensures { result ≡ list_all is_complete (items_in (view value.now)) }
 {
