@@ -5,6 +5,7 @@ use Rattle.dc_events.specs.declared.event.Kind.TheVariants.{Internal, Clock, Ran
 use Rattle.dc_events.specs.declared.event.Next.{Next}
 use Rattle.dc_events.specs.declared.event.Next.TheVariants.{Retire, Trap, Call}
 
+-- the kind of what a guest does next
 abbrev pub kind_of : Next → Kind
 kind_of Retire = Internal
 kind_of (Trap cause) = Visible

@@ -29,6 +29,7 @@ immediate_at funct3 =
     else if funct3 == 7 then Some Andi
     else None
 
+-- the load of a funct3
 abbrev pub load_at : ℕ → Option LoadOp
 load_at funct3 =
     if funct3 == 0 then Some Lb
@@ -38,6 +39,7 @@ load_at funct3 =
     else if funct3 == 5 then Some Lhu
     else None
 
+-- the store of a funct3
 abbrev pub store_at : ℕ → Option StoreOp
 store_at funct3 =
     if funct3 == 0 then Some Sb
@@ -45,6 +47,7 @@ store_at funct3 =
     else if funct3 == 2 then Some Sw
     else None
 
+-- the branch of a funct3
 abbrev pub branch_at : ℕ → Option BranchOp
 branch_at funct3 =
     if funct3 == 0 then Some Beq
@@ -55,24 +58,27 @@ branch_at funct3 =
     else if funct3 == 7 then Some Bgeu
     else None
 
--- shifts and operations on two registers: those with funct7 0, those with funct7 32, and both
+-- the shift by an immediate of a funct3 with funct7 0
 abbrev pub plain_shift_at : ℕ → Option ShiftOp
 plain_shift_at funct3 =
     if funct3 == 1 then Some Slli
     else if funct3 == 5 then Some Srli
     else None
 
+-- the shift by an immediate of a funct3 with funct7 32
 abbrev pub other_shift_at : ℕ → Option ShiftOp
 other_shift_at funct3 =
     if funct3 == 5 then Some Srai
     else None
 
+-- the shift by an immediate of a funct3 and a funct7
 abbrev pub shift_at : ℕ → ℕ → Option ShiftOp
 shift_at funct3 funct7 =
     if funct7 == 0 then plain_shift_at funct3
     else if funct7 == 32 then other_shift_at funct3
     else None
 
+-- the operation on two registers of a funct3 with funct7 0
 abbrev pub plain_register_at : ℕ → Option RegisterOp
 plain_register_at funct3 =
     if funct3 == 0 then Some Add
@@ -85,44 +91,51 @@ plain_register_at funct3 =
     else if funct3 == 7 then Some And
     else None
 
+-- the operation on two registers of a funct3 with funct7 32
 abbrev pub other_register_at : ℕ → Option RegisterOp
 other_register_at funct3 =
     if funct3 == 0 then Some Sub
     else if funct3 == 5 then Some Sra
     else None
 
+-- the operation on two registers of a funct3 and a funct7
 abbrev pub register_at : ℕ → ℕ → Option RegisterOp
 register_at funct3 funct7 =
     if funct7 == 0 then plain_register_at funct3
     else if funct7 == 32 then other_register_at funct3
     else None
 
--- the instruction of a word with the opcode of its format
+-- JALR, of a word with its opcode
 abbrev pub jump_register_row : ℕ → Option Instr
 jump_register_row w =
     if field w 12 3 == 0 then Some (Jalr (field w 7 5) (field w 15 5) (field w 20 12))
     else None
 
+-- the branch of a word with the opcode BRANCH
 abbrev pub branch_row : ℕ → Option Instr
 branch_row w =
     option_map (λ op. Branch op (field w 15 5) (field w 20 5) (branch_offset w))
     (branch_at (field w 12 3))
 
+-- the load of a word with the opcode LOAD
 abbrev pub load_row : ℕ → Option Instr
 load_row w =
     option_map (λ op. Load op (field w 7 5) (field w 15 5) (field w 20 12))
     (load_at (field w 12 3))
 
+-- the store of a word with the opcode STORE
 abbrev pub store_row : ℕ → Option Instr
 store_row w =
     option_map (λ op. Store op (field w 15 5) (field w 20 5) (store_immediate w))
     (store_at (field w 12 3))
 
+-- the shift of a word with the opcode OP-IMM and this funct3
 abbrev pub shift_row : ℕ → ℕ → Option Instr
 shift_row funct3 w =
     option_map (λ op. Shift op (field w 7 5) (field w 15 5) (field w 20 5))
     (shift_at funct3 (field w 25 7))
 
+-- the operation of a word with the opcode OP-IMM
 abbrev pub immediate_row : ℕ → Option Instr
 immediate_row w =
     if field w 12 3 == 1 then shift_row 1 w
@@ -130,17 +143,20 @@ immediate_row w =
     else option_map (λ op. Immediate op (field w 7 5) (field w 15 5) (field w 20 12))
     (immediate_at (field w 12 3))
 
+-- the operation of a word with the opcode OP
 abbrev pub register_row : ℕ → Option Instr
 register_row w =
     option_map (λ op. Register op (field w 7 5) (field w 15 5) (field w 20 5))
     (register_at (field w 12 3) (field w 25 7))
 
+-- ECALL or EBREAK, of a word with the opcode SYSTEM
 abbrev pub system_row : ℕ → Option Instr
 system_row w =
     if w == 115 then Some Ecall
     else if w == 1048691 then Some Ebreak
     else None
 
+-- FENCE, of a word with the opcode MISC-MEM
 abbrev pub fence_row : ℕ → Option Instr
 fence_row w =
     if field w 12 3 == 0 then Some (Fence (fence_bits w))

@@ -55,18 +55,19 @@ immediate_funct3 Xori = 4
 immediate_funct3 Ori = 6
 immediate_funct3 Andi = 7
 
--- funct3 and funct7 of each shift by an immediate
+-- funct3 of each shift by an immediate
 abbrev pub shift_funct3 : ShiftOp → ℕ
 shift_funct3 Slli = 1
 shift_funct3 Srli = 5
 shift_funct3 Srai = 5
 
+-- funct7 of each shift by an immediate
 abbrev pub shift_funct7 : ShiftOp → ℕ
 shift_funct7 Slli = 0
 shift_funct7 Srli = 0
 shift_funct7 Srai = 32
 
--- funct3 and funct7 of each operation on two registers
+-- funct3 of each operation on two registers
 abbrev pub register_funct3 : RegisterOp → ℕ
 register_funct3 Add = 0
 register_funct3 Sub = 0
@@ -79,6 +80,7 @@ register_funct3 Sra = 5
 register_funct3 Or = 6
 register_funct3 And = 7
 
+-- funct7 of each operation on two registers
 abbrev pub register_funct7 : RegisterOp → ℕ
 register_funct7 Add = 0
 register_funct7 Sub = 32

@@ -7,9 +7,11 @@ use Rattle.dc_protocols.specs.declared.protocol.Protocol.TheVariants.{Cand, Cand
 use Rattle.dc_protocols.specs.declared.protocol.Rule.{Rule}
 use Rattle.dc_protocols.specs.declared.protocol.Since.{Since}
 
+-- at no event
 abbrev pub never : Bool
 never = false
 
+-- at readings of the clock and of random numbers
 abbrev pub at_clock_and_random : Kind → Bool
 at_clock_and_random Clock = true
 at_clock_and_random Random = true
@@ -21,17 +23,21 @@ at_inputs Input = true
 at_inputs Receive = true
 at_inputs _ = false
 
+-- at each event whose answer comes from outside
 abbrev pub at_every_nondeterministic : Kind → Bool
 at_every_nondeterministic kind = at_clock_and_random kind || at_inputs kind
 
+-- at outputs that users see
 abbrev pub at_visible : Kind → Bool
 at_visible Visible = true
 at_visible _ = false
 
+-- at messages that are sent
 abbrev pub at_sends : Kind → Bool
 at_sends Send = true
 at_sends _ = false
 
+-- at outputs and messages that are sent
 abbrev pub at_outputs : Kind → Bool
 at_outputs kind = at_visible kind || at_sends kind
 
