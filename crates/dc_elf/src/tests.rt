@@ -1,5 +1,6 @@
-//! Files written by the rules of the Executable and Linkable Format, and what each comes to. The rows of the tables are `what|size|fault`: a
-//! file with such fields or program headers has that fault, or none, in a memory of so many bytes. Their numbers are hexadecimal.
+//! Files written by the rules of the Executable and Linkable Format, and what each comes to. The rows of the tables are `what|fault`: a file
+//! with such fields or program headers has that fault, or none, in a memory of 64 bytes. A field is `place=word`. Numbers are hexadecimal,
+//! but for places.
 
 use crate::{ElfFault, LoadFault, load};
 use std::alloc::Global;
@@ -51,95 +52,95 @@ const GUEST_MEMORY: [u8; 64] = [
     0x00, 0x00, 0x00, 0x00, 0x00, 0x00, 0x00, 0x00, 0x00, 0x00, 0x00, 0x00, 0x00, 0x41, 0x42, 0x43,
 ];
 
-/// Flags: those of another instruction set are refused.
+/// Flags, at 36: those of another instruction set are refused.
 const FLAGS: &str = "\
-flags=0|40|
-flags=1|40|flags
-flags=2|40|flags
-flags=4|40|flags
-flags=6|40|flags
-flags=8|40|flags
-flags=9|40|flags
-flags=10|40|
-flags=10000|40|
-flags=fffffff0|40|
-flags=80000001|40|flags
-flags=80000008|40|flags
+36=0|
+36=1|flags
+36=2|flags
+36=4|flags
+36=6|flags
+36=8|flags
+36=9|flags
+36=10|
+36=10000|
+36=fffffff0|
+36=80000001|flags
+36=80000008|flags
 ";
 
-/// Program headers are of 32 bytes and in the file, which has 100.
+/// Program headers are of 32 bytes and in the file, which has 100. At 28 stands where they begin, at 42 their size and above it their number.
 const HEADERS: &str = "\
-offset=34 bytes=20 count=1|40|
-offset=34 bytes=1f count=1|40|headers
-offset=34 bytes=21 count=1|40|headers
-offset=34 bytes=120 count=1|40|headers
-offset=34 bytes=20 count=2|40|headers
-offset=44 bytes=20 count=1|40|
-offset=45 bytes=20 count=1|40|headers
-offset=64 bytes=20 count=1|40|headers
-offset=64 bytes=20 count=0|40|
-offset=34 bytes=1f count=0|40|
-offset=ffffffff bytes=0 count=0|40|
-offset=0 bytes=20 count=1|40|
-offset=4 bytes=20 count=3|40|
-offset=5 bytes=20 count=3|40|headers
-offset=ffffffe0 bytes=20 count=1|40|headers
-offset=fffffff0 bytes=20 count=1|40|headers
-offset=fff80000 bytes=20 count=4000|40|headers
-offset=34 bytes=20 count=fffe|40|headers
-offset=34 bytes=20 count=ffff|40|headers
-offset=0 bytes=1f count=ffff|40|headers
+28=34 42=10020|
+28=34 42=1001f|headers
+28=34 42=10021|headers
+28=34 42=10120|headers
+28=34 42=20020|headers
+28=44 42=10020|
+28=45 42=10020|headers
+28=64 42=10020|headers
+28=64 42=20|
+28=34 42=1f|
+28=ffffffff 42=0|
+28=0 42=10020|
+28=4 42=30020|
+28=5 42=30020|headers
+28=ffffffe0 42=10020|headers
+28=fffffff0 42=10020|headers
+28=fff80000 42=40000020|headers
+28=34 42=fffe0020|headers
+28=34 42=ffff0020|headers
+28=0 42=ffff001f|headers
 ";
 
-/// The entry is a word of the memory.
+/// The entry, at 24, is a word of the memory, whose size is in front.
 const ENTRIES: &str = "\
-entry=0|4|
-entry=0|3|entry
-entry=0|0|entry
-entry=38|40|
-entry=39|40|entry
-entry=3a|40|entry
-entry=3b|40|entry
-entry=3c|40|
-entry=3d|40|entry
-entry=3c|3f|entry
-entry=40|40|entry
-entry=fffffffc|40|entry
-entry=ffff|10000|entry
+4 24=0|
+3 24=0|entry
+0 24=0|entry
+40 24=38|
+40 24=39|entry
+40 24=3a|entry
+40 24=3b|entry
+40 24=3c|
+40 24=3d|entry
+3f 24=3c|entry
+40 24=40|entry
+40 24=fffffffc|entry
+10000 24=ffff|entry
 ";
 
 /// A segment, by its type, place, address, size in the file and size in memory, keeps to the file, which has 100 bytes, and to the memory.
 const SEGMENTS: &str = "\
-1 54 0 10 10|40|
-1 54 0 10 f|40|segment 0
-1 54 0 f 10|40|
-1 55 0 10 10|40|segment 0
-1 55 0 f f|40|
-1 64 0 0 10|40|
-1 65 0 0 10|40|segment 0
-1 fffffff0 0 20 20|40|segment 0
-1 fffffff0 0 10 10|40|segment 0
-1 54 30 10 10|40|
-1 54 31 10 10|40|segment 0
-1 0 0 0 40|40|
-1 0 0 0 41|40|segment 0
-1 0 40 0 1|40|segment 0
-1 0 fffffff0 0 20|40|segment 0
-1 0 fffffff0 0 10|40|segment 0
-1 fffffff0 fffffff0 0 0|40|
-1 54 0 1 0|40|segment 0
-0 fffffff0 fffffff0 20 10|40|
-101 fffffff0 fffffff0 20 10|40|
+1 54 0 10 10|
+1 54 0 10 f|segment 0
+1 54 0 f 10|
+1 55 0 10 10|segment 0
+1 55 0 f f|
+1 64 0 0 10|
+1 65 0 0 10|segment 0
+1 fffffff0 0 20 20|segment 0
+1 fffffff0 0 10 10|segment 0
+1 54 30 10 10|
+1 54 31 10 10|segment 0
+1 0 0 0 40|
+1 0 0 0 41|segment 0
+1 0 40 0 1|segment 0
+1 0 fffffff0 0 20|segment 0
+1 0 fffffff0 0 10|segment 0
+1 fffffff0 fffffff0 0 0|
+1 54 0 1 0|segment 0
+0 fffffff0 fffffff0 20 10|
+101 fffffff0 fffffff0 20 10|
 ";
 
 /// The first faulty segment is told. The file has 164 bytes.
 const FIRST: &str = "\
-1 94 0 10 10; 1 94 0 10 10; 1 94 0 10 10|40|
-2 95 31 10 f; 2 95 31 10 f; 2 95 31 10 f|40|
-1 94 0 10 10; 1 94 0 10 f; 1 94 31 10 10|40|segment 1
-1 94 31 10 10; 1 95 0 10 10; 1 94 0 10 10|40|segment 0
-2 95 31 10 f; 1 94 0 10 10; 1 95 0 10 10|40|segment 2
-2 95 31 10 f; 1 94 31 10 10; 1 94 0 10 f|40|segment 1
+1 94 0 10 10; 1 94 0 10 10; 1 94 0 10 10|
+2 95 31 10 f; 2 95 31 10 f; 2 95 31 10 f|
+1 94 0 10 10; 1 94 0 10 f; 1 94 31 10 10|segment 1
+1 94 31 10 10; 1 95 0 10 10; 1 94 0 10 10|segment 0
+2 95 31 10 f; 1 94 0 10 10; 1 95 0 10 10|segment 2
+2 95 31 10 f; 1 94 31 10 10; 1 94 0 10 f|segment 1
 ";
 
 /// A byte of the guest and another in its place, with the fault that comes of it, in the order of testing.
@@ -215,35 +216,22 @@ fn file_of(alloc: Global, parts: &[[u32; 5]]) -> Result<Vec<u8>, Fail> {
     Ok(file)
 }
 
+fn word_of(digits: &str) -> Result<u32, Fail> {
+    Ok(u32::from_str_radix(digits, 16)?)
+}
+
 fn put_field(file: &mut [u8], field: &str) -> Result<(), Fail> {
-    let Some((name, digits)) = field.split_once('=') else {
+    let Some((at, word)) = field.split_once('=') else {
         return Err(Fail::new(field));
     };
-    let value = u32::from_str_radix(digits, 16)?;
-    match name {
-        "entry" => put(file, 24, &value.to_le_bytes()),
-        "offset" => put(file, 28, &value.to_le_bytes()),
-        "flags" => put(file, 36, &value.to_le_bytes()),
-        "bytes" => put(file, 42, &u16::try_from(value)?.to_le_bytes()),
-        "count" => put(file, 44, &u16::try_from(value)?.to_le_bytes()),
-        _ => return Err(Fail::new(field)),
-    }
+    put(file, at.parse::<usize>()?, &word_of(word)?.to_le_bytes());
     Ok(())
 }
 
-/// The three parts of a row.
-fn parts_of(row: &str) -> Result<(&str, u32, &str), Fail> {
-    let Some((what, rest)) = row.split_once('|') else {
+fn has_fields(alloc: Global, base: &[u8], size: u32, row: &str) -> Result<(), Fail> {
+    let Some((fields, fault)) = row.split_once('|') else {
         return Err(Fail::new(row));
     };
-    let Some((size, fault)) = rest.split_once('|') else {
-        return Err(Fail::new(row));
-    };
-    Ok((what, u32::from_str_radix(size, 16)?, fault))
-}
-
-fn row_of_fields(alloc: Global, base: &[u8], row: &str) -> Result<(), Fail> {
-    let (fields, size, fault) = parts_of(row)?;
     let mut file = base.to_vec(alloc)?;
     for field in fields.split(' ') {
         put_field(&mut file, field)?;
@@ -251,34 +239,43 @@ fn row_of_fields(alloc: Global, base: &[u8], row: &str) -> Result<(), Fail> {
     is_told(alloc, &file, size, fault, row)
 }
 
-fn each_row_of_fields(alloc: Global, base: &[u8], rows: &str) -> Result<(), Fail> {
+fn each_has_fields(alloc: Global, base: &[u8], rows: &str) -> Result<(), Fail> {
     for row in rows.lines() {
-        row_of_fields(alloc, base, row)?;
+        has_fields(alloc, base, 64, row)?;
     }
     Ok(())
+}
+
+fn has_entry(alloc: Global, row: &str) -> Result<(), Fail> {
+    let Some((size, fields)) = row.split_once(' ') else {
+        return Err(Fail::new(row));
+    };
+    has_fields(alloc, &HEADER, word_of(size)?, fields)
 }
 
 fn part_of(text: &str) -> Result<[u32; 5], Fail> {
     let mut part = [0; 5];
     for (slot, digits) in part.iter_mut().zip(text.split_whitespace()) {
-        *slot = u32::from_str_radix(digits, 16)?;
+        *slot = word_of(digits)?;
     }
     Ok(part)
 }
 
-fn row_of_parts(alloc: Global, row: &str) -> Result<(), Fail> {
-    let (texts, size, fault) = parts_of(row)?;
+fn has_parts(alloc: Global, row: &str) -> Result<(), Fail> {
+    let Some((texts, fault)) = row.split_once('|') else {
+        return Err(Fail::new(row));
+    };
     let mut parts = Vec::new(alloc);
     for text in texts.split(';') {
         parts.push(part_of(text)?)?;
     }
     let file = file_of(alloc, &parts)?;
-    is_told(alloc, &file, size, fault, row)
+    is_told(alloc, &file, 64, fault, row)
 }
 
-fn each_row_of_parts(alloc: Global, rows: &str) -> Result<(), Fail> {
+fn each_has_parts(alloc: Global, rows: &str) -> Result<(), Fail> {
     for row in rows.lines() {
-        row_of_parts(alloc, row)?;
+        has_parts(alloc, row)?;
     }
     Ok(())
 }
@@ -350,12 +347,23 @@ fn earlier_is_told(
     is_told(alloc, &file, 64, first.2, later.2)
 }
 
+fn comes_first(
+    alloc: Global,
+    first: &(usize, u8, &str),
+    others: &[(usize, u8, &str)],
+) -> Result<(), Fail> {
+    change_is_told(alloc, first.0, first.1, first.2)?;
+    for later in others {
+        earlier_is_told(alloc, first, later)?;
+    }
+    Ok(())
+}
+
 #[test]
 fn the_first_fault_of_two_is_told(rt: HostRuntime) -> Result<(), Fail> {
-    for (i, first) in CHANGES.iter().enumerate() {
-        change_is_told(rt.alloc(), first.0, first.1, first.2)?;
-        for later in CHANGES.iter().skip(i + 1) {
-            earlier_is_told(rt.alloc(), first, later)?;
+    for i in 0..16usize {
+        if let [first, others @ ..] = &CHANGES[i..] {
+            comes_first(rt.alloc(), first, others)?;
         }
     }
     Ok(())
@@ -363,23 +371,23 @@ fn the_first_fault_of_two_is_told(rt: HostRuntime) -> Result<(), Fail> {
 
 #[test]
 fn flags_of_other_instructions_are_refused(rt: HostRuntime) -> Result<(), Fail> {
-    each_row_of_fields(rt.alloc(), &HEADER, FLAGS)
+    each_has_fields(rt.alloc(), &HEADER, FLAGS)
 }
 
 #[test]
 fn program_headers_are_of_32_bytes_and_in_the_file(rt: HostRuntime) -> Result<(), Fail> {
     let base = file_of(rt.alloc(), &[[1, 0, 0, 0, 0]])?;
-    each_row_of_fields(rt.alloc(), &base, HEADERS)
+    each_has_fields(rt.alloc(), &base, HEADERS)
 }
 
 #[test]
 fn a_segment_keeps_to_the_file_and_the_memory(rt: HostRuntime) -> Result<(), Fail> {
-    each_row_of_parts(rt.alloc(), SEGMENTS)
+    each_has_parts(rt.alloc(), SEGMENTS)
 }
 
 #[test]
 fn the_first_faulty_segment_is_told(rt: HostRuntime) -> Result<(), Fail> {
-    each_row_of_parts(rt.alloc(), FIRST)
+    each_has_parts(rt.alloc(), FIRST)
 }
 
 #[test]
@@ -393,7 +401,10 @@ fn the_number_of_a_segment_is_told(rt: HostRuntime) -> Result<(), Fail> {
 
 #[test]
 fn the_entry_is_a_word_of_the_memory(rt: HostRuntime) -> Result<(), Fail> {
-    each_row_of_fields(rt.alloc(), &HEADER, ENTRIES)
+    for row in ENTRIES.lines() {
+        has_entry(rt.alloc(), row)?;
+    }
+    Ok(())
 }
 
 #[test]
