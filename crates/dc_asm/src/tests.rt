@@ -349,10 +349,13 @@ fn push_text(source: &mut Vec<u8>, text: &str) -> Result<(), AllocError> {
     Ok(())
 }
 
+fn word_of(digits: &str) -> Result<u32, Fail> {
+    Ok(u32::from_str_radix(digits, 16)?)
+}
+
 fn push_word(code: &mut Vec<u8>, word: &str) -> Result<(), Fail> {
     if !word.is_empty() {
-        let word = u32::from_str_radix(word, 16)?;
-        code.extend_from_slice(&word.to_le_bytes())?;
+        code.extend_from_slice(&word_of(word)?.to_le_bytes())?;
     }
     Ok(())
 }

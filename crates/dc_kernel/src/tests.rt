@@ -107,15 +107,25 @@ fn holds(ok: bool, what: &str) -> Result<(), Fail> {
     if ok { Ok(()) } else { Err(Fail::new(what)) }
 }
 
+fn word_of(digits: &str) -> Result<u32, Fail> {
+    Ok(u32::from_str_radix(digits, 16)?)
+}
+
+fn set_word(words: &mut [u32], at: usize, word: u32) -> Result<(), Fail> {
+    match words.get_mut(at) {
+        Some(slot) => {
+            *slot = word;
+            Ok(())
+        }
+        None => Err(Fail::new("a place past the end")),
+    }
+}
+
 fn set_place(words: &mut [u32], place: &str) -> Result<(), Fail> {
     let Some((at, word)) = place.split_once('=') else {
         return Err(Fail::new(place));
     };
-    match words.get_mut(at.parse::<usize>()?) {
-        Some(slot) => *slot = u32::from_str_radix(word, 16)?,
-        None => return Err(Fail::new(place)),
-    }
-    Ok(())
+    set_word(words, at.parse::<usize>()?, word_of(word)?)
 }
 
 fn set(words: &mut [u32], places: &str) -> Result<(), Fail> {
@@ -220,15 +230,13 @@ fn a_new_kernel_has_done_nothing(rt: HostRuntime) -> Result<(), Fail> {
     has_text(rt.alloc(), &kernel, "0=1 1=1")
 }
 
-fn one(alloc: Global) -> Result<Kernel, AllocError> {
-    let mut kernel = Kernel::new(alloc, 1, 0)?;
+fn become_one(kernel: &mut Kernel) {
     kernel.set_status(Status::Exited(7));
     kernel.set_commit(3);
     kernel.set_position(1000);
     kernel.set_visible(2);
     kernel.set_place(5);
     kernel.set_regs(Regs { x: X, pc: 0x104 });
-    Ok(kernel)
 }
 
 fn has_values_of_one(kernel: &Kernel) -> Result<(), Fail> {
@@ -242,7 +250,8 @@ fn has_values_of_one(kernel: &Kernel) -> Result<(), Fail> {
 
 #[test]
 fn a_kernel_of_one_has_its_text(rt: HostRuntime) -> Result<(), Fail> {
-    let kernel = one(rt.alloc())?;
+    let mut kernel = Kernel::new(rt.alloc(), 1, 0)?;
+    become_one(&mut kernel);
     has_text(rt.alloc(), &kernel, ONE)?;
     let mut other = Kernel::new(rt.alloc(), 1, 0)?;
     answers(rt.alloc(), &mut other, ONE, "", "")?;
@@ -286,14 +295,11 @@ fn keep_numbered(kernel: &mut Kernel, from: u8, end: u8) -> Result<(), Fail> {
     Ok(())
 }
 
-fn ten_sent(alloc: Global) -> Result<Kernel, Fail> {
-    let mut kernel = Kernel::new(alloc, 2, 0)?;
-    kernel.set_commit(1);
-    kernel.set_received(1, 9);
-    keep_numbered(&mut kernel, 0, 8)?;
-    trim(&mut kernel, 1, 2)?;
-    keep_numbered(&mut kernel, 8, 10)?;
-    Ok(kernel)
+/// Sends process 1 ten messages, and drops two of them before the last two.
+fn send_ten(kernel: &mut Kernel) -> Result<(), Fail> {
+    keep_numbered(kernel, 0, 8)?;
+    trim(kernel, 1, 2)?;
+    keep_numbered(kernel, 8, 10)
 }
 
 fn keeps_the_last(kernel: &Kernel) -> Result<(), Fail> {
@@ -304,7 +310,10 @@ fn keeps_the_last(kernel: &Kernel) -> Result<(), Fail> {
 
 #[test]
 fn slots_hold_the_last_messages(rt: HostRuntime) -> Result<(), Fail> {
-    let kernel = ten_sent(rt.alloc())?;
+    let mut kernel = Kernel::new(rt.alloc(), 2, 0)?;
+    kernel.set_commit(1);
+    kernel.set_received(1, 9);
+    send_ten(&mut kernel)?;
     has_text(rt.alloc(), &kernel, TWO)?;
     let mut other = Kernel::new(rt.alloc(), 2, 0)?;
     answers(rt.alloc(), &mut other, TWO, "", "")?;
