@@ -1,143 +1,212 @@
 ghost use Rattle.std.specs.Prelude.{◌≡◌, ◌<◌, length};
 
 use crate::{Links, Message};
-use std::process::Abort;
 use std::test::Fail;
 
+fn holds(ok: bool, what: &str) -> Result<(), Fail> {
+    if ok { Ok(()) } else { Err(Fail::new(what)) }
+}
+
 /// Keeps a message of these bytes.
-fn keep(rt: &impl Abort, links: &mut Links, q: u32, bytes: &[u8])
+fn keep(links: &mut Links, q: u32, bytes: &[u8]) -> Result<(), Fail>
     requires { q < length links.old }
     ensures { length links.new ≡ length links.old }
 {
-    assert!(rt; bytes.len() <= 64);
-    assert!(rt; !links.is_full(q));
-    assert!(rt; links.sent(q) < u32::MAX);
+    if bytes.len() > 64 || links.is_full(q) || links.sent(q) == u32::MAX {
+        return Err(Fail::new("no room"));
+    }
     links.keep(q, &Message::new(bytes));
+    Ok(())
 }
 
 /// Keeps a message of each of these bytes.
-fn keep_each(rt: &impl Abort, links: &mut Links, q: u32, bytes: &[u8])
+fn keep_each(links: &mut Links, q: u32, bytes: &[u8]) -> Result<(), Fail>
     requires { q < length links.old }
     ensures { length links.new ≡ length links.old }
 {
     for byte in bytes {
-        keep(rt, links, q, &[*byte]);
+        keep(links, q, &[*byte])?;
     }
+    Ok(())
 }
 
 /// Whether the message of this number is kept, with these bytes.
-fn has(links: &Links, q: u32, number: u32, bytes: &[u8]) -> bool
+fn has(links: &Links, q: u32, number: u32, bytes: &[u8]) -> Result<(), Fail>
     requires { q < length links.now }
 {
     match links.next_for(q, number) {
-        Some(message) => message.as_slice() == bytes,
-        None => false,
+        Some(message) => holds(message.as_slice() == bytes, "another message"),
+        None => Err(Fail::new("no message")),
     }
 }
 
 /// Whether no message of this number is kept.
-fn lacks(links: &Links, q: u32, number: u32) -> bool
+fn lacks(links: &Links, q: u32, number: u32) -> Result<(), Fail>
     requires { q < length links.now }
 {
-    links.next_for(q, number).is_none()
+    holds(links.next_for(q, number).is_none(), "a message")
+}
+
+/// Whether so many were sent, and so many of them are kept.
+fn counts(links: &Links, q: u32, sent: u32, kept: u32) -> Result<(), Fail>
+    requires { q < length links.now }
+{
+    holds(links.sent(q) == sent, "how many were sent")?;
+    holds(links.kept_count(q) == kept, "how many are kept")
+}
+
+fn is_full(links: &Links, q: u32, full: bool) -> Result<(), Fail>
+    requires { q < length links.now }
+{
+    holds(links.is_full(q) == full, "full")
+}
+
+/// Whether a message is these bytes, with zeros after them up to 64.
+fn is_message(message: &Message, bytes: &[u8]) -> Result<(), Fail> {
+    holds(message.as_slice() == bytes, "the bytes")?;
+    holds(message.as_padded().len() == 64, "the room")?;
+    match message.as_padded().strip_prefix(bytes) {
+        Some(rest) => holds(rest.iter().all(|byte| *byte == 0), "the zeros"),
+        None => Err(Fail::new("the bytes in their room")),
+    }
 }
 
 #[test]
-fn a_message_is_its_bytes_and_zeros_after_them(rt: HostRuntime) {
-    let none = Message::new(&[]);
-    assert_eq!(rt; none.as_slice(), [].as_slice());
-    assert_eq!(rt; none.as_padded(), [0; 64].as_slice());
-    let three = Message::new(b"abc");
-    assert_eq!(rt; three.as_slice(), b"abc".as_slice());
-    assert_eq!(rt; three.as_padded().len(), 64);
-    assert_eq!(rt; &three.as_padded()[..4], b"abc\0".as_slice());
-    assert_eq!(rt; three.as_padded()[63], 0);
+fn a_message_is_its_bytes_and_zeros_after_them() -> Result<(), Fail> {
+    is_message(&Message::new(&[]), &[])?;
+    is_message(&Message::new(b"abc"), b"abc")?;
+    is_message(&Message::new(&[7; 64]), &[7; 64])
+}
+
+#[test]
+fn messages_differ_by_their_bytes() -> Result<(), Fail> {
     let full = Message::new(&[7; 64]);
-    assert_eq!(rt; full.as_slice(), [7; 64].as_slice());
-    assert_eq!(rt; full.as_padded(), [7; 64].as_slice());
     let copy = full;
-    assert!(rt; copy == full);
-    assert!(rt; copy != three);
-    assert!(rt; Message::new(b"a") != Message::new(b"a\0"));
+    holds(copy == full, "a copy")?;
+    holds(copy != Message::new(b"abc"), "other bytes")?;
+    holds(Message::new(b"a") != Message::new(b"a\0"), "a zero more")
+}
+
+fn is_unused(links: &Links, q: u32) -> Result<(), Fail>
+    requires { q < length links.now }
+{
+    lacks(links, q, 0)?;
+    is_full(links, q, false)?;
+    counts(links, q, 0, 0)?;
+    holds(links.kept(q, 0).is_none(), "a message at the first place")
 }
 
 #[test]
 fn nothing_is_sent_at_first(rt: HostRuntime) -> Result<(), Fail> {
     let links = Links::new(rt.alloc(), 2)?;
-    for q in 0..2 {
-        assert!(rt; lacks(&links, q, 0));
-        assert!(rt; !links.is_full(q));
-        assert_eq!(rt; links.sent(q), 0);
-        assert_eq!(rt; links.kept_count(q), 0);
-        assert!(rt; links.kept(q, 0).is_none());
-    }
+    is_unused(&links, 0)?;
+    is_unused(&links, 1)?;
     let _one = Links::new(rt.alloc(), 1)?;
     let _eight = Links::new(rt.alloc(), 8)?;
     Ok(())
 }
 
+fn fill(links: &mut Links) -> Result<(), Fail>
+    requires { length links.old ≡ 2 }
+    ensures { length links.new ≡ 2 }
+{
+    keep_each(links, 0, &[10, 11, 12, 13, 14, 15, 16])?;
+    is_full(links, 0, false)?;
+    keep(links, 0, &[])?;
+    is_full(links, 0, true)
+}
+
+fn has_eight(links: &Links) -> Result<(), Fail>
+    requires { length links.now ≡ 2 }
+{
+    has(links, 0, 0, &[10])?;
+    has(links, 0, 6, &[16])?;
+    has(links, 0, 7, &[])?;
+    lacks(links, 0, 8)?;
+    is_full(links, 1, false)?;
+    lacks(links, 1, 0)
+}
+
 #[test]
 fn eight_are_kept_for_each_receiver(rt: HostRuntime) -> Result<(), Fail> {
     let mut links = Links::new(rt.alloc(), 2)?;
-    keep_each(&rt, &mut links, 0, &[10, 11, 12, 13, 14, 15, 16]);
-    assert!(rt; !links.is_full(0));
-    keep(&rt, &mut links, 0, &[]);
-    assert!(rt; links.is_full(0));
-    assert!(rt; has(&links, 0, 0, &[10]));
-    assert!(rt; has(&links, 0, 6, &[16]));
-    assert!(rt; has(&links, 0, 7, &[]));
-    assert!(rt; lacks(&links, 0, 8));
-    assert!(rt; !links.is_full(1));
-    assert!(rt; lacks(&links, 1, 0));
-    keep(&rt, &mut links, 1, &[9; 64]);
-    assert!(rt; has(&links, 1, 0, &[9; 64]));
-    assert_eq!(rt; links.sent(0), 8);
-    assert_eq!(rt; links.sent(1), 1);
-    Ok(())
+    fill(&mut links)?;
+    has_eight(&links)?;
+    keep(&mut links, 1, &[9; 64])?;
+    has(&links, 1, 0, &[9; 64])?;
+    counts(&links, 0, 8, 8)?;
+    counts(&links, 1, 1, 1)
+}
+
+/// Eight messages, of which the first five are dropped.
+fn drop_five(links: &mut Links) -> Result<(), Fail>
+    requires { length links.old ≡ 2 }
+    ensures { length links.new ≡ 2 }
+{
+    keep_each(links, 0, &[0, 1, 2, 3, 4, 5, 6, 7])?;
+    links.trim(0, 1);
+    lacks(links, 0, 0)?;
+    has(links, 0, 1, &[1])?;
+    links.trim(0, 5);
+    links.trim(0, 3);
+    counts(links, 0, 8, 3)
+}
+
+/// Five messages more.
+fn go_on(links: &mut Links) -> Result<(), Fail>
+    requires { length links.old ≡ 2 }
+    ensures { length links.new ≡ 2 }
+{
+    keep_each(links, 0, &[8, 9, 10, 11, 12])?;
+    is_full(links, 0, true)?;
+    lacks(links, 0, 4)?;
+    has(links, 0, 5, &[5])?;
+    has(links, 0, 8, &[8])?;
+    has(links, 0, 12, &[12])?;
+    lacks(links, 0, 13)
+}
+
+/// All are dropped, and one is sent.
+fn drop_all(links: &mut Links) -> Result<(), Fail>
+    requires { length links.old ≡ 2 }
+    ensures { length links.new ≡ 2 }
+{
+    links.trim(0, u32::MAX);
+    counts(links, 0, 13, 0)?;
+    lacks(links, 0, 12)?;
+    keep(links, 0, b"next")?;
+    has(links, 0, 13, b"next")
 }
 
 #[test]
 fn numbers_go_on_round_the_ring(rt: HostRuntime) -> Result<(), Fail> {
     let mut links = Links::new(rt.alloc(), 2)?;
-    keep(&rt, &mut links, 1, b"other");
-    keep_each(&rt, &mut links, 0, &[0, 1, 2, 3, 4, 5, 6, 7]);
-    links.trim(0, 1);
-    assert!(rt; lacks(&links, 0, 0));
-    assert!(rt; has(&links, 0, 1, &[1]));
-    links.trim(0, 5);
-    links.trim(0, 3);
-    assert_eq!(rt; links.kept_count(0), 3);
-    keep_each(&rt, &mut links, 0, &[8, 9, 10, 11, 12]);
-    assert!(rt; links.is_full(0));
-    assert!(rt; lacks(&links, 0, 4));
-    assert!(rt; has(&links, 0, 5, &[5]));
-    assert!(rt; has(&links, 0, 8, &[8]));
-    assert!(rt; has(&links, 0, 12, &[12]));
-    assert!(rt; lacks(&links, 0, 13));
-    links.trim(0, u32::MAX);
-    assert_eq!(rt; links.kept_count(0), 0);
-    assert_eq!(rt; links.sent(0), 13);
-    assert!(rt; lacks(&links, 0, 12));
-    keep(&rt, &mut links, 0, b"next");
-    assert!(rt; has(&links, 0, 13, b"next"));
-    assert!(rt; has(&links, 1, 0, b"other"));
-    assert_eq!(rt; links.sent(1), 1);
-    Ok(())
+    keep(&mut links, 1, b"other")?;
+    drop_five(&mut links)?;
+    go_on(&mut links)?;
+    drop_all(&mut links)?;
+    has(&links, 1, 0, b"other")?;
+    counts(&links, 1, 1, 1)
+}
+
+fn restart(links: &mut Links) -> Result<(), Fail>
+    requires { length links.old ≡ 2 }
+    ensures { length links.new ≡ 2 }
+{
+    links.restart(0, 41);
+    counts(links, 0, 41, 0)?;
+    lacks(links, 0, 7)?;
+    lacks(links, 0, 41)?;
+    keep(links, 0, b"next")?;
+    has(links, 0, 41, b"next")
 }
 
 #[test]
 fn a_link_restarts_at_a_number(rt: HostRuntime) -> Result<(), Fail> {
     let mut links = Links::new(rt.alloc(), 2)?;
-    keep_each(&rt, &mut links, 0, &[0, 1, 2, 3, 4, 5, 6, 7]);
-    keep(&rt, &mut links, 1, b"other");
-    links.restart(0, 41);
-    assert_eq!(rt; links.sent(0), 41);
-    assert_eq!(rt; links.kept_count(0), 0);
-    assert!(rt; lacks(&links, 0, 7));
-    assert!(rt; lacks(&links, 0, 41));
-    keep(&rt, &mut links, 0, b"next");
-    assert!(rt; has(&links, 0, 41, b"next"));
-    assert!(rt; has(&links, 1, 0, b"other"));
-    assert_eq!(rt; links.sent(1), 1);
-    Ok(())
+    keep_each(&mut links, 0, &[0, 1, 2, 3, 4, 5, 6, 7])?;
+    keep(&mut links, 1, b"other")?;
+    restart(&mut links)?;
+    has(&links, 1, 0, b"other")?;
+    counts(&links, 1, 1, 1)
 }

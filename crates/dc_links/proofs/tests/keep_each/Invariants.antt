@@ -2,4 +2,4 @@ use Rattle.std.proofs.Common.{◌≡◌, length}
 use Rattle.dc_links.proofs.tests.keep_each.Given as goal
 
 abbrev pub invariant-loop-byte : goal.invariant-loop-byte
-invariant-loop-byte g l = length l.links ≡ length l.fn.links
+invariant-loop-byte l = length l.links ≡ length l.fn.links
