@@ -1,137 +1,188 @@
-use crate::{BAD_ARGUMENT, Call, END_OF_INPUT, NOTHING_YET, Reply, UNKNOWN, answer, read_call};
-use dc_isa::Regs;
+//! What registers ask for. A row is `number x10 x11 x12 size p n|call`: of guest p of n, in a memory of that size.
 
-/// Registers whose x17, x10 and x11 are these; each other one is its own number.
-fn asking(number: u32, first: u32, second: u32) -> Regs {
+use crate::{BAD_ARGUMENT, END_OF_INPUT, NOTHING_YET, Reply, UNKNOWN, answer, read_call};
+use dc_isa::Regs;
+use std::alloc::Global;
+use std::test::Fail;
+
+/// A guest ends with any code.
+const ENDS: &str = "\
+1 0 7 12 4096 0 1|Exit(0)
+1 0 4294967295 12 0 7 8|Exit(0)
+1 1 7 12 4096 0 1|Exit(1)
+1 1 4294967295 12 0 7 8|Exit(1)
+1 255 7 12 4096 0 1|Exit(255)
+1 255 4294967295 12 0 7 8|Exit(255)
+1 256 7 12 4096 0 1|Exit(256)
+1 256 4294967295 12 0 7 8|Exit(256)
+1 4294967295 7 12 4096 0 1|Exit(4294967295)
+1 4294967295 4294967295 12 0 7 8|Exit(4294967295)
+";
+
+/// An output lies in memory and has at most 256 bytes.
+const OUTPUTS: &str = "\
+2 0 0 12 4096 0 1|Output(0, 0)
+2 0 256 12 4096 0 1|Output(0, 256)
+2 3840 256 12 4096 0 1|Output(3840, 256)
+2 4095 1 12 4096 0 1|Output(4095, 1)
+2 4096 0 12 4096 0 1|Output(4096, 0)
+2 1023 3 12 4096 0 1|Output(1023, 3)
+2 0 257 12 4096 0 1|BadArgument
+2 3841 256 12 4096 0 1|BadArgument
+2 4096 1 12 4096 0 1|BadArgument
+2 4097 0 12 4096 0 1|BadArgument
+2 4294967295 1 12 4096 0 1|BadArgument
+2 1 4294967295 12 4096 0 1|BadArgument
+";
+
+/// Records and messages want room for 64 bytes.
+const RECORDS: &str = "\
+3 0 64 12 4096 0 1|Input(0, 64)
+7 0 64 12 4096 0 1|Receive(0, 64)
+3 4032 64 12 4096 0 1|Input(4032, 64)
+7 4032 64 12 4096 0 1|Receive(4032, 64)
+3 0 4096 12 4096 0 1|Input(0, 4096)
+7 0 4096 12 4096 0 1|Receive(0, 4096)
+3 1 4095 12 4096 0 1|Input(1, 4095)
+7 1 4095 12 4096 0 1|Receive(1, 4095)
+3 0 63 12 4096 0 1|BadArgument
+7 0 63 12 4096 0 1|BadArgument
+3 0 0 12 4096 0 1|BadArgument
+7 0 0 12 4096 0 1|BadArgument
+3 4033 64 12 4096 0 1|BadArgument
+7 4033 64 12 4096 0 1|BadArgument
+3 1 4096 12 4096 0 1|BadArgument
+7 1 4096 12 4096 0 1|BadArgument
+3 4294967295 64 12 4096 0 1|BadArgument
+7 4294967295 64 12 4096 0 1|BadArgument
+3 64 4294967295 12 4096 0 1|BadArgument
+7 64 4294967295 12 4096 0 1|BadArgument
+";
+
+/// The clock, a random word and the number have no arguments.
+const BARE: &str = "\
+4 0 0 12 0 2 3|Clock
+4 1 1 12 0 2 3|Clock
+4 4294967295 4294967295 12 0 2 3|Clock
+5 0 0 12 0 2 3|Random
+5 1 1 12 0 2 3|Random
+5 4294967295 4294967295 12 0 2 3|Random
+8 0 0 12 0 2 3|Own
+8 1 1 12 0 2 3|Own
+8 4294967295 4294967295 12 0 2 3|Own
+";
+
+/// A message goes to another guest and has at most 64 bytes.
+const SENDS: &str = "\
+6 0 0 0 4096 2 3|Send(0, 0, 0)
+6 1 4032 64 4096 2 3|Send(1, 4032, 64)
+6 0 4096 0 4096 2 3|Send(0, 4096, 0)
+6 1 4095 1 4096 2 3|Send(1, 4095, 1)
+6 2 0 1 4096 2 3|BadArgument
+6 3 0 1 4096 2 3|BadArgument
+6 4294967295 0 1 4096 2 3|BadArgument
+6 0 0 65 4096 2 3|BadArgument
+6 0 4033 64 4096 2 3|BadArgument
+6 1 4097 0 4096 2 3|BadArgument
+6 1 4294967295 1 4096 2 3|BadArgument
+6 1 1 4294967295 4096 2 3|BadArgument
+";
+
+/// Other numbers are unknown.
+const UNKNOWNS: &str = "\
+0 0 0 12 4096 0 1|Unknown
+9 0 0 12 4096 0 1|Unknown
+258 0 0 12 4096 0 1|Unknown
+2147483649 0 0 12 4096 0 1|Unknown
+4294967295 0 0 12 4096 0 1|Unknown
+";
+
+fn holds(ok: bool, what: &str) -> Result<(), Fail> {
+    if ok { Ok(()) } else { Err(Fail::new(what)) }
+}
+
+/// Registers whose x17, x10, x11 and x12 are these; each other one is its own number.
+fn asking(number: u32, first: u32, second: u32, third: u32) -> Regs {
     Regs {
         x: [
-            0, 1, 2, 3, 4, 5, 6, 7, 8, 9, first, second, 12, 13, 14, 15, 16, number, 18, 19, 20,
+            0, 1, 2, 3, 4, 5, 6, 7, 8, 9, first, second, third, 13, 14, 15, 16, number, 18, 19, 20,
             21, 22, 23, 24, 25, 26, 27, 28, 29, 30, 31,
         ],
         pc: 0xffff_fff8,
     }
 }
 
-#[test]
-fn a_guest_ends_with_any_code(rt: HostRuntime) {
-    for code in [0, 1, 255, 256, 0xffff_ffff] {
-        assert_eq!(rt;
-            read_call(&asking(1, code, 7), 4096, 0, 1),
-            Call::Exit(code)
-        );
-        assert_eq!(rt;
-            read_call(&asking(1, code, 0xffff_ffff), 0, 7, 8),
-            Call::Exit(code)
-        );
+/// The numbers of a row, with zeros where there are fewer.
+fn numbers_of(text: &str) -> Result<[u32; 7], Fail> {
+    let mut numbers = [0; 7];
+    for (slot, digits) in numbers.iter_mut().zip(text.split_whitespace()) {
+        *slot = digits.parse::<u32>()?;
     }
+    Ok(numbers)
+}
+
+fn is_asked(alloc: Global, numbers: &[u32; 7], call: &str) -> Result<(), Fail> {
+    let [number, first, second, third, size, p, n] = *numbers;
+    let asked = read_call(&asking(number, first, second, third), size, p, n);
+    let text = format!(in alloc; "{asked:?}")?;
+    holds(text.as_str() == call, call)
+}
+
+fn row_holds(alloc: Global, row: &str) -> Result<(), Fail> {
+    let Some((numbers, call)) = row.split_once('|') else {
+        return Err(Fail::new(row));
+    };
+    is_asked(alloc, &numbers_of(numbers)?, call)
+}
+
+fn each_row(alloc: Global, rows: &str) -> Result<(), Fail> {
+    for row in rows.lines() {
+        row_holds(alloc, row)?;
+    }
+    Ok(())
 }
 
 #[test]
-fn an_output_lies_in_memory_and_has_at_most_256_bytes(rt: HostRuntime) {
-    for (from, count) in [
-        (0, 0),
-        (0, 256),
-        (3840, 256),
-        (4095, 1),
-        (4096, 0),
-        (1023, 3),
-    ] {
-        assert_eq!(rt;
-            read_call(&asking(2, from, count), 4096, 0, 1),
-            Call::Output(from, count)
-        );
-    }
-    for (from, count) in [
-        (0, 257),
-        (3841, 256),
-        (4096, 1),
-        (4097, 0),
-        (0xffff_ffff, 1),
-        (1, 0xffff_ffff),
-    ] {
-        assert_eq!(rt;
-            read_call(&asking(2, from, count), 4096, 0, 1),
-            Call::BadArgument
-        );
-    }
+fn a_guest_ends_with_any_code(rt: HostRuntime) -> Result<(), Fail> {
+    each_row(rt.alloc(), ENDS)
 }
 
 #[test]
-fn records_and_messages_want_room_for_64_bytes(rt: HostRuntime) {
-    for (to, room) in [(0, 64), (4032, 64), (0, 4096), (1, 4095)] {
-        let asked = [3, 7].map(|number| read_call(&asking(number, to, room), 4096, 0, 1));
-        assert_eq!(rt; asked, [Call::Input(to, room), Call::Receive(to, room)]);
-    }
-    for (to, room) in [
-        (0, 63),
-        (0, 0),
-        (4033, 64),
-        (1, 4096),
-        (0xffff_ffff, 64),
-        (64, 0xffff_ffff),
-    ] {
-        let asked = [3, 7].map(|number| read_call(&asking(number, to, room), 4096, 0, 1));
-        assert_eq!(rt; asked, [Call::BadArgument, Call::BadArgument]);
-    }
+fn an_output_lies_in_memory_and_has_at_most_256_bytes(rt: HostRuntime) -> Result<(), Fail> {
+    each_row(rt.alloc(), OUTPUTS)
 }
 
 #[test]
-fn clock_random_word_and_number_have_no_arguments(rt: HostRuntime) {
-    for (number, call) in [(4, Call::Clock), (5, Call::Random), (8, Call::Own)] {
-        for argument in [0, 1, 0xffff_ffff] {
-            assert_eq!(rt;
-                read_call(&asking(number, argument, argument), 0, 2, 3),
-                call
-            );
-        }
-    }
-}
-
-/// Guest 2 of 3 sends so many bytes from an address to a guest.
-fn sending(to: u32, from: u32, count: u32) -> Call {
-    let mut regs = asking(6, to, from);
-    regs.x[12] = count;
-    read_call(&regs, 4096, 2, 3)
+fn records_and_messages_want_room_for_64_bytes(rt: HostRuntime) -> Result<(), Fail> {
+    each_row(rt.alloc(), RECORDS)
 }
 
 #[test]
-fn a_message_goes_to_another_guest_and_has_at_most_64_bytes(rt: HostRuntime) {
-    for (to, from, count) in [(0, 0, 0), (1, 4032, 64), (0, 4096, 0), (1, 4095, 1)] {
-        assert_eq!(rt; sending(to, from, count), Call::Send(to, from, count));
-    }
-    for (to, from, count) in [
-        (2, 0, 1),
-        (3, 0, 1),
-        (0xffff_ffff, 0, 1),
-        (0, 0, 65),
-        (0, 4033, 64),
-        (1, 4097, 0),
-        (1, 0xffff_ffff, 1),
-        (1, 1, 0xffff_ffff),
-    ] {
-        assert_eq!(rt; sending(to, from, count), Call::BadArgument);
-    }
+fn clock_random_word_and_number_have_no_arguments(rt: HostRuntime) -> Result<(), Fail> {
+    each_row(rt.alloc(), BARE)
 }
 
 #[test]
-fn other_numbers_are_unknown(rt: HostRuntime) {
-    for number in [0, 9, 258, 0x8000_0001, 0xffff_ffff] {
-        assert_eq!(rt; read_call(&asking(number, 0, 0), 4096, 0, 1), Call::Unknown);
-    }
+fn a_message_goes_to_another_guest_and_has_at_most_64_bytes(rt: HostRuntime) -> Result<(), Fail> {
+    each_row(rt.alloc(), SENDS)
 }
 
 #[test]
-fn an_answer_moves_on(rt: HostRuntime) {
-    // -1, -2, -3 and -9 in 32 bits.
-    assert_eq!(rt;
-        [NOTHING_YET, END_OF_INPUT, BAD_ARGUMENT, UNKNOWN],
-        [4294967295, 4294967294, 4294967293, 4294967287]
-    );
-    let mut regs = asking(2, 100, 200);
+fn other_numbers_are_unknown(rt: HostRuntime) -> Result<(), Fail> {
+    each_row(rt.alloc(), UNKNOWNS)
+}
+
+fn are(regs: &Regs, first: u32, second: u32, pc: u32) -> Result<(), Fail> {
+    let want = asking(2, first, second, 12);
+    holds(regs.x == want.x, "the registers")?;
+    holds(regs.pc == pc, "the next instruction")
+}
+
+#[test]
+fn an_answer_moves_on() -> Result<(), Fail> {
+    let mut regs = asking(2, 100, 200, 12);
     answer(&mut regs, &Reply { x10: 5, x11: None });
-    let want = asking(2, 5, 200);
-    assert_eq!(rt; regs.x, want.x);
-    assert_eq!(rt; regs.pc, 0xffff_fffc);
+    are(&regs, 5, 200, 0xffff_fffc)?;
     answer(
         &mut regs,
         &Reply {
@@ -139,7 +190,14 @@ fn an_answer_moves_on(rt: HostRuntime) {
             x11: Some(0),
         },
     );
-    let want = asking(2, 6, 0);
-    assert_eq!(rt; regs.x, want.x);
-    assert_eq!(rt; regs.pc, 0);
+    are(&regs, 6, 0, 0)
+}
+
+#[test]
+fn results_are_negative_numbers() -> Result<(), Fail> {
+    // -1, -2, -3 and -9 in 32 bits.
+    holds(NOTHING_YET == 4294967295, "nothing yet")?;
+    holds(END_OF_INPUT == 4294967294, "the end of the input")?;
+    holds(BAD_ARGUMENT == 4294967293, "a bad argument")?;
+    holds(UNKNOWN == 4294967287, "an unknown call")
 }
