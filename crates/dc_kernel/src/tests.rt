@@ -230,12 +230,20 @@ fn a_new_kernel_has_done_nothing(rt: HostRuntime) -> Result<(), Fail> {
     has_text(rt.alloc(), &kernel, "0=1 1=1")
 }
 
-fn become_one(kernel: &mut Kernel) {
-    kernel.set_status(Status::Exited(7));
+fn set_counts(kernel: &mut Kernel) {
     kernel.set_commit(3);
     kernel.set_position(1000);
+}
+
+fn set_places(kernel: &mut Kernel) {
     kernel.set_visible(2);
     kernel.set_place(5);
+}
+
+fn become_one(kernel: &mut Kernel) {
+    kernel.set_status(Status::Exited(7));
+    set_counts(kernel);
+    set_places(kernel);
     kernel.set_regs(Regs { x: X, pc: 0x104 });
 }
 
@@ -295,6 +303,16 @@ fn keep_numbered(kernel: &mut Kernel, from: u8, end: u8) -> Result<(), Fail> {
     Ok(())
 }
 
+/// At its first commit, with nine messages received from process 1.
+fn receive_nine(kernel: &mut Kernel) -> Result<(), Fail> {
+    if kernel.n() <= 1 || kernel.p() == 1 {
+        return Err(Fail::new("no sender"));
+    }
+    kernel.set_commit(1);
+    kernel.set_received(1, 9);
+    Ok(())
+}
+
 /// Sends process 1 ten messages, and drops two of them before the last two.
 fn send_ten(kernel: &mut Kernel) -> Result<(), Fail> {
     keep_numbered(kernel, 0, 8)?;
@@ -311,13 +329,16 @@ fn keeps_the_last(kernel: &Kernel) -> Result<(), Fail> {
 #[test]
 fn slots_hold_the_last_messages(rt: HostRuntime) -> Result<(), Fail> {
     let mut kernel = Kernel::new(rt.alloc(), 2, 0)?;
-    kernel.set_commit(1);
-    kernel.set_received(1, 9);
+    receive_nine(&mut kernel)?;
     send_ten(&mut kernel)?;
-    has_text(rt.alloc(), &kernel, TWO)?;
-    let mut other = Kernel::new(rt.alloc(), 2, 0)?;
-    answers(rt.alloc(), &mut other, TWO, "", "")?;
-    keeps_the_last(&other)
+    has_text(rt.alloc(), &kernel, TWO)
+}
+
+#[test]
+fn the_last_messages_are_read(rt: HostRuntime) -> Result<(), Fail> {
+    let mut kernel = Kernel::new(rt.alloc(), 2, 0)?;
+    answers(rt.alloc(), &mut kernel, TWO, "", "")?;
+    keeps_the_last(&kernel)
 }
 
 fn row_holds(alloc: Global, kernel: &mut Kernel, row: &str) -> Result<(), Fail> {
@@ -342,7 +363,12 @@ fn three_are_not_kept_of_two(rt: HostRuntime) -> Result<(), Fail> {
     let mut kernel = Kernel::new(rt.alloc(), 2, 0)?;
     answers(rt.alloc(), &mut kernel, THREE, "181=2", "count")?;
     answers(rt.alloc(), &mut kernel, THREE, "", "")?;
-    holds(has(&kernel, 1, 2, b""), "message 2")?;
+    holds(has(&kernel, 1, 2, b""), "message 2")
+}
+
+#[test]
+fn an_exit_may_have_the_greatest_code(rt: HostRuntime) -> Result<(), Fail> {
+    let mut kernel = Kernel::new(rt.alloc(), 2, 0)?;
     answers(rt.alloc(), &mut kernel, TWO, "3=1 4=ffffffff", "")?;
     holds(kernel.status() == Status::Exited(u32::MAX), "status")
 }
