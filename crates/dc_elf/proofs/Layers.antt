@@ -1,5 +1,5 @@
 -- The byte of the last part that covers an address, and memories that are filled from the last part on.
-use Rattle.std.proofs.Common.{◌≡◌, ◌≢◌, ◌∙◌, ◌+◌, ◌<◌, ◌≤◌, ◌⊎◌, ◌||◌, ◌&&◌, ◌∷◌, ◌++◌, ℕ, Bool, true, false, List, [], Option, Some, None}
+use Rattle.std.proofs.Common.{◌≡◌, ◌≢◌, ◌∙◌, ◌+◌, ◌<◌, ◌≤◌, ◌⊎◌, ◌||◌, ◌∷◌, ◌++◌, ℕ, Bool, true, false, List, [], Option, Some, None}
 use Rattle.std.proofs.Common.{length, take, drop, map, replicate, reverse, find, set, slice_index, ap, sym, subst, refl, arith, ⊎_elim}
 use Rattle.std.proofs.Common.{nat_le}
 use Rattle.std.specs.List.{list_any, range_with_len}
