@@ -1,6 +1,6 @@
-//! Sources and what they come to. The rows of a listing are `line|word`, the word in hexadecimal or none: the lines are a source, with a line
-//! feed between two, and the words are its program. The rows of faults are `source|fault`. In a source `~` stands for a line feed, `^` for
-//! the byte 128 and `!` for the byte 255.
+//! Sources and what they come to. The rows of a listing are `line|word`, the word in hexadecimal or none: the lines are a
+//! source, with a line feed between two, and the words are its program. The rows of faults are `source|fault`. In a source `~`
+//! stands for a line feed, `^` for the byte 128 and `!` for the byte 255.
 
 use crate::{AsmError, AsmFault, AsmKind, assemble};
 use dc_elf::load;

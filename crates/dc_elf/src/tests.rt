@@ -1,6 +1,6 @@
-//! Files written by the rules of the Executable and Linkable Format, and what each comes to. The rows of the tables are `what|fault`: a file
-//! with such fields or program headers has that fault, or none, in a memory of 64 bytes. A field is `place=word`. Numbers are hexadecimal,
-//! but for places.
+//! Files written by the rules of the Executable and Linkable Format, and what each comes to. The rows of the tables are
+//! `what|fault`: a file with such fields or program headers has that fault, or none, in a memory of 64 bytes. A field is
+//! `place=word`. Numbers are hexadecimal, but for places.
 
 use crate::{ElfFault, LoadFault, load};
 use std::alloc::Global;
@@ -68,7 +68,8 @@ const FLAGS: &str = "\
 36=80000008|flags
 ";
 
-/// Program headers are of 32 bytes and in the file, which has 100. At 28 stands where they begin, at 42 their size and above it their number.
+/// Program headers are of 32 bytes and in the file, which has 100. At 28 stands where they begin, at 42 their size and above
+/// it their number.
 const HEADERS: &str = "\
 28=34 42=10020|
 28=34 42=1001f|headers

@@ -1,6 +1,6 @@
-//! Words and the instructions that they code. A row is `word assembly|instruction`, the word in hexadecimal; where there is no instruction the
-//! word codes nothing. The words of the first six tables are by GNU as and ld 2.40 (binutils), -march=rv32i_zihintpause -mno-relax.
-//! Immediates are the bits of the operands.
+//! Words and the instructions that they code. A row is `word assembly|instruction`, the word in hexadecimal; where there is no
+//! instruction the word codes nothing. The words of the first six tables are by GNU as and ld 2.40 (binutils),
+//! -march=rv32i_zihintpause -mno-relax. Immediates are the bits of the operands.
 
 use crate::{decode, encode};
 use std::alloc::Global;

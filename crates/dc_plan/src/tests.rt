@@ -1,5 +1,5 @@
-//! What a plan's text comes to. The rows of the tables are `keys|text|fault`: the plan below without the lines of the keys, and with
-//! the text at its end, has that fault, or none. In the text `~` stands for a line feed.
+//! What a plan's text comes to. The rows of the tables are `keys|text|fault`: the plan below without the lines of the keys, and
+//! with the text at its end, has that fault, or none. In the text `~` stands for a line feed.
 
 use crate::{Key, Medium, Plan, PlanError, PlanFault, read_plan};
 use dc_links::Message;
