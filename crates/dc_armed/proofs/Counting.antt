@@ -1,8 +1,9 @@
 -- The counts of two calls of a device in a row, and what they tell.
-use Rattle.std.proofs.Common.{◌≤◌, ℕ, Result, Option, Ok, Err, ◌∙◌, arith}
+use Rattle.std.proofs.Common.{◌≡◌, ◌≤◌, ◌+◌, ℕ, zero, suc, Result, Option, Ok, Err, refl, ap, sym, ◌∙◌, arith}
 use Rattle.std.specs.Result.{result_and}
-use Rattle.dc_media.specs.Told.{TellsOn}
-use Rattle.dc_media.specs.Causes.{IsCaused}
+use Rattle.dc_media.specs.Told.{Device, IsSameStore, TellsOn}
+use Rattle.dc_media.specs.Causes.{IsCaused, counted}
+use Rattle.dc_armed.specs.Torn.{IsInCalls, counted_by}
 use Rattle.dc_media.specs.declared.faults.DeviceFault.{DeviceFault}
 
 -- two calls of a device in a row, of which the first refused is the answer
@@ -34,3 +35,45 @@ IsCaused-then s s' s'' f f' f'' (Err x) second one two = record {
 pub TellsOn-twice : {A : Type 0} (s s' f f' : ℕ) (a b c : Option A)
     → s ≤ s' → f ≤ f' → TellsOn s f a b → TellsOn s' f' b c → TellsOn s' f' a c
 TellsOn-twice s s' f f' a b c later later' one two = λ below below' told. two below below' (one (omega arith) (omega arith) told)
+
+-- counted on some times and then some more
+counted_by-more : (j k n : ℕ) → counted_by (j + k) n ≡ counted_by k (counted_by j n)
+counted_by-more j zero n = let none : j + 0 ≡ j = omega arith in ap (λ m. counted_by m n) none
+counted_by-more j (suc k) n = let more : j + suc k ≡ suc (j + k) = omega arith in ap (λ m. counted_by m n) more ∙ ap counted (counted_by-more j k n)
+
+module _ {S C : Type 0} (device : Device S C) where
+  -- another process's store stays
+  pub same-twice : (a b c : S) (q : ℕ) → IsSameStore device a b q → IsSameStore device b c q → IsSameStore device a c q
+  same-twice a b c q one two = record {
+    told_same = two.told_same ∙ one.told_same;
+    extent_same = two.extent_same ∙ one.extent_same;
+    stops_same = two.stops_same ∙ one.stops_same;
+    faults_same = two.faults_same ∙ one.faults_same;
+    calls_same = two.calls_same ∙ one.calls_same;
+  }
+
+  -- no call
+  pub IsInCalls-none : {T : Type 0} (p : ℕ) (x : T) (a : S) → IsInCalls device p 0 (Ok x) a a
+  IsInCalls-none p x a = record {
+    extent_same = refl;
+    tells = λ below below' some. some;
+    cause = record { stops_later = omega arith; faults_later = omega arith; stopped = λ e. absurd (cc); failed = λ e. absurd (cc); calm = (refl, refl) };
+    calls = refl;
+    others = λ q ne. record { told_same = refl; extent_same = refl; stops_same = refl; faults_same = refl; calls_same = refl };
+  }
+
+  -- some calls and then some more
+  pub IsInCalls-then : {T : Type 0} (p j k : ℕ) (r s : Result T DeviceFault) (a b c : S)
+      → IsInCalls device p j r a b → IsInCalls device p k s b c → IsInCalls device p (j + k) (result_and r s) a c
+  IsInCalls-then p j k r s a b c one two = record {
+    extent_same = two.extent_same ∙ one.extent_same;
+    tells = TellsOn-twice _ _ _ _ (device.told a p) (device.told b p) (device.told c p) two.cause.stops_later two.cause.faults_later one.tells two.tells;
+    cause = IsCaused-then _ _ _ _ _ _ r s one.cause two.cause;
+    calls = two.calls ∙ ap (counted_by k) one.calls ∙ sym (counted_by-more j k (device.calls a p));
+    others = λ q ne. same-twice a b c q (one.others q ne) (two.others q ne);
+  }
+
+  -- calls after one that is not counted
+  pub IsInCalls-after : {T : Type 0} (p k k' : ℕ) (r s : Result T DeviceFault) (a b c : S)
+      → k ≡ k' → IsInCalls device p 0 r a b → IsInCalls device p k s b c → IsInCalls device p k' (result_and r s) a c
+  IsInCalls-after p k k' r s a b c e one two = let all : 0 + k ≡ k' = omega (arith, e) in rw all at (IsInCalls-then p 0 k r s a b c one two)

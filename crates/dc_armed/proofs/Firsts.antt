@@ -4,10 +4,12 @@ use Rattle.std.specs.Option.{option_map}
 use Rattle.std.proofs.lemmas.Bool.Decides.{nat_tests}
 use Rattle.std.proofs.lemmas.Bool.{cases_eq}
 use Rattle.std.proofs.lemmas.List.{get_or-set_same, get_or-set_other, take_more}
+use Rattle.dc_media.specs.Firsts.{later}
+use Rattle.dc_media.proofs.Firsts.{first_by-push, first_by-push_other}
 use Rattle.dc_armed.specs.declared.stop.PlannedStop.{PlannedStop}
 use Rattle.dc_armed.specs.declared.stop.Waiting.{Waiting}
 use Rattle.dc_armed.specs.Turns.{ComesNone, WaitFirst}
-use Rattle.dc_armed.specs.Stops.{first_stop, is_of, sooner, sooner_waiting, waiting_of}
+use Rattle.dc_armed.specs.Stops.{first_stop, is_of, sooner_waiting, waiting_of}
 
 -- each place of a list of one value has it, and so has each place past its end
 pub get_or-replicate_same : {A : Type 0} (a : A) (n i : ℕ) → get_or (replicate n a) i a ≡ a
@@ -16,50 +18,21 @@ get_or-replicate_same a (suc n) zero = refl
 get_or-replicate_same a (suc n) (suc i) = get_or-replicate_same a n i
 
 -- a stop put at the end, which is not of the turn and process
-pub first_stop-push_other : (stops : List PlannedStop) (stop : PlannedStop) (turn p : ℕ)
+first_stop-push_other : (stops : List PlannedStop) (stop : PlannedStop) (turn p : ℕ)
     → is_of turn p stop ≡ false → first_stop (stops ++ stop ∷ []) turn p ≡ first_stop stops turn p
-first_stop-push_other [] stop turn p other = rw other refl
-first_stop-push_other (one ∷ stops) stop turn p other = rw (first_stop-push_other stops stop turn p other) refl
+first_stop-push_other stops stop turn p other = first_by-push_other (is_of turn p) (λ s. s.call) stops stop other
 
--- what waits, with one more stop planned
-abbrev then_waits : Option Waiting → PlannedStop → Option Waiting
-then_waits waiting stop = Some (sooner_waiting waiting stop)
-
--- the sooner of one that waits and another
-abbrev pick : Waiting → Waiting → Waiting
-pick one other = if nat_lt other.calls one.calls then other else one
-
--- of three in a row, whichever are compared first
-pick-assoc : (a b c : Waiting) → pick a (pick b c) ≡ pick (pick a b) c
-pick-assoc a b c = grind (arith, nat_tests)
-
-waiting_of-sooner : (one other : PlannedStop) → waiting_of (sooner one (Some other)) ≡ pick (waiting_of one) (waiting_of other)
-waiting_of-sooner one other = grind (arith, nat_tests)
-
-sooner_step : (one stop : PlannedStop) (found next : Option PlannedStop)
-    → option_map waiting_of next ≡ then_waits (option_map waiting_of found) stop
-    → option_map waiting_of (Some (sooner one next)) ≡ then_waits (option_map waiting_of (Some (sooner one found))) stop
-sooner_step one stop None None e = absurd (cc)
-sooner_step one stop None (Some b) e = ap Some (waiting_of-sooner one b ∙ ap (pick (waiting_of one)) (cc))
-sooner_step one stop (Some a) None e = absurd (cc)
-sooner_step one stop (Some a) (Some b) e =
-    let same : waiting_of b ≡ pick (waiting_of a) (waiting_of stop) = cc in
-    ap Some (waiting_of-sooner one b ∙ (ap (pick (waiting_of one)) same ∙ (pick-assoc (waiting_of one) (waiting_of a) (waiting_of stop) ∙ ap (λ w. pick w (waiting_of stop)) (sym (waiting_of-sooner one a)))))
-
--- the same below a stop that may be of the turn and process
-first_stop-step : (of : Bool) (one stop : PlannedStop) (found next : Option PlannedStop)
-    → option_map waiting_of next ≡ then_waits (option_map waiting_of found) stop
-    → option_map waiting_of (if of then Some (sooner one next) else next) ≡ then_waits (option_map waiting_of (if of then Some (sooner one found) else found)) stop
-first_stop-step false one stop found next e = e
-first_stop-step true one stop found next e = sooner_step one stop found next e
+-- what waits of the sooner of two
+waiting_of-later : (found : Option PlannedStop) (stop : PlannedStop) → waiting_of (later (λ s. s.call) found stop) ≡ sooner_waiting (option_map waiting_of found) stop
+waiting_of-later None stop = refl
+waiting_of-later (Some other) stop =
+    elim (nat_lt stop.call other.call) as (λ b. waiting_of (if b then stop else other) ≡ (if b then waiting_of stop else waiting_of other)) [ true ↦ refl | false ↦ refl ]
 
 -- a stop put at the end, which is of the turn and process
-pub first_stop-push : (stops : List PlannedStop) (stop : PlannedStop) (turn p : ℕ)
-    → is_of turn p stop ≡ true → option_map waiting_of (first_stop (stops ++ stop ∷ []) turn p) ≡ then_waits (option_map waiting_of (first_stop stops turn p)) stop
-first_stop-push [] stop turn p of = rw of refl
-first_stop-push (one ∷ stops) stop turn p of =
-    let above = first_stop-push stops stop turn p of in
-    first_stop-step (is_of turn p one) one stop _ _ above
+first_stop-push : (stops : List PlannedStop) (stop : PlannedStop) (turn p : ℕ)
+    → is_of turn p stop ≡ true → option_map waiting_of (first_stop (stops ++ stop ∷ []) turn p) ≡ Some (sooner_waiting (option_map waiting_of (first_stop stops turn p)) stop)
+first_stop-push stops stop turn p of =
+    ap (option_map waiting_of) (first_by-push (is_of turn p) (λ s. s.call) stops stop of) ∙ ap Some (waiting_of-later (first_stop stops turn p) stop)
 
 -- a stop of another process
 is_of-other : (stop : PlannedStop) (turn p : ℕ) → p ≢ stop.process → is_of turn p stop ≡ false

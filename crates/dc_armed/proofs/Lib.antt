@@ -1,5 +1,4 @@
 mod Counting
 mod Firsts
 mod Parting
-mod Soonest
 mod Surviving

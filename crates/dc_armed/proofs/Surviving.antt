@@ -13,16 +13,16 @@ use Rattle.dc_media.proofs.Splicing.{spliced_nothing, spliced-twice, length-spli
 abbrev marks : ℕ → List Bool
 marks n = replicate n true
 
--- one more call after one that left an image
+-- one more call after one that left a crash image
 pub Survives-then : (at n : ℕ) (first second third : Disk) → at + n ≤ length first.pending
     → Survives first second → Survives (with_pending at n second) third → Survives (with_pending at n first) third
 Survives-then at n first second third fits one two = record {
   pending = two.pending ∙ ap (λ pending. spliced pending at (marks n)) one.pending;
-  image = record {
-    length_same = two.image.length_same ∙ one.image.length_same;
+  crash_image = record {
+    length_same = two.crash_image.length_same ∙ one.crash_image.length_same;
     outside = λ i off.
-        two.image.outside i (ap (λ pending. slice_get (spliced pending at (marks n)) i) one.pending ∙ off)
-        ∙ one.image.outside i ((unmarked first.pending at n i fits off).1);
+        two.crash_image.outside i (ap (λ pending. slice_get (spliced pending at (marks n)) i) one.pending ∙ off)
+        ∙ one.crash_image.outside i ((unmarked first.pending at n i fits off).1);
   };
 }
 
@@ -58,7 +58,7 @@ overwritten-twice at n m f g h disk fits fits' f_long g_long joins =
     let pending = ap (λ d. d.pending) (with_pending-twice at n m disk fits') in
     both _ _ _ _ content pending
 
--- a call that overwrites leaves an image in any case
+-- a call that overwrites leaves a crash image in any case
 pub Overwrites-survives : {T : Type 0} (e at n : ℕ) (make : List ℕ → List ℕ) (r : Result T DeviceFault) (a b : Option Disk)
     → at + n ≤ e → IfSome a (HasExtent e) → ((old : List ℕ) → length old ≡ n → length (make old) ≡ n)
     → Overwrites at n make r a b → Becomes a b (λ before. Survives (with_pending at n before))
@@ -68,7 +68,7 @@ Overwrites-survives e at n make (Ok x) None (Some z) fits whole long made = absu
 Overwrites-survives e at n make (Ok x) (Some y) (Some z) fits whole long made =
     rw made (Survives-spliced y at n (make (take n (drop at y.content))) (long _ (length-old y.content at n (omega (arith, whole.content)))) (omega (arith, whole.content)) (omega (arith, whole.pending)))
 
--- two images in a row
+-- two crash images in a row
 survives-twice : (e at n m : ℕ) (a b c : Option Disk) → at + (n + m) ≤ e → IfSome a (HasExtent e)
     → Becomes a b (λ before. Survives (with_pending at n before)) → Becomes b c (λ before. Survives (with_pending (at + n) m before))
     → Becomes a c (λ before. Survives (with_pending at (n + m) before))

@@ -1,10 +1,10 @@
 -- A device with planned stops as contracts see it, and what its calls do.
-use Rattle.std.specs.Prelude.{◌≡◌, ◌⊎◌, ◌+◌, ℕ, Option, Result, IsErr, IsErrOf}
+use Rattle.std.specs.Prelude.{◌≡◌, ◌⊎◌, ◌+◌, ℕ, Result, IsErr, IsErrOf}
 use Rattle.dc_media.specs.declared.faults.DeviceFault.{DeviceFault}
 use Rattle.dc_media.specs.declared.faults.DeviceFault.TheVariants.{Stopped}
 use Rattle.dc_media.specs.Causes.{IsCaused}
-use Rattle.dc_media.specs.Told.{Becomes}
-use Rattle.dc_armed.specs.Stops.{Plan, Comes, came_to}
+use Rattle.dc_media.specs.Told.{Becomes, Device, seen}
+use Rattle.dc_armed.specs.Stops.{Plan, Comes, came_to, calls_to}
 
 -- the device within, and the stops that are planned for it
 pub record Armed (D : Type 0) : Type 0 where
@@ -19,18 +19,26 @@ within own armed p = own armed.device p
 abbrev pub all_stops : {D : Type 0} → (D → ℕ → ℕ) → Armed D → ℕ → ℕ
 all_stops stops armed p = stops armed.device p + came_to armed.plan p
 
+-- the calls of the armed device itself, whatever it calls within
+abbrev pub all_calls : {D : Type 0} → Armed D → ℕ → ℕ
+all_calls armed p = calls_to armed.plan p
+
+-- an armed device as a device
+abbrev pub armed : {D C : Type 0} → Device D C → Device (Armed D) C
+armed device = seen (within device.told) (within device.extent) (all_stops device.stops) (within device.faults) all_calls
+
 -- the answer is that of the device within: its counts bear it out, and no planned stop came
-pub record IsOwn {D T : Type 0} (stops faults : D → ℕ → ℕ) (p : ℕ) (result : Result T DeviceFault) (old new : Armed D) : Type 0 where
-  pub cause : IsCaused (stops old.device p) (stops new.device p) (faults old.device p) (faults new.device p) result
+pub record IsOwn {D C T : Type 0} (device : Device D C) (p : ℕ) (result : Result T DeviceFault) (old new : Armed D) : Type 0 where
+  pub cause : IsCaused (device.stops old.device p) (device.stops new.device p) (device.faults old.device p) (device.faults new.device p) result
   pub came_same : new.plan.came ≡ old.plan.came
 
 -- a planned stop came and is counted; the device within refused nothing, and its content is what the stop leaves
-pub record IsPlanned {D C T : Type 0} (told : D → ℕ → Option C) (stops faults : D → ℕ → ℕ) (p : ℕ) (leaves : C → C) (result : Result T DeviceFault) (old new : Armed D) : Type 0 where
+pub record IsPlanned {D C T : Type 0} (device : Device D C) (p : ℕ) (leaves : C → C) (result : Result T DeviceFault) (old new : Armed D) : Type 0 where
   pub answer : IsErrOf result Stopped
   pub comes : Comes p old.plan new.plan
-  pub stops_same : stops new.device p ≡ stops old.device p
-  pub faults_same : faults new.device p ≡ faults old.device p
-  pub content : Becomes (told old.device p) (told new.device p) (λ before after. after ≡ leaves before)
+  pub stops_same : device.stops new.device p ≡ device.stops old.device p
+  pub faults_same : device.faults new.device p ≡ device.faults old.device p
+  pub content : Becomes (device.told old.device p) (device.told new.device p) (λ before after. after ≡ leaves before)
 
 -- a planned stop came and is counted, and the device within was not called
 pub record IsPlannedAlone {D T : Type 0} (p : ℕ) (result : Result T DeviceFault) (old new : Armed D) : Type 0 where
@@ -39,5 +47,5 @@ pub record IsPlannedAlone {D T : Type 0} (p : ℕ) (result : Result T DeviceFaul
   pub device_same : new.device ≡ old.device
 
 -- the planned stop came, or the device within refused the call, which is then the answer
-abbrev pub ComesOrRefused : {D C T : Type 0} → (D → ℕ → Option C) → (D → ℕ → ℕ) → (D → ℕ → ℕ) → ℕ → (C → C) → Result T DeviceFault → Armed D → Armed D → Type 0
-ComesOrRefused told stops faults p leaves result old new = IsPlanned told stops faults p leaves result old new ⊎ (IsErr result × IsOwn stops faults p result old new)
+abbrev pub ComesOrRefused : {D C T : Type 0} → Device D C → ℕ → (C → C) → Result T DeviceFault → Armed D → Armed D → Type 0
+ComesOrRefused device p leaves result old new = IsPlanned device p leaves result old new ⊎ (IsErr result × IsOwn device p result old new)

@@ -1,9 +1,11 @@
 -- Planned stops: which one waits for a process in a turn, how its calls count it down, and how many came.
-use Rattle.std.specs.Prelude.{◌≡◌, ◌≢◌, ℕ, ◌-◌, ◌^◌, ◌+◌, ◌≤◌, ◌==◌, ◌&&◌, nat_lt, min, List, [], ◌∷◌, Bool, Option, None, Some, Result, Ok, Err, if◌then◌else◌, get_or}
+use Rattle.std.specs.Prelude.{◌≡◌, ◌≢◌, ℕ, ◌-◌, ◌^◌, ◌≤◌, ◌==◌, ◌&&◌, nat_lt, List, Bool, Option, None, Some, Result, Ok, Err, if◌then◌else◌, get_or}
 use Rattle.dc_media.specs.declared.faults.DeviceFault.{DeviceFault}
 use Rattle.dc_media.specs.declared.faults.DeviceFault.TheVariants.{Stopped, Failed}
 use Rattle.dc_media.specs.declared.TheConstants.{STORES}
 use Rattle.dc_media.specs.declared.tear.Tear.{Tear}
+use Rattle.dc_media.specs.Causes.{counted}
+use Rattle.dc_media.specs.Firsts.{first_by}
 use Rattle.dc_armed.specs.declared.stop.PlannedStop.{PlannedStop}
 use Rattle.dc_armed.specs.declared.stop.Waiting.{Waiting}
 
@@ -11,15 +13,9 @@ use Rattle.dc_armed.specs.declared.stop.Waiting.{Waiting}
 abbrev pub is_of : ℕ → ℕ → PlannedStop → Bool
 is_of turn p stop = (stop.turn == turn) && (stop.process == p) && nat_lt stop.process STORES && nat_lt 0 stop.call
 
--- the sooner of two stops, the first of two at one call
-abbrev pub sooner : PlannedStop → Option PlannedStop → PlannedStop
-sooner stop None = stop
-sooner stop (Some other) = if nat_lt other.call stop.call then other else stop
-
 -- the first stop for a process in a turn
 abbrev pub first_stop : List PlannedStop → ℕ → ℕ → Option PlannedStop
-first_stop [] turn p = None
-first_stop (stop ∷ stops) turn p = if is_of turn p stop then Some (sooner stop (first_stop stops turn p)) else first_stop stops turn p
+first_stop stops turn p = first_by (is_of turn p) (λ stop. stop.call) stops
 
 -- a stop that waits: at which of the coming calls it comes, and what that call leaves
 abbrev pub waiting_of : PlannedStop → Waiting
@@ -30,11 +26,12 @@ abbrev pub sooner_waiting : Option Waiting → PlannedStop → Waiting
 sooner_waiting None stop = waiting_of stop
 sooner_waiting (Some waiting) stop = if nat_lt stop.call waiting.calls then waiting_of stop else waiting
 
--- the stops, for each process the one that waits in this turn, and how many came to it
+-- the stops, for each process the one that waits in this turn, how many came to it, and how many calls it made in all
 pub record Plan : Type 0 where
   pub stops : List PlannedStop
   pub waiting : List (Option Waiting)
   pub came : List ℕ
+  pub calls : List ℕ
 
 -- the stop that waits for a process
 abbrev pub waiting_for : Plan → ℕ → Option Waiting
@@ -43,6 +40,10 @@ waiting_for plan p = get_or plan.waiting p None
 -- how many stops came to a process
 abbrev pub came_to : Plan → ℕ → ℕ
 came_to plan p = get_or plan.came p 0
+
+-- how many calls a process made; past the last process the count stands at its last value
+abbrev pub calls_to : Plan → ℕ → ℕ
+calls_to plan p = if nat_lt p STORES then get_or plan.calls p 0 else 2 ^ 64 - 1
 
 -- the tear of a stop that comes at the next call
 abbrev pub due_of : Option Waiting → Option Tear
@@ -72,6 +73,11 @@ pub record Waits (p : ℕ) (waiting : Option Waiting) (old new : Plan) : Type 0 
 
 -- one more stop came to a process, and none to the others; a count of 64 bits stays at its last value
 pub record Comes (p : ℕ) (old new : Plan) : Type 0 where
-  pub here : came_to new p ≡ min (came_to old p + 1) (2 ^ 64 - 1)
+  pub here : came_to new p ≡ counted (came_to old p)
   pub later : came_to old p ≤ came_to new p
   pub others : (q : ℕ) → q ≢ p → came_to new q ≡ came_to old q
+
+-- one more call of a process, and none of the others
+pub record Calls (p : ℕ) (old new : Plan) : Type 0 where
+  pub here : calls_to new p ≡ counted (calls_to old p)
+  pub others : (q : ℕ) → q ≢ p → calls_to new q ≡ calls_to old q

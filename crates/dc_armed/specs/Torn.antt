@@ -1,26 +1,46 @@
 -- What is left of a torn call, and of a write that is made in parts.
-use Rattle.std.specs.Prelude.{◌≡◌, ◌≢◌, ◌⊎◌, ℕ, List, length, take, drop, slice_index, slice_set, Option, Result, MatchResult, IsOk}
+use Rattle.std.specs.Prelude.{◌≡◌, ◌≢◌, ◌⊎◌, ◌+◌, ◌-◌, ◌/◌, ℕ, zero, suc, min, List, length, take, drop, slice_index, slice_set, Option, Result, MatchResult, IsOk}
 use Rattle.dc_media.specs.declared.faults.DeviceFault.{DeviceFault}
 use Rattle.dc_media.specs.declared.tear.Tear.{Tear}
-use Rattle.dc_media.specs.Causes.{IsCaused}
+use Rattle.dc_media.specs.Causes.{IsCaused, counted}
 use Rattle.dc_media.specs.Disk.{Disk, Survives, spliced, with_pending}
 use Rattle.dc_media.specs.Tears.{torn, torn_word}
-use Rattle.dc_media.specs.Told.{Becomes, TellsOn, IsSameStore}
+use Rattle.dc_media.specs.Told.{Becomes, Device, IsSameStore, TellsOn}
+
+-- a counter counted on so many times
+abbrev pub counted_by : ℕ → ℕ → ℕ
+counted_by zero n = n
+counted_by (suc k) n = counted (counted_by k n)
+
+-- a process's store by the laws of a device, in exactly so many counted calls, of which the first that is refused is the answer
+pub record IsInCalls {S C T : Type 0} (device : Device S C) (p count : ℕ) (result : Result T DeviceFault) (old new : S) : Type 0 where
+  pub extent_same : device.extent new p ≡ device.extent old p
+  pub tells : TellsOn (device.stops new p) (device.faults new p) (device.told old p) (device.told new p)
+  pub cause : IsCaused (device.stops old p) (device.stops new p) (device.faults old p) (device.faults new p) result
+  pub calls : device.calls new p ≡ counted_by count (device.calls old p)
+  pub others : (q : ℕ) → q ≢ p → IsSameStore device old new q
 
 -- after a torn store the word is old or new
 abbrev pub torn_store : Tear → ℕ → ℕ → List ℕ → List ℕ
 torn_store tear i w words = slice_set words i (torn_word tear (slice_index words i) w)
 
+-- in how many calls so many bytes or words are written at once: in none where there are none
+abbrev pub at_once : ℕ → ℕ
+at_once count = min count 1
+
+-- a store that is torn: which word is set, and to what
+pub record TornStore : Type 0 where
+  pub tear : Tear
+  pub index : ℕ
+  pub word : ℕ
+
 -- a store of which a planned stop keeps all or nothing: at Ok it is torn so; refused, the word is old or new
-pub record IsTornStore {S T : Type 0} (told : S → ℕ → Option (List ℕ)) (extent stops faults : S → ℕ → ℕ) (tear : Tear) (p i w : ℕ) (result : Result T DeviceFault) (old new : S) : Type 0 where
+pub record IsTornStore {S T : Type 0} (device : Device S (List ℕ)) (p : ℕ) (store : TornStore) (result : Result T DeviceFault) (old new : S) : Type 0 where
   pub word : MatchResult result
-      (λ _. Becomes (told old p) (told new p) (λ before after. after ≡ torn_store tear i w before))
-      (λ _. Becomes (told old p) (told new p) (λ before after. (after ≡ before) ⊎ (after ≡ slice_set before i w)))
-  pub unmade : tear.keep ≡ 0 → IsOk result × (new ≡ old)
-  pub extent_same : extent new p ≡ extent old p
-  pub tells : TellsOn (stops new p) (faults new p) (told old p) (told new p)
-  pub cause : IsCaused (stops old p) (stops new p) (faults old p) (faults new p) result
-  pub others : (q : ℕ) → q ≢ p → IsSameStore told extent stops faults old new q
+      (λ _. Becomes (device.told old p) (device.told new p) (λ before after. after ≡ torn_store store.tear store.index store.word before))
+      (λ _. Becomes (device.told old p) (device.told new p) (λ before after. (after ≡ before) ⊎ (after ≡ slice_set before store.index store.word)))
+  pub unmade : store.tear.keep ≡ 0 → IsOk result × (new ≡ old)
+  pub lawful : IsInCalls device p (at_once store.tear.keep) result old new
 
 -- n bytes at a place are pending, and are what is made of the old ones
 abbrev pub overwritten : ℕ → ℕ → (List ℕ → List ℕ) → Disk → Disk
@@ -36,10 +56,22 @@ Overwrites at n make result old new = MatchResult result
     (λ _. Becomes old new (λ before after. after ≡ overwritten at n make before))
     (λ _. Becomes old new (λ before. Survives (with_pending at n before)))
 
--- bytes of a disk are overwritten, by the laws of a device, whatever calls it takes
-pub record IsOverwrite {S T : Type 0} (told : S → ℕ → Option Disk) (extent stops faults : S → ℕ → ℕ) (p at n : ℕ) (make : List ℕ → List ℕ) (result : Result T DeviceFault) (old new : S) : Type 0 where
-  pub bytes : Overwrites at n make result (told old p) (told new p)
-  pub extent_same : extent new p ≡ extent old p
-  pub tells : TellsOn (stops new p) (faults new p) (told old p) (told new p)
-  pub cause : IsCaused (stops old p) (stops new p) (faults old p) (faults new p) result
-  pub others : (q : ℕ) → q ≢ p → IsSameStore told extent stops faults old new q
+-- in how many calls so many bytes are left or filled: 64 in each
+abbrev pub in_parts : ℕ → ℕ
+in_parts count = (count + 63) / 64
+
+-- in how many calls a torn write is made: one for what is kept, then those for the rest
+abbrev pub torn_calls : Tear → ℕ → ℕ
+torn_calls tear count = let kept = min count tear.keep in at_once kept + in_parts (count - kept)
+
+-- bytes that are overwritten: where, how many, by what is made of the old ones, and in how many calls
+pub record Patch : Type 0 where
+  pub at : ℕ
+  pub count : ℕ
+  pub make : List ℕ → List ℕ
+  pub calls : ℕ
+
+-- bytes of a disk are overwritten
+pub record IsOverwrite {S T : Type 0} (device : Device S Disk) (p : ℕ) (patch : Patch) (result : Result T DeviceFault) (old new : S) : Type 0 where
+  pub bytes : Overwrites patch.at patch.count patch.make result (device.told old p) (device.told new p)
+  pub lawful : IsInCalls device p patch.calls result old new

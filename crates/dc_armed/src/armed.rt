@@ -1,9 +1,11 @@
-ghost use Rattle.std.specs.Prelude.{◌≡◌, ℕ};
-ghost use Rattle.dc_armed.specs.Turns.{IsFoundFirst, WaitFirst, WaitNone};
-ghost use Rattle.dc_armed.specs.Stops.{came_to, first_stop};
+ghost use Rattle.std.specs.Prelude.{◌≡◌, ◌<◌, ℕ};
+ghost use Rattle.dc_media.specs.Firsts.{IsFoundFirst};
+ghost use Rattle.dc_armed.specs.Turns.{WaitFirst, WaitNone};
+ghost use Rattle.dc_armed.specs.Stops.{calls_to, came_to, first_stop, is_of};
 
 use crate::plan::StopPlan;
 use crate::stop::PlannedStop;
+use dc_media::STORES;
 use std::marker::Model;
 
 /// A device of words or of disks, with stops that are planned for it.
@@ -32,6 +34,7 @@ impl<D> Armed<D> {
         ensures stops { result.plan.stops ≡ stops.items }
         ensures waits { WaitNone result.plan.waiting }
         ensures came { (p : ℕ) → came_to result.plan p ≡ 0 }
+        ensures calls { (p : ℕ) → p < STORES → calls_to result.plan p ≡ 0 }
     {
         Armed {
             device,
@@ -45,9 +48,10 @@ impl<D> Armed<D> {
     pub fn at_turn(&mut self, turn: u32)
         ensures device { self.new.device ≡ self.old.device }
         ensures waits { WaitFirst self.old.plan.stops turn self.new.plan.waiting }
-        ensures first { (p : ℕ) → IsFoundFirst self.old.plan.stops turn p (first_stop self.old.plan.stops turn p) }
+        ensures first { (p : ℕ) → IsFoundFirst (is_of turn p) (λ stop. stop.call) self.old.plan.stops (first_stop self.old.plan.stops turn p) }
         ensures stops { self.new.plan.stops ≡ self.old.plan.stops }
         ensures came { self.new.plan.came ≡ self.old.plan.came }
+        ensures calls { self.new.plan.calls ≡ self.old.plan.calls }
     {
         self.plan.at_turn(turn);
     }
@@ -57,5 +61,20 @@ impl<D> Armed<D> {
         ensures { result.now ≡ self.now.device }
     {
         &self.device
+    }
+
+    /// Gives the device back.
+    pub fn into_device(self) -> D
+        ensures { result ≡ self.device }
+    {
+        let Armed { device, plan: _ } = self;
+        device
+    }
+
+    /// How many stores, or writes and syncs, a process made of the armed device. Past the last process the count stands at its last value.
+    pub fn calls(&self, p: u32) -> u64
+        ensures { result ≡ calls_to self.now.plan p }
+    {
+        self.plan.calls(p)
     }
 }

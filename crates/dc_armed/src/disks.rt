@@ -1,10 +1,11 @@
 ghost use Rattle.std.specs.Prelude.{◌≡◌, ◌≢◌, ◌+◌, ◌<◌, ◌≤◌, ℕ, None, IfSome, OnOk, OnErr, length};
-ghost use Rattle.dc_media.specs.Causes.{IsCaused, IsMade};
+ghost use Rattle.dc_media.specs.Causes.{IsCaused, IsMade, counted};
 ghost use Rattle.dc_media.specs.Disk.{Reads, Syncs, Writes, blank};
+ghost use Rattle.dc_media.specs.Devices.{of_disks};
 ghost use Rattle.dc_media.specs.Told.{TellsOn, IsSameStore};
-ghost use Rattle.dc_armed.specs.Armed.{all_stops, within, ComesOrRefused, IsOwn, IsPlannedAlone};
-ghost use Rattle.dc_armed.specs.Torn.{torn_disk};
-ghost use Rattle.dc_armed.specs.Stops.{after_answer, came_to, due, one_fewer, waiting_for, Waits};
+ghost use Rattle.dc_armed.specs.Armed.{all_calls, all_stops, armed, within, ComesOrRefused, IsOwn, IsPlannedAlone};
+ghost use Rattle.dc_armed.specs.Torn.{counted_by, torn_calls, torn_disk};
+ghost use Rattle.dc_armed.specs.Stops.{after_answer, calls_to, came_to, due, one_fewer, waiting_for, Waits};
 
 use crate::Armed;
 use crate::torn::torn_write;
@@ -21,9 +22,17 @@ impl<D: Disks> Disks for Armed<D> {
 
     ghost faults = { within D.faults };
 
+    ghost calls = { all_calls };
+
+    ghost continues = { λ s t. D.continues s.device t.device };
+
     ghost told_extent = { λ a. D.told_extent a.device };
 
     ghost extent_fits = { λ a. D.extent_fits a.device };
+
+    ghost continues_self = { λ s. D.continues_self s.device };
+
+    ghost continues_on = { λ s t u. D.continues_on s.device t.device u.device };
 
     fn format(&mut self, alloc: Global, p: u32, bytes: u64) -> Result<(), MakeFault>
         requires { p < STORES }
@@ -32,7 +41,9 @@ impl<D: Disks> Disks for Armed<D> {
         ensures zeros { OnOk result (IfSome (D.told self.new.device p) (λ disk. disk ≡ blank bytes)) }
         ensures tells { TellsOn (D.stops self.new.device p) (D.faults self.new.device p) (D.told self.old.device p) (D.told self.new.device p) }
         ensures cause { IsMade (D.stops self.old.device p) (D.stops self.new.device p) (D.faults self.old.device p) (D.faults self.new.device p) result }
-        ensures others { (q : ℕ) → q ≢ p → IsSameStore D.told D.extent D.stops D.faults self.old.device self.new.device q }
+        ensures calls { calls_to self.new.plan p ≡ calls_to self.old.plan p }
+        ensures others { (q : ℕ) → q ≢ p → IsSameStore (armed (of_disks D.Disks)) self.old self.new q }
+        ensures continues { D.continues self.old.device self.new.device }
 
         // no planned stop comes
         ensures plan { self.new.plan ≡ self.old.plan }
@@ -50,10 +61,12 @@ impl<D: Disks> Disks for Armed<D> {
         ensures extent { D.extent self.new.device p ≡ D.extent self.old.device p }
         ensures bytes { Reads at to.new result (D.told self.old.device p) (D.told self.new.device p) }
         ensures tells { TellsOn (D.stops self.new.device p) (D.faults self.new.device p) (D.told self.old.device p) (D.told self.new.device p) }
-        ensures others { (q : ℕ) → q ≢ p → IsSameStore D.told D.extent D.stops D.faults self.old.device self.new.device q }
+        ensures calls { calls_to self.new.plan p ≡ calls_to self.old.plan p }
+        ensures others { (q : ℕ) → q ≢ p → IsSameStore (armed (of_disks D.Disks)) self.old self.new q }
+        ensures continues { D.continues self.old.device self.new.device }
 
         // the answer is the device's, and what waits after it
-        ensures passes { IsOwn D.stops D.faults p result self.old self.new }
+        ensures passes { IsOwn (of_disks D.Disks) p result self.old self.new }
         ensures waits { Waits p (after_answer result (waiting_for self.old.plan p)) self.old.plan self.new.plan }
     {
         let done = self.device.read(p, at, to);
@@ -69,11 +82,15 @@ impl<D: Disks> Disks for Armed<D> {
         ensures bytes { Writes at from.now result (D.told self.old.device p) (D.told self.new.device p) }
         ensures tells { TellsOn (D.stops self.new.device p) (D.faults self.new.device p) (D.told self.old.device p) (D.told self.new.device p) }
         ensures cause { IsCaused (all_stops D.stops self.old p) (all_stops D.stops self.new p) (D.faults self.old.device p) (D.faults self.new.device p) result }
-        ensures others { (q : ℕ) → q ≢ p → IsSameStore (within D.told) (within D.extent) (all_stops D.stops) (within D.faults) self.old self.new q }
+        ensures calls { calls_to self.new.plan p ≡ counted (calls_to self.old.plan p) }
+        ensures others { (q : ℕ) → q ≢ p → IsSameStore (armed (of_disks D.Disks)) self.old self.new q }
+        ensures continues { D.continues self.old.device self.new.device }
 
         // what a planned stop does, and what waits after a call
-        ensures passes { due self.old.plan p ≡ None → IsOwn D.stops D.faults p result self.old self.new }
-        ensures stops { IfSome (due self.old.plan p) (λ tear. ComesOrRefused D.told D.stops D.faults p (torn_disk tear at from.now) result self.old self.new) }
+        ensures once { due self.old.plan p ≡ None → D.calls self.new.device p ≡ counted (D.calls self.old.device p) }
+        ensures passes { due self.old.plan p ≡ None → IsOwn (of_disks D.Disks) p result self.old self.new }
+        ensures stops { IfSome (due self.old.plan p) (λ tear. ComesOrRefused (of_disks D.Disks) p (torn_disk tear at from.now) result self.old self.new) }
+        ensures parts { IfSome (due self.old.plan p) (λ tear. D.calls self.new.device p ≡ counted_by (torn_calls tear (length from.now)) (D.calls self.old.device p)) }
         ensures waits { Waits p (after_answer result (one_fewer (waiting_for self.old.plan p))) self.old.plan self.new.plan }
         ensures elsewhere { (q : ℕ) → q ≢ p → came_to self.new.plan q ≡ came_to self.old.plan q }
     {
@@ -95,10 +112,13 @@ impl<D: Disks> Disks for Armed<D> {
         ensures bytes { Syncs result (D.told self.old.device p) (D.told self.new.device p) }
         ensures tells { TellsOn (D.stops self.new.device p) (D.faults self.new.device p) (D.told self.old.device p) (D.told self.new.device p) }
         ensures cause { IsCaused (all_stops D.stops self.old p) (all_stops D.stops self.new p) (D.faults self.old.device p) (D.faults self.new.device p) result }
-        ensures others { (q : ℕ) → q ≢ p → IsSameStore (within D.told) (within D.extent) (all_stops D.stops) (within D.faults) self.old self.new q }
+        ensures calls { calls_to self.new.plan p ≡ counted (calls_to self.old.plan p) }
+        ensures others { (q : ℕ) → q ≢ p → IsSameStore (armed (of_disks D.Disks)) self.old self.new q }
+        ensures continues { D.continues self.old.device self.new.device }
 
         // what a planned stop does, and what waits after a call
-        ensures passes { due self.old.plan p ≡ None → IsOwn D.stops D.faults p result self.old self.new }
+        ensures once { due self.old.plan p ≡ None → D.calls self.new.device p ≡ counted (D.calls self.old.device p) }
+        ensures passes { due self.old.plan p ≡ None → IsOwn (of_disks D.Disks) p result self.old self.new }
         ensures stops { IfSome (due self.old.plan p) (λ tear. IsPlannedAlone p result self.old self.new) }
         ensures waits { Waits p (after_answer result (one_fewer (waiting_for self.old.plan p))) self.old.plan self.new.plan }
         ensures elsewhere { (q : ℕ) → q ≢ p → came_to self.new.plan q ≡ came_to self.old.plan q }

@@ -1,10 +1,11 @@
 ghost use Rattle.std.specs.Prelude.{◌≡◌, ◌≢◌, ◌<◌, ℕ, None, IfSome, OnOk, OnErr, replicate};
-ghost use Rattle.dc_media.specs.Causes.{IsCaused, IsMade};
+ghost use Rattle.dc_media.specs.Causes.{IsCaused, IsMade, counted};
 ghost use Rattle.dc_media.specs.Stores.{SetsWord};
+ghost use Rattle.dc_media.specs.Devices.{of_words};
 ghost use Rattle.dc_media.specs.Told.{TellsOn, IsSameStore};
-ghost use Rattle.dc_armed.specs.Armed.{all_stops, within, ComesOrRefused, IsOwn, IsPlannedAlone};
-ghost use Rattle.dc_armed.specs.Torn.{torn_store};
-ghost use Rattle.dc_armed.specs.Stops.{after_answer, came_to, due, one_fewer, waiting_for, Waits};
+ghost use Rattle.dc_armed.specs.Armed.{all_calls, all_stops, armed, within, ComesOrRefused, IsOwn, IsPlannedAlone};
+ghost use Rattle.dc_armed.specs.Torn.{at_once, counted_by, torn_store};
+ghost use Rattle.dc_armed.specs.Stops.{after_answer, calls_to, came_to, due, one_fewer, waiting_for, Waits};
 
 use crate::Armed;
 use crate::torn::torn_store;
@@ -21,9 +22,17 @@ impl<K: Keeps> Keeps for Armed<K> {
 
     ghost faults = { within K.faults };
 
+    ghost calls = { all_calls };
+
+    ghost continues = { λ s t. K.continues s.device t.device };
+
     ghost told_extent = { λ a. K.told_extent a.device };
 
     ghost extent_fits = { λ a. K.extent_fits a.device };
+
+    ghost continues_self = { λ s. K.continues_self s.device };
+
+    ghost continues_on = { λ s t u. K.continues_on s.device t.device u.device };
 
     fn format(&mut self, alloc: Global, p: u32, words: u32) -> Result<(), MakeFault>
         requires { p < STORES }
@@ -32,7 +41,9 @@ impl<K: Keeps> Keeps for Armed<K> {
         ensures zeros { OnOk result (IfSome (K.told self.new.device p) (λ ws. ws ≡ replicate words 0)) }
         ensures tells { TellsOn (K.stops self.new.device p) (K.faults self.new.device p) (K.told self.old.device p) (K.told self.new.device p) }
         ensures cause { IsMade (K.stops self.old.device p) (K.stops self.new.device p) (K.faults self.old.device p) (K.faults self.new.device p) result }
-        ensures others { (q : ℕ) → q ≢ p → IsSameStore K.told K.extent K.stops K.faults self.old.device self.new.device q }
+        ensures calls { calls_to self.new.plan p ≡ calls_to self.old.plan p }
+        ensures others { (q : ℕ) → q ≢ p → IsSameStore (armed (of_words K.Keeps)) self.old self.new q }
+        ensures continues { K.continues self.old.device self.new.device }
 
         // no planned stop comes
         ensures plan { self.new.plan ≡ self.old.plan }
@@ -53,12 +64,16 @@ impl<K: Keeps> Keeps for Armed<K> {
         ensures word { SetsWord i w result (K.told self.old.device p) (K.told self.new.device p) }
         ensures tells { TellsOn (K.stops self.new.device p) (K.faults self.new.device p) (K.told self.old.device p) (K.told self.new.device p) }
         ensures cause { IsCaused (all_stops K.stops self.old p) (all_stops K.stops self.new p) (K.faults self.old.device p) (K.faults self.new.device p) result }
-        ensures others { (q : ℕ) → q ≢ p → IsSameStore (within K.told) (within K.extent) (all_stops K.stops) (within K.faults) self.old self.new q }
+        ensures calls { calls_to self.new.plan p ≡ counted (calls_to self.old.plan p) }
+        ensures others { (q : ℕ) → q ≢ p → IsSameStore (armed (of_words K.Keeps)) self.old self.new q }
+        ensures continues { K.continues self.old.device self.new.device }
 
         // what a planned stop does, and what waits after a call
-        ensures passes { due self.old.plan p ≡ None → IsOwn K.stops K.faults p result self.old self.new }
-        ensures stops { IfSome (due self.old.plan p) (λ tear. ComesOrRefused K.told K.stops K.faults p (torn_store tear i w) result self.old self.new) }
+        ensures once { due self.old.plan p ≡ None → K.calls self.new.device p ≡ counted (K.calls self.old.device p) }
+        ensures passes { due self.old.plan p ≡ None → IsOwn (of_words K.Keeps) p result self.old self.new }
+        ensures stops { IfSome (due self.old.plan p) (λ tear. ComesOrRefused (of_words K.Keeps) p (torn_store tear i w) result self.old self.new) }
         ensures unmade { IfSome (due self.old.plan p) (λ tear. tear.keep ≡ 0 → IsPlannedAlone p result self.old self.new) }
+        ensures parts { IfSome (due self.old.plan p) (λ tear. K.calls self.new.device p ≡ counted_by (at_once tear.keep) (K.calls self.old.device p)) }
         ensures waits { Waits p (after_answer result (one_fewer (waiting_for self.old.plan p))) self.old.plan self.new.plan }
         ensures elsewhere { (q : ℕ) → q ≢ p → came_to self.new.plan q ≡ came_to self.old.plan q }
     {

@@ -3,18 +3,19 @@ ghost use Rattle.std.specs.Option.{option_map};
 ghost use Rattle.dc_media.specs.declared.faults.DeviceFault.TheVariants.{Stopped};
 ghost use Rattle.dc_armed.specs.Turns.{ComesNone, WaitFirst, WaitNone};
 ghost use Rattle.dc_armed.specs.declared.stop.PlannedStop.{PlannedStop};
-ghost use Rattle.dc_armed.specs.Stops.{after_answer, came_to, due, due_of, first_stop, is_of, one_fewer, sooner_waiting, waiting_for, waiting_of, Comes, Waits};
+ghost use Rattle.dc_armed.specs.Stops.{after_answer, calls_to, came_to, due, due_of, first_stop, is_of, one_fewer, sooner_waiting, waiting_for, waiting_of, Calls, Comes, Waits};
 
 use crate::stop::{PlannedStop, Waiting};
 use dc_media::{DeviceFault, STORES, Tear};
 use std::marker::Model;
 
-/// The planned stops, those that wait in the turn that runs, and how many came.
+/// The planned stops, those that wait in the turn that runs, how many came, and how many calls were made.
 #[derive(Drop)]
 pub(crate) struct StopPlan {
     stops: Vec<PlannedStop>,
     waiting: [Option<Waiting>; STORES as usize],
     came: [u64; STORES as usize],
+    calls: [u64; STORES as usize],
     /// Whether any stop waits.
     armed: bool,
     /// No stop is planned for the turns from this one on, and before `quiet_until`.
@@ -29,7 +30,7 @@ impl Model for StopPlan {
 
     ghost Value = { Plan };
 
-    ghost view = { λ s. record { stops = s.stops.items; waiting = s.waiting; came = s.came } };
+    ghost view = { λ s. record { stops = s.stops.items; waiting = s.waiting; came = s.came; calls = s.calls } };
 
     ghost invariant = { λ s. ComesNone s.stops.items s.quiet_from s.quiet_until × (s.armed ≡ false → WaitNone s.waiting) };
 }
@@ -41,8 +42,8 @@ fn none_waiting() -> [Option<Waiting>; STORES as usize]
     [None; STORES as usize]
 }
 
-/// No stop came.
-fn none_came() -> [u64; STORES as usize]
+/// Nothing is counted yet.
+fn none_counted() -> [u64; STORES as usize]
     ensures { (p : ℕ) → get_or result p 0 ≡ 0 }
 {
     [0; STORES as usize]
@@ -136,11 +137,13 @@ impl StopPlan {
         ensures stops { result.stops ≡ stops.items }
         ensures waits { WaitNone result.waiting }
         ensures came { (p : ℕ) → came_to result p ≡ 0 }
+        ensures calls { (p : ℕ) → p < STORES → calls_to result p ≡ 0 }
     {
         StopPlan {
             stops,
             waiting: none_waiting(),
-            came: none_came(),
+            came: none_counted(),
+            calls: none_counted(),
             armed: false,
             quiet_from: 0,
             quiet_until: 0,
@@ -152,6 +155,7 @@ impl StopPlan {
         ensures none { WaitNone self.new.waiting }
         ensures stops { self.new.stops ≡ self.old.stops }
         ensures came { self.new.came ≡ self.old.came }
+        ensures calls { self.new.calls ≡ self.old.calls }
     {
         if self.armed {
             self.waiting = none_waiting();
@@ -164,6 +168,7 @@ impl StopPlan {
         ensures waits { WaitFirst self.old.stops turn self.new.waiting }
         ensures stops { self.new.stops ≡ self.old.stops }
         ensures came { self.new.came ≡ self.old.came }
+        ensures calls { self.new.calls ≡ self.old.calls }
     {
         self.clear();
         let number = u64::from(turn);
@@ -175,13 +180,34 @@ impl StopPlan {
         self.quiet_until = next_turn(&self.stops, turn);
     }
 
+    /// How many calls a process made. Past the last process the count stands at its last value.
+    pub(crate) fn calls(&self, p: u32) -> u64
+        ensures { result ≡ calls_to self.now p }
+    {
+        self.calls.get(p as usize).copied().unwrap_or(u64::MAX)
+    }
+
+    /// Counts a call of a process.
+    fn count_call(&mut self, p: u32)
+        ensures calls { Calls p self.old self.new }
+        ensures same { self.new ≡ record self.old { calls = self.new.calls } }
+    {
+        if p >= STORES {
+            return;
+        }
+        let calls = &mut self.calls[p as usize];
+        *calls = calls.saturating_add(1);
+    }
+
     /// Counts a call of a process, and gives the tear of a stop that comes at it.
     pub(crate) fn call(&mut self, p: u32) -> Option<Tear>
         ensures due { result ≡ due self.old p }
         ensures within { IsSome result → p < STORES }
         ensures waits { Waits p (one_fewer (waiting_for self.old p)) self.old self.new }
         ensures came { self.new.came ≡ self.old.came }
+        ensures calls { Calls p self.old self.new }
     {
+        self.count_call(p);
         if !self.armed || p >= STORES {
             return None;
         }
@@ -192,6 +218,7 @@ impl StopPlan {
     fn stopped(&mut self, p: u32)
         ensures waits { Waits p None self.old self.new }
         ensures came { self.new.came ≡ self.old.came }
+        ensures calls { self.new.calls ≡ self.old.calls }
     {
         if self.armed && p < STORES {
             self.waiting[p as usize] = None;
@@ -207,6 +234,7 @@ impl StopPlan {
         ensures answer { result ≡ answer }
         ensures waits { Waits p (after_answer result (waiting_for self.old p)) self.old self.new }
         ensures came { self.new.came ≡ self.old.came }
+        ensures calls { self.new.calls ≡ self.old.calls }
     {
         match answer {
             Ok(()) => Ok(()),
@@ -223,6 +251,7 @@ impl StopPlan {
         requires { p < STORES }
         ensures comes { Comes p self.old self.new }
         ensures waits { Waits p None self.old self.new }
+        ensures calls { self.new.calls ≡ self.old.calls }
     {
         let came = &mut self.came[p as usize];
         *came = came.saturating_add(1);
@@ -235,6 +264,7 @@ impl StopPlan {
         ensures comes { OnOk done ((result ≡ Err Stopped) × Comes p self.old self.new) }
         ensures refused { OnErr done ((result ≡ done) × (self.new.came ≡ self.old.came)) }
         ensures waits { Waits p (after_answer result (waiting_for self.old p)) self.old self.new }
+        ensures calls { self.new.calls ≡ self.old.calls }
     {
         if done.is_ok() {
             self.count(p);

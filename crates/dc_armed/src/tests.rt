@@ -1,4 +1,6 @@
-ghost use Rattle.std.specs.Prelude.{◌-◌, ◌^◌, ◌≡◌, ◌≤◌, length, None};
+ghost use Rattle.std.specs.Prelude.{◌-◌, ◌^◌, ◌≡◌, ◌≤◌, ◌<◌, ◌+◌, length, None};
+ghost use Rattle.dc_media.specs.Disk.{Writes};
+ghost use Rattle.dc_media.specs.Stores.{SetsWord};
 ghost use Rattle.std.proofs.Common.{lit<};
 
 use crate::{Armed, PlannedStop};
@@ -32,9 +34,17 @@ impl Disks for FakeDisk {
 
     ghost faults = { λ s p. 2 ^ 64 - 1 };
 
+    ghost calls = { λ s p. 2 ^ 64 - 1 };
+
+    ghost continues = { λ s t. Unit {0} };
+
     ghost told_extent = { λ s p. tt };
 
     ghost extent_fits = { λ s p. lit< tt };
+
+    ghost continues_self = { λ s. tt };
+
+    ghost continues_on = { λ s t u first then. tt };
 
     fn format(&mut self, _alloc: Global, _p: u32, bytes: u64) -> Result<(), MakeFault> {
         if bytes != 200 {
@@ -84,9 +94,17 @@ impl Keeps for FakeWords {
 
     ghost faults = { λ s p. 2 ^ 64 - 1 };
 
+    ghost calls = { λ s p. 2 ^ 64 - 1 };
+
+    ghost continues = { λ s t. Unit {0} };
+
     ghost told_extent = { λ s p. tt };
 
     ghost extent_fits = { λ s p. lit< tt };
+
+    ghost continues_self = { λ s. tt };
+
+    ghost continues_on = { λ s t u first then. tt };
 
     fn format(&mut self, _alloc: Global, _p: u32, words: u32) -> Result<(), MakeFault> {
         if words != 2 {
@@ -333,4 +351,63 @@ fn a_store_of_words_is_made_by_the_device(rt: HostRuntime) -> Result<(), Fail> {
     assert_eq!(rt; words.load(0, 0), 0);
     assert_eq!(rt; words.store(0, 0, 8), STOPPED);
     Ok(())
+}
+
+/// A layer above, over any stores.
+fn store_through<K: Keeps>(keeps: &mut K, p: u32, i: u32, w: u32) -> Result<(), DeviceFault>
+    requires { i < K.extent keeps.old p }
+    ensures word { SetsWord i w result (K.told keeps.old p) (K.told keeps.new p) }
+    ensures continues { K.continues keeps.old keeps.new }
+{
+    keeps.store(p, i, w)
+}
+
+/// One store of it over armed stores that are lent: what was lent is told of.
+fn stores_lent<K: Keeps>(
+    keeps: &mut K,
+    stops: Vec<PlannedStop>,
+    p: u32,
+    i: u32,
+    w: u32,
+) -> Result<(), DeviceFault>
+    requires { i < K.extent keeps.old p }
+    ensures { SetsWord i w result (K.told keeps.old p) (K.told keeps.new p) }
+{
+    let mut armed = Armed::new(keeps, stops);
+    armed.at_turn(0);
+    let result = store_through(&mut armed, p, i, w);
+    let _back = armed.into_device();
+    result
+}
+
+/// A layer above, over any disks.
+fn write_through<D: Disks>(
+    disks: &mut D,
+    p: u32,
+    at: u64,
+    from: &[u8],
+) -> Result<(), DeviceFault>
+    requires { at + length from.now ≤ D.extent disks.old p }
+    ensures bytes { Writes at from.now result (D.told disks.old p) (D.told disks.new p) }
+    ensures continues { D.continues disks.old disks.new }
+{
+    disks.write(p, at, from)
+}
+
+/// One write of it over armed disks that are lent.
+fn writes_lent<D: Disks>(
+    disks: &mut D,
+    stops: Vec<PlannedStop>,
+    p: u32,
+    at: u64,
+    from: &[u8],
+) -> Result<(), DeviceFault>
+    requires { at + length from.now ≤ D.extent disks.old p }
+    ensures { Writes at from.now result (D.told disks.old p) (D.told disks.new p) }
+{
+    let mut armed = Armed::new(disks, stops);
+    armed.at_turn(0);
+    let result = write_through(&mut armed, p, at, from);
+    let _back = armed.into_device();
+    result
 }

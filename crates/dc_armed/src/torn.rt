@@ -1,6 +1,7 @@
 ghost use Rattle.std.specs.Prelude.{◌≡◌, ◌≢◌, ◌+◌, ◌<◌, ◌≤◌, ℕ, length};
 ghost use Rattle.dc_media.specs.Tears.{left, torn};
-ghost use Rattle.dc_armed.specs.Torn.{IsOverwrite, IsTornStore};
+ghost use Rattle.dc_media.specs.Devices.{of_disks, of_words};
+ghost use Rattle.dc_armed.specs.Torn.{IsOverwrite, IsTornStore, at_once, in_parts, torn_calls};
 
 use dc_media::{DeviceFault, Disks, Keeps, Tear};
 
@@ -10,7 +11,8 @@ const PART: usize = 64;
 /// Writes bytes of a disk, with no call where there are none.
 fn write_part<D: Disks>(disks: &mut D, p: u32, at: u64, front: &[u8]) -> Result<(), DeviceFault>
     requires { at + length front.now ≤ D.extent disks.old p }
-    ensures { IsOverwrite D.told D.extent D.stops D.faults p at (length front.now) (λ old. front.now) result disks.old disks.new }
+    ensures made { IsOverwrite (of_disks D.Disks) p (record { at = at; count = length front.now; make = (λ old. front.now); calls = at_once (length front.now) }) result disks.old disks.new }
+    ensures continues { D.continues disks.old disks.new }
 {
     if front.is_empty() {
         return Ok(());
@@ -21,10 +23,11 @@ fn write_part<D: Disks>(disks: &mut D, p: u32, at: u64, front: &[u8]) -> Result<
 /// Reads bytes of a disk and writes them back, so that they are pending.
 fn write_back<D: Disks>(disks: &mut D, p: u32, at: u64, bytes: &mut [u8]) -> Result<(), DeviceFault>
     requires { at + length bytes.old ≤ D.extent disks.old p }
-    ensures { IsOverwrite D.told D.extent D.stops D.faults p at (length bytes.old) (λ old. old) result disks.old disks.new }
+    ensures made { IsOverwrite (of_disks D.Disks) p (record { at = at; count = length bytes.old; make = (λ old. old); calls = at_once (length bytes.old) }) result disks.old disks.new }
+    ensures continues { D.continues disks.old disks.new }
 {
     let read = disks.read(p, at, bytes);
-    let written = disks.write(p, at, bytes);
+    let written = write_part(disks, p, at, bytes);
     read.and(written)
 }
 
@@ -38,7 +41,8 @@ fn leave_part<D: Disks>(
 ) -> Result<(), DeviceFault>
     requires few { count ≤ PART }
     requires fits { at + count ≤ D.extent disks.old p }
-    ensures { IsOverwrite D.told D.extent D.stops D.faults p at count (left fill) result disks.old disks.new }
+    ensures made { IsOverwrite (of_disks D.Disks) p (record { at = at; count = count; make = left fill; calls = at_once count }) result disks.old disks.new }
+    ensures continues { D.continues disks.old disks.new }
 {
     match fill {
         Some(byte) => {
@@ -61,7 +65,8 @@ fn leave<D: Disks>(
     fill: Option<u8>,
 ) -> Result<(), DeviceFault>
     requires { at + count ≤ D.extent disks.old p }
-    ensures { IsOverwrite D.told D.extent D.stops D.faults p at count (left fill) result disks.old disks.new }
+    ensures made { IsOverwrite (of_disks D.Disks) p (record { at = at; count = count; make = left fill; calls = in_parts count }) result disks.old disks.new }
+    ensures continues { D.continues disks.old disks.new }
 {
     let mut answer = Ok(());
     let mut done = 0;
@@ -82,7 +87,8 @@ pub(crate) fn torn_store<K: Keeps>(
     w: u32,
 ) -> Result<(), DeviceFault>
     requires { i < K.extent keeps.old p }
-    ensures { IsTornStore K.told K.extent K.stops K.faults tear p i w result keeps.old keeps.new }
+    ensures made { IsTornStore (of_words K.Keeps) p (record { tear = tear; index = i; word = w }) result keeps.old keeps.new }
+    ensures continues { K.continues keeps.old keeps.new }
 {
     if tear.keep == 0 {
         return Ok(());
@@ -101,7 +107,8 @@ pub(crate) fn torn_write<D: Disks>(
     from: &[u8],
 ) -> Result<(), DeviceFault>
     requires { at + length from.now ≤ D.extent disks.old p }
-    ensures { IsOverwrite D.told D.extent D.stops D.faults p at (length from.now) (λ old. torn tear old from.now) result disks.old disks.new }
+    ensures made { IsOverwrite (of_disks D.Disks) p (record { at = at; count = length from.now; make = (λ old. torn tear old from.now); calls = torn_calls tear (length from.now) }) result disks.old disks.new }
+    ensures continues { D.continues disks.old disks.new }
 {
     let keep = from.len().min(tear.keep as usize);
     let front = write_part(disks, p, at, &from[..keep]);

@@ -1,7 +1,8 @@
-ghost use Rattle.std.specs.Prelude.{◌≡◌, ◌≢◌, ◌<◌, ◌^◌, List, ℕ, Option, length, IfSome, OnOk, OnErr, slice_index, replicate};
-ghost use Rattle.dc_media.specs.Causes.{IsCaused, IsMade};
+ghost use Rattle.std.specs.Prelude.{refl, ◌≡◌, ◌≢◌, ◌<◌, ◌^◌, List, ℕ, Option, length, IfSome, OnOk, OnErr, slice_index, replicate};
+ghost use Rattle.std.proofs.Common.{◌∙◌};
+ghost use Rattle.dc_media.specs.Causes.{IsCaused, IsMade, counted};
 ghost use Rattle.dc_media.specs.Stores.{SetsWord};
-ghost use Rattle.dc_media.specs.Told.{TellsOn, IsSameStore};
+ghost use Rattle.dc_media.specs.Told.{TellsOn, IsSameStore, seen};
 
 use crate::{DeviceFault, MakeFault, STORES};
 use std::alloc::Global;
@@ -22,6 +23,12 @@ pub trait Keeps {
     /// How many calls on a store failed.
     ghost faults: { Self → ℕ → ℕ };
 
+    /// How many calls of `store` were made, refused ones too.
+    ghost calls: { Self → ℕ → ℕ };
+
+    /// Whether the second is a later state of the first: what was lent to it stays lent to it.
+    ghost continues: { Self → Self → Type 0 };
+
     /// Makes a store of zeros.
     fn format(&mut self, alloc: Global, p: u32, words: u32) -> Result<(), MakeFault>
         requires { p < STORES }
@@ -30,7 +37,9 @@ pub trait Keeps {
         ensures zeros { OnOk result (IfSome (told self.new p) (λ ws. ws ≡ replicate words 0)) }
         ensures tells { TellsOn (stops self.new p) (faults self.new p) (told self.old p) (told self.new p) }
         ensures cause { IsMade (stops self.old p) (stops self.new p) (faults self.old p) (faults self.new p) result }
-        ensures others { (q : ℕ) → q ≢ p → IsSameStore told extent stops faults self.old self.new q };
+        ensures calls { calls self.new p ≡ calls self.old p }
+        ensures others { (q : ℕ) → q ≢ p → IsSameStore (seen told extent stops faults calls) self.old self.new q }
+        ensures continues { continues self.old self.new };
 
     /// The word at an index.
     fn load(&self, p: u32, i: u32) -> u32
@@ -44,13 +53,21 @@ pub trait Keeps {
         ensures word { SetsWord i w result (told self.old p) (told self.new p) }
         ensures tells { TellsOn (stops self.new p) (faults self.new p) (told self.old p) (told self.new p) }
         ensures cause { IsCaused (stops self.old p) (stops self.new p) (faults self.old p) (faults self.new p) result }
-        ensures others { (q : ℕ) → q ≢ p → IsSameStore told extent stops faults self.old self.new q };
+        ensures calls { calls self.new p ≡ counted (calls self.old p) }
+        ensures others { (q : ℕ) → q ≢ p → IsSameStore (seen told extent stops faults calls) self.old self.new q }
+        ensures continues { continues self.old self.new };
 
     /// A told store has its extent.
     ghost told_extent: { (s : Self) (p : ℕ) → IfSome (told s p) (λ ws. length ws ≡ extent s p) };
 
     /// An index of a word fits 32 bits.
     ghost extent_fits: { (s : Self) (p : ℕ) → extent s p < 2 ^ 32 };
+
+    /// A device continues itself.
+    ghost continues_self: { (s : Self) → continues s s };
+
+    /// What continues a later state continues the first.
+    ghost continues_on: { (s t u : Self) → continues s t → continues t u → continues s u };
 }
 
 /// Stores that are lent are stores.
@@ -63,9 +80,17 @@ impl<K: Keeps> Keeps for &mut K {
 
     ghost faults = { λ s. K.faults s.now };
 
+    ghost calls = { λ s. K.calls s.now };
+
+    ghost continues = { λ s t. s.ghost_name ≡ t.ghost_name };
+
     ghost told_extent = { λ s. K.told_extent s.now };
 
     ghost extent_fits = { λ s. K.extent_fits s.now };
+
+    ghost continues_self = { λ s. refl };
+
+    ghost continues_on = { λ s t u first then. first ∙ then };
 
     fn format(&mut self, alloc: Global, p: u32, words: u32) -> Result<(), MakeFault> {
         (**self).format(alloc, p, words)

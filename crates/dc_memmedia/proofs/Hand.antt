@@ -3,22 +3,27 @@ use Rattle.std.proofs.Common.{◌≡◌, ◌≢◌, ℕ, suc, ◌+◌, ◌-◌, 
 use Rattle.std.proofs.lemmas.Bool.{cases_Bool, eqb-false, eqb-true, eq-eqb, ltb-true, ltb-false}
 use Rattle.std.proofs.lemmas.Bool.Decides.{eqb_tells}
 use Rattle.dc_media.specs.declared.faults.DeviceFault.TheVariants.{Stopped, Failed}
-use Rattle.dc_memmedia.specs.Calls.{counted}
-use Rattle.dc_memmedia.specs.Due.{IsAtHand, due_after, due_at, next_after, sooner}
+use Rattle.dc_media.specs.Causes.{counted}
+use Rattle.dc_media.specs.Firsts.{first_by, sooner}
+use Rattle.dc_memmedia.specs.Due.{IsAtHand, due_after, due_at, is_after, next_after}
 use Rattle.dc_memmedia.specs.Listed.{is_call, next_call, none_made, with_call, with_fault}
 use Rattle.dc_memmedia.specs.declared.listed.Counts.{Counts}
 use Rattle.dc_memmedia.specs.declared.listed.ListedCall.{ListedCall}
+
+-- by which one comes first
+abbrev call_number : ListedCall → ℕ
+call_number call = call.call
 
 -- what follows is behind the calls that were made
 abbrev IsBehind : ℕ → Option ListedCall → Type 0
 IsBehind made next = IfSome next (λ call. made < call.call)
 
-sooner_behind : (call : ListedCall) (rest : Option ListedCall) (made : ℕ) → made < call.call → IsBehind made rest → made < (sooner call rest).call
+sooner_behind : (call : ListedCall) (rest : Option ListedCall) (made : ℕ) → made < call.call → IsBehind made rest → made < (sooner call_number call rest).call
 sooner_behind call None made above behind = above
 sooner_behind call (Some other) made above behind = elim (nat_lt other.call call.call) as (λ b. made < (if b then other else call).call) [ true ↦ behind | false ↦ above ]
 
 behind_step : (call : ListedCall) (mine above : Bool) (rest : Option ListedCall) (made : ℕ) → nat_lt made call.call ≡ above → IsBehind made rest
-    → IsBehind made (if mine && above then Some (sooner call rest) else rest)
+    → IsBehind made (if mine && above then Some (sooner call_number call rest) else rest)
 behind_step call false above rest made is behind = behind
 behind_step call true false rest made is behind = behind
 behind_step call true true rest made is behind = sooner_behind call rest made (ltb-true made call.call is) behind
@@ -35,7 +40,7 @@ is_at : (call : ListedCall) (number : ℕ) → call.call ≡ number → due_at (
 is_at call number same = rw (eq-eqb call.call number same) refl
 
 -- the sooner of two, where the first is of this number and the other behind
-sooner_at : (call : ListedCall) (rest : Option ListedCall) (made : ℕ) → call.call ≡ made + 1 → IsBehind made rest → due_at (Some (sooner call rest)) (made + 1) ≡ Some call
+sooner_at : (call : ListedCall) (rest : Option ListedCall) (made : ℕ) → call.call ≡ made + 1 → IsBehind made rest → due_at (Some (sooner call_number call rest)) (made + 1) ≡ Some call
 sooner_at call None made same behind = is_at call (made + 1) same
 sooner_at call (Some other) made same behind = ⊎_elim
     (λ (is : nat_lt other.call call.call ≡ true). absurd (omega (arith, ltb-true other.call call.call is, behind, same)))
@@ -43,7 +48,7 @@ sooner_at call (Some other) made same behind = ⊎_elim
     (cases_Bool (nat_lt other.call call.call))
 
 -- where it is behind this number too
-sooner_past : (call : ListedCall) (rest : Option ListedCall) (made : ℕ) → made + 1 < call.call → due_at (Some (sooner call rest)) (made + 1) ≡ due_at rest (made + 1)
+sooner_past : (call : ListedCall) (rest : Option ListedCall) (made : ℕ) → made + 1 < call.call → due_at (Some (sooner call_number call rest)) (made + 1) ≡ due_at rest (made + 1)
 sooner_past call None made past = not_at call (made + 1) (call.call == made + 1) refl (λ same. absurd (omega (arith, same, past)))
 sooner_past call (Some other) made past = ⊎_elim
     (λ (is : nat_lt other.call call.call ≡ true). rw is refl)
@@ -53,7 +58,7 @@ sooner_past call (Some other) made past = ⊎_elim
 
 due_step : (call : ListedCall) (mine above here : Bool) (rest found : Option ListedCall) (made : ℕ)
     → nat_lt made call.call ≡ above → (call.call == made + 1) ≡ here → IsBehind made rest → due_at rest (made + 1) ≡ found
-    → due_at (if mine && above then Some (sooner call rest) else rest) (made + 1) ≡ (if mine && here then Some call else found)
+    → due_at (if mine && above then Some (sooner call_number call rest) else rest) (made + 1) ≡ (if mine && here then Some call else found)
 due_step call false above here rest found made is at behind due = due
 due_step call true true true rest found made is at behind due = sooner_at call rest made (eqb-true call.call (made + 1) at) behind
 due_step call true true false rest found made is at behind due =
@@ -70,11 +75,11 @@ due (call ∷ calls) p made = due_step call (call.process == p) (nat_lt made cal
 skip_step : (call : ListedCall) (mine above later : Bool) (rest rest' : Option ListedCall) (made : ℕ)
     → nat_lt made call.call ≡ above → nat_lt (made + 1) call.call ≡ later → IsBehind made rest
     → (due_at rest (made + 1) ≡ None → rest' ≡ rest)
-    → due_at (if mine && above then Some (sooner call rest) else rest) (made + 1) ≡ None
-    → (if mine && later then Some (sooner call rest') else rest') ≡ (if mine && above then Some (sooner call rest) else rest)
+    → due_at (if mine && above then Some (sooner call_number call rest) else rest) (made + 1) ≡ None
+    → (if mine && later then Some (sooner call_number call rest') else rest') ≡ (if mine && above then Some (sooner call_number call rest) else rest)
 skip_step call false above later rest rest' made is now behind same none = same none
 skip_step call true true true rest rest' made is now behind same none =
-    let past = ltb-true (made + 1) call.call now in ap (λ r. Some (sooner call r)) (same (sym (sooner_past call rest made past) ∙ none))
+    let past = ltb-true (made + 1) call.call now in ap (λ r. Some (sooner call_number call r)) (same (sym (sooner_past call rest made past) ∙ none))
 skip_step call true true false rest rest' made is now behind same none =
     let here : call.call ≡ made + 1 = omega (arith, ltb-true made call.call is, ltb-false (made + 1) call.call now) in
     let at = sym none ∙ sooner_at call rest made here behind in absurd cc

@@ -6,8 +6,9 @@ use Rattle.std.proofs.Math.Seq.{take-set-lt}
 use Rattle.dc_media.specs.Stores.{SetsWord}
 use Rattle.dc_media.specs.Tears.{torn_word}
 use Rattle.dc_media.specs.Told.{Becomes, TellsOn}
+use Rattle.dc_memmedia.specs.Calls.{unless_last}
 use Rattle.dc_memmedia.specs.Keeps.{Stores, after_store, bounded, stored, told_words, with_words, words_of}
-use Rattle.dc_memmedia.specs.Listed.{Calls, answer_of, called, counts_of, next_call, told_by}
+use Rattle.dc_memmedia.specs.Listed.{Calls, answer_of, called, counts_of, faults_of, next_call, stops_of}
 use Rattle.dc_memmedia.specs.declared.listed.Counts.{Counts}
 use Rattle.dc_memmedia.specs.declared.listed.ListedCall.{ListedCall}
 
@@ -74,7 +75,7 @@ both_of false b is = absurd cc
 
 -- what is told now was told before, as counts do not fall
 pub told_becomes : {A : Type 0} (before now : Counts) (x y : A) (R : A → A → Type 0)
-    → before.stops ≤ now.stops → before.faults ≤ now.faults → R x y → Becomes (told_by before x) (told_by now y) R
+    → before.stops ≤ now.stops → before.faults ≤ now.faults → R x y → Becomes (unless_last before.stops before.faults x) (unless_last now.stops now.faults y) R
 told_becomes before now x y R stops faults holds = ⊎_elim
     (λ (is : (nat_lt now.stops (2 ^ 64 - 1) && nat_lt now.faults (2 ^ 64 - 1)) ≡ true).
     let both = both_of (nat_lt now.stops (2 ^ 64 - 1)) (nat_lt now.faults (2 ^ 64 - 1)) is in
@@ -83,7 +84,7 @@ told_becomes before now x y R stops faults holds = ⊎_elim
     (cases_Bool (nat_lt now.stops (2 ^ 64 - 1) && nat_lt now.faults (2 ^ 64 - 1)))
 
 -- and what was told before is told now, unless a count stands at its last value
-pub told_tells : {A : Type 0} (before now : Counts) (x y : A) → TellsOn now.stops now.faults (told_by before x) (told_by now y)
+pub told_tells : {A : Type 0} (before now : Counts) (x y : A) → TellsOn now.stops now.faults (unless_last before.stops before.faults x) (unless_last now.stops now.faults y)
 told_tells before now x y = λ stops faults told. rw (lt-ltb now.stops (2 ^ 64 - 1) stops, lt-ltb now.faults (2 ^ 64 - 1) faults) refl
 
 stored_is : (words : List ℕ) (i w : ℕ) (call : ListedCall) → (stored i w (Some call) words ≡ words) ⊎ (stored i w (Some call) words ≡ slice_set words i w)
@@ -93,7 +94,7 @@ stored_is words i w call = ⊎_elim
     (cases_Bool (call.tear.keep == 0))
 
 pub sets_word : (words : List ℕ) (i w : ℕ) (listed : Option ListedCall) (before now : Counts) → before.stops ≤ now.stops → before.faults ≤ now.faults
-    → SetsWord i w (answer_of listed) (told_by before words) (told_by now (stored i w listed words))
+    → SetsWord i w (answer_of listed) (unless_last before.stops before.faults words) (unless_last now.stops now.faults (stored i w listed words))
 sets_word words i w None before now stops faults = told_becomes before now words _ _ stops faults refl
 sets_word words i w (Some call) before now stops faults = told_becomes before now words _ _ stops faults (stored_is words i w call)
 
@@ -124,6 +125,6 @@ pub store_sets : (s : Stores) (p i w : ℕ) → i < length (words_of s p)
     → (counts_of s.calls p).stops ≤ (counts_of (called s.calls p) p).stops → (counts_of s.calls p).faults ≤ (counts_of (called s.calls p) p).faults
     → SetsWord i w (answer_of (next_call s.calls p)) (told_words s p) (told_words (after_store p i w s) p)
 store_sets s p i w within stops faults =
-    subst (λ (words : List ℕ). SetsWord i w (answer_of (next_call s.calls p)) (told_words s p) (told_by (counts_of (called s.calls p) p) words))
+    subst (λ (words : List ℕ). SetsWord i w (answer_of (next_call s.calls p)) (told_words s p) (unless_last (stops_of (called s.calls p) p) (faults_of (called s.calls p) p) words))
     (sym (words_after s p i w within))
     (sets_word (words_of s p) i w (next_call s.calls p) (counts_of s.calls p) (counts_of (called s.calls p) p) stops faults)

@@ -5,8 +5,9 @@ use Rattle.std.proofs.lemmas.List.{length-replicate}
 use Rattle.dc_media.specs.Disk.{Disk, Survives, Syncs, Writes, spliced, with_pending}
 use Rattle.dc_media.specs.Told.{Becomes, TellsOn}
 use Rattle.dc_media.proofs.Splicing.{Survives-spliced, length-spliced}
+use Rattle.dc_memmedia.specs.Calls.{unless_last}
 use Rattle.dc_memmedia.specs.Disks.{Bytes, disk_in, left_of, most, synced, undone, unsynced, written}
-use Rattle.dc_memmedia.specs.Listed.{answer_of, told_by}
+use Rattle.dc_memmedia.specs.Listed.{answer_of}
 use Rattle.dc_memmedia.specs.declared.listed.Counts.{Counts}
 use Rattle.dc_memmedia.specs.declared.listed.ListedCall.{ListedCall}
 use Rattle.dc_memmedia.proofs.Covering.{left_of_length, undone_length}
@@ -17,7 +18,7 @@ abbrev pub is_told : Bytes → Bool
 is_told bytes = nat_le (length bytes.content) most && (length bytes.pending == length bytes.content)
 
 abbrev pub told_of : Counts → Bytes → Option Disk
-told_of counts bytes = if is_told bytes then told_by counts (disk_in bytes) else None
+told_of counts bytes = if is_told bytes then unless_last counts.stops counts.faults (disk_in bytes) else None
 
 marked : (x : Bytes) → is_told x ≡ true → length x.pending ≡ length x.content
 marked x is = go (nat_le (length x.content) most) (length x.pending == length x.content) refl is
@@ -56,14 +57,14 @@ kept fill (mark ∷ marks) (old ∷ olds) (byte ∷ bytes) (suc i) off = kept fi
 undone_survives : (fill : Option ℕ) (x : Bytes) → Survives (disk_in x) (disk_in (record x { content = undone fill x.pending x.synced x.content }))
 undone_survives fill x = record {
   pending = refl;
-  image = record {
+  crash_image = record {
     length_same = undone_length fill x.pending x.synced x.content;
     outside = λ i off. kept fill x.pending x.synced x.content i off;
   };
 }
 
 same_survives : (x : Bytes) → Survives (disk_in x) (disk_in x)
-same_survives x = record { pending = refl; image = record { length_same = refl; outside = λ i off. refl } }
+same_survives x = record { pending = refl; crash_image = record { length_same = refl; outside = λ i off. refl } }
 
 lost_survives : (keep : ℕ) (fill : Option ℕ) (x : Bytes) → Survives (disk_in x) (disk_in (record x { content = unsynced (record { keep = keep; fill = fill }) x }))
 lost_survives keep (Some byte) x = undone_survives (Some byte) x
@@ -74,7 +75,7 @@ lost_survives keep None x = ⊎_elim
 
 synced_lengths : (listed : Option ListedCall) (x : Bytes) → (length (synced listed x).content ≡ length x.content) × (length (synced listed x).pending ≡ length x.pending)
 synced_lengths None x = (refl, length-replicate (length x.pending) false)
-synced_lengths (Some call) x = ((lost_survives call.tear.keep call.tear.fill x).image.length_same, refl)
+synced_lengths (Some call) x = ((lost_survives call.tear.keep call.tear.fill x).crash_image.length_same, refl)
 
 pub sync_syncs : (before now : Counts) (listed : Option ListedCall) (x : Bytes) → before.stops ≤ now.stops → before.faults ≤ now.faults
     → Syncs (answer_of listed) (told_of before x) (told_of now (synced listed x))

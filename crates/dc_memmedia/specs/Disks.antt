@@ -2,9 +2,10 @@
 use Rattle.std.specs.Prelude.{ℕ, ◌-◌, ◌^◌, ◌==◌, ◌&&◌, nat_le, min, List, [], ◌∷◌, Bool, true, false, Option, None, Some, if◌then◌else◌, drop, get_or, length, replicate, slice_set, take, unwrap_or}
 use Rattle.dc_media.specs.Disk.{Disk, spliced}
 use Rattle.dc_media.specs.Tears.{torn}
-use Rattle.dc_media.specs.Told.{IsSameStore}
+use Rattle.dc_media.specs.Told.{Device}
 use Rattle.dc_media.specs.declared.tear.Tear.{Tear}
-use Rattle.dc_memmedia.specs.Listed.{Calls, called, counts_of, next_call, told_by}
+use Rattle.dc_memmedia.specs.Calls.{unless_last}
+use Rattle.dc_memmedia.specs.Listed.{Calls, called, counting, faults_of, next_call, stops_of}
 use Rattle.dc_memmedia.specs.declared.listed.ListedCall.{ListedCall}
 
 -- what a read gives, what the last sync made sure of, and which bytes are pending since
@@ -26,6 +27,7 @@ zeros n = record { content = replicate n 0; synced = replicate n 0; pending = re
 abbrev pub no_bytes : Bytes
 no_bytes = record { content = []; synced = []; pending = [] }
 
+-- the bytes of a process's disk
 abbrev pub bytes_of : DiskStates → ℕ → Bytes
 bytes_of states p = get_or states.disks p no_bytes
 
@@ -33,26 +35,23 @@ bytes_of states p = get_or states.disks p no_bytes
 abbrev pub most : ℕ
 most = 2 ^ 63 - 1
 
+-- how many bytes a disk has
 abbrev pub extent_of : DiskStates → ℕ → ℕ
 extent_of states p = min (length (bytes_of states p).content) most
 
-abbrev pub stops_of : DiskStates → ℕ → ℕ
-stops_of states p = (counts_of states.calls p).stops
-
-abbrev pub faults_of : DiskStates → ℕ → ℕ
-faults_of states p = (counts_of states.calls p).faults
-
+-- its content and marks
 abbrev pub disk_in : Bytes → Disk
 disk_in bytes = record { content = bytes.content; pending = bytes.pending }
 
+-- the disk where it has a mark for each byte and not too many, unless a count of refusals stands at its last value
 abbrev pub told_disk : DiskStates → ℕ → Option Disk
 told_disk states p =
     if nat_le (length (bytes_of states p).content) most && (length (bytes_of states p).pending == length (bytes_of states p).content)
-    then told_by (counts_of states.calls p) (disk_in (bytes_of states p)) else None
+    then unless_last (stops_of states.calls p) (faults_of states.calls p) (disk_in (bytes_of states p)) else None
 
--- another process's disk is as it was
-abbrev pub IsApart : DiskStates → DiskStates → ℕ → Type 0
-IsApart old new q = IsSameStore told_disk extent_of stops_of faults_of old new q
+-- disks in memory as a device
+abbrev pub in_memory : Device DiskStates Disk
+in_memory = counting (λ states. states.calls) told_disk extent_of
 
 -- what a write leaves of its piece
 abbrev pub left_of : ℕ → List ℕ → Option ListedCall → List ℕ → List ℕ

@@ -1,19 +1,17 @@
 -- The listed call of a process that comes next, which is kept at hand.
-use Rattle.std.specs.Prelude.{◌≡◌, ℕ, ◌+◌, ◌-◌, ◌^◌, ◌<◌, ◌==◌, ◌&&◌, nat_lt, List, [], ◌∷◌, Option, None, Some, get_or, length, if◌then◌else◌}
+use Rattle.std.specs.Prelude.{◌≡◌, ℕ, ◌+◌, ◌-◌, ◌^◌, ◌<◌, ◌==◌, ◌&&◌, nat_lt, Bool, List, Option, None, Some, get_or, length, if◌then◌else◌}
+use Rattle.dc_media.specs.Firsts.{first_by}
 use Rattle.dc_memmedia.specs.Listed.{none_made}
 use Rattle.dc_memmedia.specs.declared.listed.Counts.{Counts}
 use Rattle.dc_memmedia.specs.declared.listed.ListedCall.{ListedCall}
 
--- the sooner of two calls, the first of two of one number
-abbrev pub sooner : ListedCall → Option ListedCall → ListedCall
-sooner call None = call
-sooner call (Some other) = if nat_lt other.call call.call then other else call
+-- of a process, after so many calls
+abbrev pub is_after : ℕ → ℕ → ListedCall → Bool
+is_after p made call = (call.process == p) && nat_lt made call.call
 
 -- the first of a process after so many calls
 abbrev pub next_after : List ListedCall → ℕ → ℕ → Option ListedCall
-next_after [] p made = None
-next_after (call ∷ calls) p made =
-    if (call.process == p) && nat_lt made call.call then Some (sooner call (next_after calls p made)) else next_after calls p made
+next_after calls p made = first_by (is_after p made) (λ call. call.call) calls
 
 -- the call that is kept at hand, where it is the one of this number
 abbrev pub due_at : Option ListedCall → ℕ → Option ListedCall

@@ -2,8 +2,10 @@
 use Rattle.std.specs.Prelude.{◌≡◌, ◌≢◌, ℕ, List, Option, Some, None, IsSome, find}
 use Rattle.std.specs.Option.{option_map}
 use Rattle.std.specs.Str.{bytes_eq}
-use Rattle.dc_memmedia.specs.Calls.{counted, told, IsListed}
+use Rattle.dc_media.specs.Causes.{counted}
+use Rattle.dc_memmedia.specs.Calls.{IsListed, unless_last}
 
+-- a file's name and bytes
 pub record File : Type 0 where
   pub name : List ℕ
   pub bytes : List ℕ
@@ -25,7 +27,7 @@ bytes_named files name = option_map (λ file. file.bytes) (file_named files name
 
 -- the bytes of each name, unless the count of faults stands at its last value
 abbrev pub told_files : LibraryState → Option (List ℕ → Option (List ℕ))
-told_files library = told library.faults (bytes_named library.files)
+told_files library = unless_last 0 library.faults (bytes_named library.files)
 
 -- a call that is listed, for a file that is there
 abbrev pub Fails : LibraryState → List ℕ → Type 0

@@ -1,8 +1,9 @@
 -- Stores in memory as contracts see them, and what a call does to them.
 use Rattle.std.specs.Prelude.{ℕ, ◌-◌, ◌^◌, List, [], Option, None, Some, get_or, take, length, slice_index, slice_set}
 use Rattle.dc_media.specs.Tears.{torn_word}
-use Rattle.dc_media.specs.Told.{IsSameStore}
-use Rattle.dc_memmedia.specs.Listed.{Calls, called, counts_of, next_call, told_by}
+use Rattle.dc_media.specs.Told.{Device}
+use Rattle.dc_memmedia.specs.Calls.{unless_last}
+use Rattle.dc_memmedia.specs.Listed.{Calls, called, counting, faults_of, next_call, stops_of}
 use Rattle.dc_memmedia.specs.declared.listed.ListedCall.{ListedCall}
 
 -- the words of each process, and its calls
@@ -14,21 +15,17 @@ pub record Stores : Type 0 where
 unfoldable pub bounded : List ℕ → List ℕ
 bounded words = take (2 ^ 32 - 1) words
 
+-- the words of a process
 abbrev pub words_of : Stores → ℕ → List ℕ
 words_of stores p = bounded (get_or stores.words p [])
 
-abbrev pub stops_of : Stores → ℕ → ℕ
-stops_of stores p = (counts_of stores.calls p).stops
-
-abbrev pub faults_of : Stores → ℕ → ℕ
-faults_of stores p = (counts_of stores.calls p).faults
-
+-- the words, unless a count of refusals stands at its last value
 abbrev pub told_words : Stores → ℕ → Option (List ℕ)
-told_words stores p = told_by (counts_of stores.calls p) (words_of stores p)
+told_words stores p = unless_last (stops_of stores.calls p) (faults_of stores.calls p) (words_of stores p)
 
--- another process's store is as it was
-abbrev pub IsApart : Stores → Stores → ℕ → Type 0
-IsApart old new q = IsSameStore told_words (λ s p. length (words_of s p)) stops_of faults_of old new q
+-- stores in memory as a device
+abbrev pub in_memory : Device Stores (List ℕ)
+in_memory = counting (λ stores. stores.calls) told_words (λ stores p. length (words_of stores p))
 
 -- the words after a store: all of it, or what a listed call leaves
 abbrev pub stored : ℕ → ℕ → Option ListedCall → List ℕ → List ℕ

@@ -1,9 +1,10 @@
 -- The calls of a process's device, which are numbered from 1, and those that are listed: they are stopped or fail.
 use Rattle.std.specs.Prelude.{ℕ, ◌+◌, ◌-◌, ◌^◌, ◌==◌, ◌&&◌, nat_lt, List, Bool, Option, None, Some, Result, Ok, Err, find, get_or, slice_set, if◌then◌else◌}
-use Rattle.dc_media.specs.Causes.{IsCaused}
+use Rattle.dc_media.specs.Causes.{IsCaused, counted}
+use Rattle.dc_media.specs.Told.{Device, seen}
+use Rattle.dc_media.specs.declared.TheConstants.{STORES}
 use Rattle.dc_media.specs.declared.faults.DeviceFault.{DeviceFault}
 use Rattle.dc_media.specs.declared.faults.DeviceFault.TheVariants.{Stopped, Failed}
-use Rattle.dc_memmedia.specs.Calls.{counted}
 use Rattle.dc_memmedia.specs.declared.listed.Counts.{Counts}
 use Rattle.dc_memmedia.specs.declared.listed.ListedCall.{ListedCall}
 
@@ -12,11 +13,29 @@ pub record Calls : Type 0 where
   pub listed : List ListedCall
   pub counts : List Counts
 
+-- no call yet
 abbrev pub none_made : Counts
 none_made = record { made = 0; stops = 0; faults = 0 }
 
+-- the counts of a process
 abbrev pub counts_of : Calls → ℕ → Counts
 counts_of calls p = get_or calls.counts p none_made
+
+-- how many calls a process made; past the last process the count stands at its last value
+abbrev pub calls_of : Calls → ℕ → ℕ
+calls_of calls p = if nat_lt p STORES then (counts_of calls p).made else 2 ^ 64 - 1
+
+-- how many of them were stopped
+abbrev pub stops_of : Calls → ℕ → ℕ
+stops_of calls p = (counts_of calls p).stops
+
+-- how many of them failed
+abbrev pub faults_of : Calls → ℕ → ℕ
+faults_of calls p = (counts_of calls p).faults
+
+-- a device whose state has such calls
+abbrev pub counting : {S C : Type 0} → (S → Calls) → (S → ℕ → Option C) → (S → ℕ → ℕ) → Device S C
+counting calls told extent = seen told extent (λ s p. stops_of (calls s) p) (λ s p. faults_of (calls s) p) (λ s p. calls_of (calls s) p)
 
 -- of this process and number
 abbrev pub is_call : ℕ → ℕ → ListedCall → Bool
@@ -28,6 +47,7 @@ next_call calls p =
     let made = (counts_of calls p).made in
     if nat_lt made (2 ^ 64 - 1) then find (is_call p (made + 1)) calls.listed else None
 
+-- one more refusal
 abbrev pub with_fault : DeviceFault → Counts → Counts
 with_fault Stopped counts = record counts { stops = counted counts.stops }
 with_fault Failed counts = record counts { faults = counted counts.faults }
@@ -49,8 +69,4 @@ answer_of (Some call) = Err call.fault
 -- a refusal of a process's call is counted
 abbrev pub HasCause : {T : Type 0} → Calls → Calls → ℕ → Result T DeviceFault → Type 0
 HasCause old new p result =
-    IsCaused (counts_of old p).stops (counts_of new p).stops (counts_of old p).faults (counts_of new p).faults result
-
--- the content, unless a count of refusals stands at its last value
-abbrev pub told_by : {A : Type 0} → Counts → A → Option A
-told_by counts content = if nat_lt counts.stops (2 ^ 64 - 1) && nat_lt counts.faults (2 ^ 64 - 1) then Some content else None
+    IsCaused (stops_of old p) (stops_of new p) (faults_of old p) (faults_of new p) result

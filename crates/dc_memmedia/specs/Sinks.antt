@@ -1,6 +1,7 @@
 -- A sink in memory as contracts see it, and what a call does to it.
 use Rattle.std.specs.Prelude.{◌≡◌, ◌⊎◌, ◌<◌, ◌-◌, ◌++◌, ℕ, List, Option, length, take, min}
-use Rattle.dc_memmedia.specs.Calls.{counted, told, IsListed}
+use Rattle.dc_media.specs.Causes.{counted}
+use Rattle.dc_memmedia.specs.Calls.{IsListed, unless_last}
 
 -- the bytes that it took, how many it takes in all, which calls fail, and its counts
 pub record SinkState : Type 0 where
@@ -12,7 +13,7 @@ pub record SinkState : Type 0 where
 
 -- the bytes, unless the count of faults stands at its last value
 abbrev pub told_bytes : SinkState → Option (List ℕ)
-told_bytes sink = told sink.faults sink.bytes
+told_bytes sink = unless_last 0 sink.faults sink.bytes
 
 -- how many bytes it still takes
 abbrev pub room_left : SinkState → ℕ

@@ -1,10 +1,10 @@
 ghost use Rattle.std.specs.Prelude.{◌≡◌, ◌≢◌, ◌+◌, ◌<◌, ◌≤◌, [], ℕ, IfOk, IfSome, IsErrOf, IsOk, OnErr, OnOk, drop, length, replicate, slice_set, take};
-ghost use Rattle.dc_media.specs.Causes.{IsCaused, IsMade};
+ghost use Rattle.dc_media.specs.Causes.{IsCaused, IsMade, counted};
 ghost use Rattle.dc_media.specs.Disk.{Reads, Syncs, Writes, blank};
 ghost use Rattle.dc_media.specs.Told.{IsSameStore, TellsOn};
-ghost use Rattle.dc_memmedia.specs.Disks.{IsApart, after, bytes_of, extent_of, faults_of, stops_of, synced, told_disk, written, zeros};
+ghost use Rattle.dc_memmedia.specs.Disks.{after, bytes_of, extent_of, in_memory, synced, told_disk, written, zeros};
 ghost use Rattle.dc_memmedia.specs.Extents.{disk_fits, disk_told};
-ghost use Rattle.dc_memmedia.specs.Listed.{answer_of, counts_of, next_call, none_made};
+ghost use Rattle.dc_memmedia.specs.Listed.{answer_of, calls_of, faults_of, next_call, none_made, stops_of};
 
 use crate::bytes::DiskBytes;
 use crate::listed::{Calls, ListedCall, answer};
@@ -53,21 +53,21 @@ impl MemDisks {
 
     /// How many writes and syncs a process made.
     pub fn calls(&self, p: u32) -> u64
-        ensures { result ≡ (counts_of self.now.calls p).made }
+        ensures { result ≡ calls_of self.now.calls p }
     {
-        self.calls.counts(p).made
+        self.calls.made(p)
     }
 
     /// How many of them were stopped.
     pub fn stops(&self, p: u32) -> u64
-        ensures { result ≡ stops_of self.now p }
+        ensures { result ≡ stops_of self.now.calls p }
     {
         self.calls.counts(p).stops
     }
 
     /// How many of them failed.
     pub fn faults(&self, p: u32) -> u64
-        ensures { result ≡ faults_of self.now p }
+        ensures { result ≡ faults_of self.now.calls p }
     {
         self.calls.counts(p).faults
     }
@@ -78,22 +78,32 @@ impl Disks for MemDisks {
 
     ghost extent = { extent_of };
 
-    ghost stops = { stops_of };
+    ghost stops = { λ s p. stops_of s.calls p };
 
-    ghost faults = { faults_of };
+    ghost faults = { λ s p. faults_of s.calls p };
+
+    ghost calls = { λ s p. calls_of s.calls p };
+
+    ghost continues = { λ s t. Unit {0} };
 
     ghost told_extent = { disk_told };
 
     ghost extent_fits = { disk_fits };
+
+    ghost continues_self = { λ s. tt };
+
+    ghost continues_on = { λ s t u first then. tt };
 
     fn format(&mut self, alloc: Global, p: u32, bytes: u64) -> Result<(), MakeFault>
         requires { p < STORES }
         ensures extent { OnOk result (extent_of self.new p ≡ bytes) }
         ensures refused { OnErr result (self.new ≡ self.old) }
         ensures zeros { OnOk result (IfSome (told_disk self.new p) (λ disk. disk ≡ blank bytes)) }
-        ensures tells { TellsOn (stops_of self.new p) (faults_of self.new p) (told_disk self.old p) (told_disk self.new p) }
-        ensures cause { IsMade (stops_of self.old p) (stops_of self.new p) (faults_of self.old p) (faults_of self.new p) result }
-        ensures others { (q : ℕ) → q ≢ p → IsApart self.old self.new q }
+        ensures tells { TellsOn (stops_of self.new.calls p) (faults_of self.new.calls p) (told_disk self.old p) (told_disk self.new p) }
+        ensures cause { IsMade (stops_of self.old.calls p) (stops_of self.new.calls p) (faults_of self.old.calls p) (faults_of self.new.calls p) result }
+        ensures calls { calls_of self.new.calls p ≡ calls_of self.old.calls p }
+        ensures others { (q : ℕ) → q ≢ p → IsSameStore in_memory self.old self.new q }
+        ensures continues { Unit {0} }
 
         // it fails for want of memory alone
         ensures made { OnOk result (self.new ≡ record self.old { disks = slice_set self.old.disks p (zeros bytes) }) }
@@ -121,9 +131,11 @@ impl Disks for MemDisks {
         requires { at + length to.old ≤ extent_of self.old p }
         ensures extent { extent_of self.new p ≡ extent_of self.old p }
         ensures bytes { Reads at to.new result (told_disk self.old p) (told_disk self.new p) }
-        ensures tells { TellsOn (stops_of self.new p) (faults_of self.new p) (told_disk self.old p) (told_disk self.new p) }
-        ensures cause { IsCaused (stops_of self.old p) (stops_of self.new p) (faults_of self.old p) (faults_of self.new p) result }
-        ensures others { (q : ℕ) → q ≢ p → IsApart self.old self.new q }
+        ensures tells { TellsOn (stops_of self.new.calls p) (faults_of self.new.calls p) (told_disk self.old p) (told_disk self.new p) }
+        ensures cause { IsCaused (stops_of self.old.calls p) (stops_of self.new.calls p) (faults_of self.old.calls p) (faults_of self.new.calls p) result }
+        ensures calls { calls_of self.new.calls p ≡ calls_of self.old.calls p }
+        ensures others { (q : ℕ) → q ≢ p → IsSameStore in_memory self.old self.new q }
+        ensures continues { Unit {0} }
 
         // it is never refused, is not counted and changes nothing
         ensures calm { IsOk result }
@@ -140,9 +152,11 @@ impl Disks for MemDisks {
         requires { at + length from.now ≤ extent_of self.old p }
         ensures extent { extent_of self.new p ≡ extent_of self.old p }
         ensures bytes { Writes at from.now result (told_disk self.old p) (told_disk self.new p) }
-        ensures tells { TellsOn (stops_of self.new p) (faults_of self.new p) (told_disk self.old p) (told_disk self.new p) }
-        ensures cause { IsCaused (stops_of self.old p) (stops_of self.new p) (faults_of self.old p) (faults_of self.new p) result }
-        ensures others { (q : ℕ) → q ≢ p → IsApart self.old self.new q }
+        ensures tells { TellsOn (stops_of self.new.calls p) (faults_of self.new.calls p) (told_disk self.old p) (told_disk self.new p) }
+        ensures cause { IsCaused (stops_of self.old.calls p) (stops_of self.new.calls p) (faults_of self.old.calls p) (faults_of self.new.calls p) result }
+        ensures calls { calls_of self.new.calls p ≡ counted (calls_of self.old.calls p) }
+        ensures others { (q : ℕ) → q ≢ p → IsSameStore in_memory self.old self.new q }
+        ensures continues { Unit {0} }
 
         // exactly when it is refused, and all that it changes
         ensures answer { p < STORES → result ≡ answer_of (next_call self.old.calls p) }
@@ -161,9 +175,11 @@ impl Disks for MemDisks {
     fn sync(&mut self, p: u32) -> Result<(), DeviceFault>
         ensures extent { extent_of self.new p ≡ extent_of self.old p }
         ensures bytes { Syncs result (told_disk self.old p) (told_disk self.new p) }
-        ensures tells { TellsOn (stops_of self.new p) (faults_of self.new p) (told_disk self.old p) (told_disk self.new p) }
-        ensures cause { IsCaused (stops_of self.old p) (stops_of self.new p) (faults_of self.old p) (faults_of self.new p) result }
-        ensures others { (q : ℕ) → q ≢ p → IsApart self.old self.new q }
+        ensures tells { TellsOn (stops_of self.new.calls p) (faults_of self.new.calls p) (told_disk self.old p) (told_disk self.new p) }
+        ensures cause { IsCaused (stops_of self.old.calls p) (stops_of self.new.calls p) (faults_of self.old.calls p) (faults_of self.new.calls p) result }
+        ensures calls { calls_of self.new.calls p ≡ counted (calls_of self.old.calls p) }
+        ensures others { (q : ℕ) → q ≢ p → IsSameStore in_memory self.old self.new q }
+        ensures continues { Unit {0} }
 
         // exactly when it is refused, and all that it changes
         ensures answer { p < STORES → result ≡ answer_of (next_call self.old.calls p) }

@@ -1,9 +1,9 @@
 ghost use Rattle.std.specs.Prelude.{◌≡◌, ◌≢◌, ◌<◌, [], ℕ, IfOk, IfSome, IsErrOf, IsOk, OnErr, OnOk, replicate, slice_index, length};
-ghost use Rattle.dc_media.specs.Causes.{IsCaused, IsMade};
+ghost use Rattle.dc_media.specs.Causes.{IsCaused, IsMade, counted};
 ghost use Rattle.dc_media.specs.Stores.{SetsWord};
 ghost use Rattle.dc_media.specs.Told.{IsSameStore, TellsOn};
-ghost use Rattle.dc_memmedia.specs.Keeps.{IsApart, after_store, faults_of, stops_of, stored, told_words, with_words, words_of};
-ghost use Rattle.dc_memmedia.specs.Listed.{answer_of, counts_of, next_call, none_made};
+ghost use Rattle.dc_memmedia.specs.Keeps.{after_store, in_memory, stored, told_words, with_words, words_of};
+ghost use Rattle.dc_memmedia.specs.Listed.{answer_of, calls_of, faults_of, next_call, none_made, stops_of};
 ghost use Rattle.dc_memmedia.specs.Extents.{words_fit, words_told};
 
 use crate::listed::{Calls, ListedCall, answer};
@@ -63,21 +63,21 @@ impl MemKeeps {
 
     /// How many calls of `store` a process made.
     pub fn calls(&self, p: u32) -> u64
-        ensures { result ≡ (counts_of self.now.calls p).made }
+        ensures { result ≡ calls_of self.now.calls p }
     {
-        self.calls.counts(p).made
+        self.calls.made(p)
     }
 
     /// How many of them were stopped.
     pub fn stops(&self, p: u32) -> u64
-        ensures { result ≡ stops_of self.now p }
+        ensures { result ≡ stops_of self.now.calls p }
     {
         self.calls.counts(p).stops
     }
 
     /// How many of them failed.
     pub fn faults(&self, p: u32) -> u64
-        ensures { result ≡ faults_of self.now p }
+        ensures { result ≡ faults_of self.now.calls p }
     {
         self.calls.counts(p).faults
     }
@@ -88,22 +88,32 @@ impl Keeps for MemKeeps {
 
     ghost extent = { λ s p. length (words_of s p) };
 
-    ghost stops = { stops_of };
+    ghost stops = { λ s p. stops_of s.calls p };
 
-    ghost faults = { faults_of };
+    ghost faults = { λ s p. faults_of s.calls p };
+
+    ghost calls = { λ s p. calls_of s.calls p };
+
+    ghost continues = { λ s t. Unit {0} };
 
     ghost told_extent = { words_told };
 
     ghost extent_fits = { words_fit };
+
+    ghost continues_self = { λ s. tt };
+
+    ghost continues_on = { λ s t u first then. tt };
 
     fn format(&mut self, alloc: Global, p: u32, words: u32) -> Result<(), MakeFault>
         requires { p < STORES }
         ensures extent { OnOk result (length (words_of self.new p) ≡ words) }
         ensures refused { OnErr result (self.new ≡ self.old) }
         ensures zeros { OnOk result (IfSome (told_words self.new p) (λ ws. ws ≡ replicate words 0)) }
-        ensures tells { TellsOn (stops_of self.new p) (faults_of self.new p) (told_words self.old p) (told_words self.new p) }
-        ensures cause { IsMade (stops_of self.old p) (stops_of self.new p) (faults_of self.old p) (faults_of self.new p) result }
-        ensures others { (q : ℕ) → q ≢ p → IsApart self.old self.new q }
+        ensures tells { TellsOn (stops_of self.new.calls p) (faults_of self.new.calls p) (told_words self.old p) (told_words self.new p) }
+        ensures cause { IsMade (stops_of self.old.calls p) (stops_of self.new.calls p) (faults_of self.old.calls p) (faults_of self.new.calls p) result }
+        ensures calls { calls_of self.new.calls p ≡ calls_of self.old.calls p }
+        ensures others { (q : ℕ) → q ≢ p → IsSameStore in_memory self.old self.new q }
+        ensures continues { Unit {0} }
 
         // it fails for want of memory alone
         ensures made { OnOk result (self.new ≡ with_words p (replicate words 0) self.old) }
@@ -130,9 +140,11 @@ impl Keeps for MemKeeps {
         requires { i < length (words_of self.old p) }
         ensures extent { length (words_of self.new p) ≡ length (words_of self.old p) }
         ensures word { SetsWord i w result (told_words self.old p) (told_words self.new p) }
-        ensures tells { TellsOn (stops_of self.new p) (faults_of self.new p) (told_words self.old p) (told_words self.new p) }
-        ensures cause { IsCaused (stops_of self.old p) (stops_of self.new p) (faults_of self.old p) (faults_of self.new p) result }
-        ensures others { (q : ℕ) → q ≢ p → IsApart self.old self.new q }
+        ensures tells { TellsOn (stops_of self.new.calls p) (faults_of self.new.calls p) (told_words self.old p) (told_words self.new p) }
+        ensures cause { IsCaused (stops_of self.old.calls p) (stops_of self.new.calls p) (faults_of self.old.calls p) (faults_of self.new.calls p) result }
+        ensures calls { calls_of self.new.calls p ≡ counted (calls_of self.old.calls p) }
+        ensures others { (q : ℕ) → q ≢ p → IsSameStore in_memory self.old self.new q }
+        ensures continues { Unit {0} }
 
         // exactly when it is refused, and all that it changes
         ensures answer { result ≡ answer_of (next_call self.old.calls p) }

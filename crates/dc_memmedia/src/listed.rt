@@ -1,8 +1,9 @@
 //! Calls that are counted, some of which are listed to be refused.
 ghost use Rattle.std.specs.Prelude.{◌≡◌, ◌<◌, None, Some, replicate};
-ghost use Rattle.dc_memmedia.specs.Listed.{HasCause, answer_of, called, counts_of, next_call, none_made, with_call, with_fault};
-ghost use Rattle.dc_media.specs.Causes.{IsCaused};
-ghost use Rattle.dc_memmedia.specs.Due.{due_after, next_after, sooner};
+ghost use Rattle.dc_memmedia.specs.Listed.{HasCause, answer_of, called, calls_of, counts_of, next_call, none_made, with_call, with_fault};
+ghost use Rattle.dc_media.specs.Causes.{IsCaused, counted};
+ghost use Rattle.dc_memmedia.specs.Due.{due_after, next_after};
+ghost use Rattle.dc_media.specs.Firsts.{sooner};
 
 use dc_media::{DeviceFault, STORES, Tear};
 use std::marker::Model;
@@ -29,6 +30,7 @@ pub(crate) struct Counts {
 }
 
 impl Counts {
+    /// No call yet.
     const NONE: Counts = Counts {
         made: 0,
         stops: 0,
@@ -105,7 +107,7 @@ fn next_after(listed: &[ListedCall], p: u32, made: u64) -> Option<ListedCall>
 
 /// The sooner of two calls, the first of two of one number.
 fn sooner(call: ListedCall, other: Option<ListedCall>) -> ListedCall
-    ensures { result ≡ sooner call other }
+    ensures { result ≡ sooner (λ call. call.call) call other }
 {
     match other {
         Some(other) if other.call < call.call => other,
@@ -153,11 +155,23 @@ impl Calls {
         self.counts.get(p as usize).copied().unwrap_or(Counts::NONE)
     }
 
+    /// How many calls a process made. Past the last process the count stands at its last value.
+    pub fn made(&self, p: u32) -> u64
+        ensures { result ≡ calls_of self.now p }
+    {
+        if p < STORES {
+            self.counts(p).made
+        } else {
+            u64::MAX
+        }
+    }
+
     /// Counts a call of a process, and says whether it is listed.
     pub fn call(&mut self, p: u32) -> Option<ListedCall>
         requires { p < STORES }
         ensures answer { result ≡ next_call self.old p }
         ensures counts { self.new ≡ called self.old p }
+        ensures made { calls_of self.new p ≡ counted (calls_of self.old p) }
         ensures cause { HasCause self.old self.new p (answer_of result) }
     {
         let i = p as usize;

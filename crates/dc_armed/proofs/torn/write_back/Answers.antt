@@ -1,20 +1,20 @@
-use Rattle.std.proofs.Common.{◌∙◌, length}
-use Rattle.dc_armed.proofs.Counting.{IsCaused-then, TellsOn-twice}
-use Rattle.dc_armed.proofs.Parting.{same-twice}
+use Rattle.std.proofs.Common.{ap, length}
+use Rattle.dc_media.specs.Devices.{of_disks}
+use Rattle.dc_armed.specs.Torn.{at_once}
+use Rattle.dc_armed.proofs.Counting.{IsInCalls-after}
 use Rattle.dc_armed.proofs.Surviving.{Overwrites-back}
 use Rattle.dc_armed.proofs.torn.write_back.Goals as goal
 
-pub returns : goal.returns
-returns g c =
+pub returns-clause-made : goal.returns-clause-made
+returns-clause-made g c =
     let D = g.D.Disks in
     let one = c.read-read.ensures in
-    let two = c.write-written.ensures in
+    let two = c.write_part-written.ensures.made in
     let p = c.args.p in
+    let long = c.read-read.auto.to in
     rw c.and.ensures (record {
       bytes = Overwrites-back (D.extent c.args.disks.now p) c.args.at (length c.args.bytes.now) c.read-read.new.to _ _ _ _ _
-          c.read-read.auto.to c.requires (g.met.D.Disks.told_extent c.args.disks.now p) (rw one.extent at (g.met.D.Disks.told_extent c.read-read.new.self p)) one.bytes two.bytes;
-      extent_same = two.extent ∙ one.extent;
-      tells = TellsOn-twice _ _ _ _ _ (D.told c.read-read.new.self p) _ two.cause.stops_later two.cause.faults_later one.tells two.tells;
-      cause = IsCaused-then _ _ _ _ _ _ _ _ one.cause two.cause;
-      others = λ q ne. same-twice D.told D.extent D.stops D.faults _ _ _ q (one.others q ne) (two.others q ne);
+          long c.requires (g.met.D.Disks.told_extent c.args.disks.now p) (rw one.extent at (g.met.D.Disks.told_extent c.read-read.new.self p)) one.bytes two.bytes;
+      lawful = IsInCalls-after (of_disks D) p _ _ c.read-read.result c.write_part-written.result _ c.read-read.new.self _ (ap at_once long)
+          (record { extent_same = one.extent; tells = one.tells; cause = one.cause; calls = one.calls; others = one.others }) two.lawful;
     })
