@@ -4,6 +4,7 @@ use Rattle.dc_media.specs.declared.faults.DeviceFault.{DeviceFault}
 use Rattle.dc_media.specs.declared.faults.DeviceFault.TheVariants.{Stopped}
 use Rattle.dc_media.specs.Causes.{IsCaused}
 use Rattle.dc_media.specs.Told.{Becomes, Device, seen}
+use Rattle.dc_armed.specs.Torn.{counted_by}
 use Rattle.dc_armed.specs.Stops.{Plan, Comes, came_to, calls_to}
 
 -- the device within, and the stops that are planned for it
@@ -32,13 +33,19 @@ pub record IsOwn {D C T : Type 0} (device : Device D C) (p : ℕ) (result : Resu
   pub cause : IsCaused (device.stops old.device p) (device.stops new.device p) (device.faults old.device p) (device.faults new.device p) result
   pub came_same : new.plan.came ≡ old.plan.came
 
+-- what a planned stop leaves of a content, and in how many counted calls of the device within
+pub record Work (C : Type 0) : Type 0 where
+  pub leaves : C → C
+  pub calls : ℕ
+
 -- a planned stop came and is counted; the device within refused nothing, and its content is what the stop leaves
-pub record IsPlanned {D C T : Type 0} (device : Device D C) (p : ℕ) (leaves : C → C) (result : Result T DeviceFault) (old new : Armed D) : Type 0 where
+pub record IsPlanned {D C T : Type 0} (device : Device D C) (p : ℕ) (work : Work C) (result : Result T DeviceFault) (old new : Armed D) : Type 0 where
   pub answer : IsErrOf result Stopped
   pub comes : Comes p old.plan new.plan
   pub stops_same : device.stops new.device p ≡ device.stops old.device p
   pub faults_same : device.faults new.device p ≡ device.faults old.device p
-  pub content : Becomes (device.told old.device p) (device.told new.device p) (λ before after. after ≡ leaves before)
+  pub content : Becomes (device.told old.device p) (device.told new.device p) (λ before after. after ≡ work.leaves before)
+  pub calls : device.calls new.device p ≡ counted_by work.calls (device.calls old.device p)
 
 -- a planned stop came and is counted, and the device within was not called
 pub record IsPlannedAlone {D T : Type 0} (p : ℕ) (result : Result T DeviceFault) (old new : Armed D) : Type 0 where
@@ -47,5 +54,5 @@ pub record IsPlannedAlone {D T : Type 0} (p : ℕ) (result : Result T DeviceFaul
   pub device_same : new.device ≡ old.device
 
 -- the planned stop came, or the device within refused the call, which is then the answer
-abbrev pub ComesOrRefused : {D C T : Type 0} → Device D C → ℕ → (C → C) → Result T DeviceFault → Armed D → Armed D → Type 0
-ComesOrRefused device p leaves result old new = IsPlanned device p leaves result old new ⊎ (IsErr result × IsOwn device p result old new)
+abbrev pub ComesOrRefused : {D C T : Type 0} → Device D C → ℕ → Work C → Result T DeviceFault → Armed D → Armed D → Type 0
+ComesOrRefused device p work result old new = IsPlanned device p work result old new ⊎ (IsErr result × IsOwn device p result old new)

@@ -1,9 +1,10 @@
 -- What is left of a torn call, and of a write that is made in parts.
-use Rattle.std.specs.Prelude.{◌≡◌, ◌≢◌, ◌⊎◌, ◌+◌, ◌-◌, ◌/◌, ℕ, zero, suc, min, List, length, take, drop, slice_index, slice_set, Option, Result, MatchResult, IsOk}
+use Rattle.std.specs.Prelude.{◌≡◌, ◌≢◌, ◌⊎◌, ◌+◌, ◌-◌, ◌/◌, ℕ, zero, suc, min, List, length, take, drop, slice_index, slice_set, Option, Result, MatchResult, IsOk, OnOk, nat_lt, ◌≤◌, if◌then◌else◌}
 use Rattle.dc_media.specs.declared.faults.DeviceFault.{DeviceFault}
 use Rattle.dc_media.specs.declared.tear.Tear.{Tear}
 use Rattle.dc_media.specs.Causes.{IsCaused, counted}
 use Rattle.dc_media.specs.Disk.{Disk, Survives, spliced, with_pending}
+use Rattle.dc_media.specs.Stores.{copied}
 use Rattle.dc_media.specs.Tears.{torn, torn_word}
 use Rattle.dc_media.specs.Told.{Becomes, Device, IsSameStore, TellsOn}
 
@@ -41,6 +42,31 @@ pub record IsTornStore {S T : Type 0} (device : Device S (List ℕ)) (p : ℕ) (
       (λ _. Becomes (device.told old p) (device.told new p) (λ before after. (after ≡ before) ⊎ (after ≡ slice_set before store.index store.word)))
   pub unmade : store.tear.keep ≡ 0 → IsOk result × (new ≡ old)
   pub lawful : IsInCalls device p (at_once store.tear.keep) result old new
+
+-- the first words of a line that are copied
+pub record Copy : Type 0 where
+  pub from : ℕ
+  pub to : ℕ
+  pub count : ℕ
+
+-- how many words of a line are copied
+abbrev pub kept_words : Tear → ℕ
+kept_words tear = min tear.keep 16
+
+-- in how many calls so many words of a line are copied: all of them in one, and fewer one by one
+abbrev pub copy_calls : ℕ → ℕ
+copy_calls count = if nat_lt count 16 then count else 1
+
+-- a line of which a planned stop keeps the first words: at Ok so many are copied; the first call that is refused is the last one
+pub record IsTornCopy {S T : Type 0} (device : Device S (List ℕ)) (p : ℕ) (copy : Copy) (result : Result T DeviceFault) (old new : S) : Type 0 where
+  pub words : MatchResult result
+      (λ _. Becomes (device.told old p) (device.told new p) (λ before after. after ≡ copied copy.count copy.from copy.to before))
+      (λ _. Becomes (device.told old p) (device.told new p) (λ before after. (k : ℕ) × (k ≤ 16) × (after ≡ copied k copy.from copy.to before)))
+  pub unmade : copy.count ≡ 0 → IsOk result × (new ≡ old)
+  pub made : ℕ
+  pub few : made ≤ copy_calls copy.count
+  pub all : OnOk result (made ≡ copy_calls copy.count)
+  pub lawful : IsInCalls device p made result old new
 
 -- n bytes at a place are pending, and are what is made of the old ones
 abbrev pub overwritten : ℕ → ℕ → (List ℕ → List ℕ) → Disk → Disk

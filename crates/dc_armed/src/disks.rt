@@ -89,7 +89,7 @@ impl<D: Disks> Disks for Armed<D> {
         // what a planned stop does, and what waits after a call
         ensures once { due self.old.plan p ≡ None → D.calls self.new.device p ≡ counted (D.calls self.old.device p) }
         ensures passes { due self.old.plan p ≡ None → IsOwn (of_disks D.Disks) p result self.old self.new }
-        ensures stops { IfSome (due self.old.plan p) (λ tear. ComesOrRefused (of_disks D.Disks) p (torn_disk tear at from.now) result self.old self.new) }
+        ensures stops { IfSome (due self.old.plan p) (λ tear. ComesOrRefused (of_disks D.Disks) p (record { leaves = torn_disk tear at from.now; calls = torn_calls tear (length from.now) }) result self.old self.new) }
         ensures parts { IfSome (due self.old.plan p) (λ tear. D.calls self.new.device p ≡ counted_by (torn_calls tear (length from.now)) (D.calls self.old.device p)) }
         ensures waits { Waits p (after_answer result (one_fewer (waiting_for self.old.plan p))) self.old.plan self.new.plan }
         ensures elsewhere { (q : ℕ) → q ≢ p → came_to self.new.plan q ≡ came_to self.old.plan q }

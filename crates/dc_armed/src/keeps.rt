@@ -1,18 +1,18 @@
-ghost use Rattle.std.specs.Prelude.{◌≡◌, ◌≢◌, ◌<◌, ℕ, None, IfSome, OnOk, OnErr, replicate};
+ghost use Rattle.std.specs.Prelude.{◌≡◌, ◌≢◌, ◌⊎◌, ◌+◌, ◌<◌, ◌≤◌, ℕ, None, IfSome, OnOk, OnErr, replicate};
 ghost use Rattle.dc_media.specs.Causes.{IsCaused, IsMade, counted};
-ghost use Rattle.dc_media.specs.Stores.{SetsWord};
+ghost use Rattle.dc_media.specs.Stores.{CopiesLine, SetsWord, copied};
 ghost use Rattle.dc_media.specs.Devices.{of_words};
 ghost use Rattle.dc_media.specs.Told.{TellsOn, IsSameStore};
 ghost use Rattle.dc_armed.specs.Armed.{all_calls, all_stops, armed, within, ComesOrRefused, IsOwn, IsPlannedAlone};
-ghost use Rattle.dc_armed.specs.Torn.{at_once, counted_by, torn_store};
+ghost use Rattle.dc_armed.specs.Torn.{at_once, copy_calls, counted_by, kept_words, torn_store};
 ghost use Rattle.dc_armed.specs.Stops.{after_answer, calls_to, came_to, due, one_fewer, waiting_for, Waits};
 
 use crate::Armed;
-use crate::torn::torn_store;
+use crate::torn::{torn_copy, torn_store};
 use dc_media::{DeviceFault, Keeps, MakeFault, STORES};
 use std::alloc::Global;
 
-/// Stores of words with planned stops. A store is counted as a call.
+/// Stores of words with planned stops. A store and a copied line are counted as calls.
 impl<K: Keeps> Keeps for Armed<K> {
     ghost told = { within K.told };
 
@@ -71,7 +71,7 @@ impl<K: Keeps> Keeps for Armed<K> {
         // what a planned stop does, and what waits after a call
         ensures once { due self.old.plan p ≡ None → K.calls self.new.device p ≡ counted (K.calls self.old.device p) }
         ensures passes { due self.old.plan p ≡ None → IsOwn (of_words K.Keeps) p result self.old self.new }
-        ensures stops { IfSome (due self.old.plan p) (λ tear. ComesOrRefused (of_words K.Keeps) p (torn_store tear i w) result self.old self.new) }
+        ensures stops { IfSome (due self.old.plan p) (λ tear. ComesOrRefused (of_words K.Keeps) p (record { leaves = torn_store tear i w; calls = at_once tear.keep }) result self.old self.new) }
         ensures unmade { IfSome (due self.old.plan p) (λ tear. tear.keep ≡ 0 → IsPlannedAlone p result self.old self.new) }
         ensures parts { IfSome (due self.old.plan p) (λ tear. K.calls self.new.device p ≡ counted_by (at_once tear.keep) (K.calls self.old.device p)) }
         ensures waits { Waits p (after_answer result (one_fewer (waiting_for self.old.plan p))) self.old.plan self.new.plan }
@@ -84,6 +84,42 @@ impl<K: Keeps> Keeps for Armed<K> {
             }
             Some(tear) => {
                 let done = torn_store(&mut self.device, tear, p, i, w);
+                self.plan.comes(p, done)
+            }
+        }
+    }
+
+    /// At a planned stop as many words are copied as are kept, one by one, or all of them by one call.
+    ///
+    /// The answer is then `Stopped`, unless the device refuses a call, which is passed on.
+    fn copy_line(&mut self, p: u32, from: u32, to: u32) -> Result<(), DeviceFault>
+        requires source { from + 16 ≤ K.extent self.old.device p }
+        requires place { to + 16 ≤ K.extent self.old.device p }
+        requires apart { (from ≡ to) ⊎ (from + 16 ≤ to) ⊎ (to + 16 ≤ from) }
+        ensures extent { K.extent self.new.device p ≡ K.extent self.old.device p }
+        ensures line { CopiesLine from to result (K.told self.old.device p) (K.told self.new.device p) }
+        ensures tells { TellsOn (K.stops self.new.device p) (K.faults self.new.device p) (K.told self.old.device p) (K.told self.new.device p) }
+        ensures cause { IsCaused (all_stops K.stops self.old p) (all_stops K.stops self.new p) (K.faults self.old.device p) (K.faults self.new.device p) result }
+        ensures calls { calls_to self.new.plan p ≡ counted (calls_to self.old.plan p) }
+        ensures others { (q : ℕ) → q ≢ p → IsSameStore (armed (of_words K.Keeps)) self.old self.new q }
+        ensures continues { K.continues self.old.device self.new.device }
+
+        // what a planned stop does, and what waits after a call
+        ensures once { due self.old.plan p ≡ None → K.calls self.new.device p ≡ counted (K.calls self.old.device p) }
+        ensures passes { due self.old.plan p ≡ None → IsOwn (of_words K.Keeps) p result self.old self.new }
+        ensures stops { IfSome (due self.old.plan p) (λ tear. ComesOrRefused (of_words K.Keeps) p (record { leaves = copied (kept_words tear) from to; calls = copy_calls (kept_words tear) }) result self.old self.new) }
+        ensures unmade { IfSome (due self.old.plan p) (λ tear. tear.keep ≡ 0 → IsPlannedAlone p result self.old self.new) }
+        ensures parts { IfSome (due self.old.plan p) (λ tear. (made : ℕ) × (made ≤ copy_calls (kept_words tear)) × (K.calls self.new.device p ≡ counted_by made (K.calls self.old.device p))) }
+        ensures waits { Waits p (after_answer result (one_fewer (waiting_for self.old.plan p))) self.old.plan self.new.plan }
+        ensures elsewhere { (q : ℕ) → q ≢ p → came_to self.new.plan q ≡ came_to self.old.plan q }
+    {
+        match self.plan.call(p) {
+            None => {
+                let done = self.device.copy_line(p, from, to);
+                self.plan.passed(p, done)
+            }
+            Some(tear) => {
+                let done = torn_copy(&mut self.device, tear, p, from, to);
                 self.plan.comes(p, done)
             }
         }

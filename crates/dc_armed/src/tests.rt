@@ -381,12 +381,7 @@ fn stores_lent<K: Keeps>(
 }
 
 /// A layer above, over any disks.
-fn write_through<D: Disks>(
-    disks: &mut D,
-    p: u32,
-    at: u64,
-    from: &[u8],
-) -> Result<(), DeviceFault>
+fn write_through<D: Disks>(disks: &mut D, p: u32, at: u64, from: &[u8]) -> Result<(), DeviceFault>
     requires { at + length from.now ≤ D.extent disks.old p }
     ensures bytes { Writes at from.now result (D.told disks.old p) (D.told disks.new p) }
     ensures continues { D.continues disks.old disks.new }

@@ -1,7 +1,7 @@
-ghost use Rattle.std.specs.Prelude.{◌≡◌, ◌≢◌, ◌+◌, ◌<◌, ◌≤◌, ℕ, length};
+ghost use Rattle.std.specs.Prelude.{◌≡◌, ◌≢◌, ◌⊎◌, ◌+◌, ◌<◌, ◌≤◌, ℕ, length};
 ghost use Rattle.dc_media.specs.Tears.{left, torn};
 ghost use Rattle.dc_media.specs.Devices.{of_disks, of_words};
-ghost use Rattle.dc_armed.specs.Torn.{IsOverwrite, IsTornStore, at_once, in_parts, torn_calls};
+ghost use Rattle.dc_armed.specs.Torn.{IsOverwrite, IsTornCopy, IsTornStore, at_once, in_parts, kept_words, torn_calls};
 
 use dc_media::{DeviceFault, Disks, Keeps, Tear};
 
@@ -94,6 +94,51 @@ pub(crate) fn torn_store<K: Keeps>(
         return Ok(());
     }
     keeps.store(p, i, w)
+}
+
+/// Copies the first words of a line one by one, until one is refused.
+fn copy_words<K: Keeps>(
+    keeps: &mut K,
+    p: u32,
+    from: u32,
+    to: u32,
+    count: u32,
+) -> Result<(), DeviceFault>
+    requires few { count < 16 }
+    requires source { from + 16 ≤ K.extent keeps.old p }
+    requires place { to + 16 ≤ K.extent keeps.old p }
+    requires apart { (from ≡ to) ⊎ (from + 16 ≤ to) ⊎ (to + 16 ≤ from) }
+    ensures made { IsTornCopy (of_words K.Keeps) p (record { from = from; to = to; count = count }) result keeps.old keeps.new }
+    ensures continues { K.continues keeps.old keeps.new }
+{
+    for k in 0..count {
+        let word = keeps.load(p, from + k);
+        let done = keeps.store(p, to + k, word);
+        if done.is_err() {
+            return done;
+        }
+    }
+    Ok(())
+}
+
+/// Copies what a torn call keeps of a line: all of it by one call, or its first words one by one.
+pub(crate) fn torn_copy<K: Keeps>(
+    keeps: &mut K,
+    tear: Tear,
+    p: u32,
+    from: u32,
+    to: u32,
+) -> Result<(), DeviceFault>
+    requires source { from + 16 ≤ K.extent keeps.old p }
+    requires place { to + 16 ≤ K.extent keeps.old p }
+    requires apart { (from ≡ to) ⊎ (from + 16 ≤ to) ⊎ (to + 16 ≤ from) }
+    ensures made { IsTornCopy (of_words K.Keeps) p (record { from = from; to = to; count = kept_words tear }) result keeps.old keeps.new }
+    ensures continues { K.continues keeps.old keeps.new }
+{
+    if tear.keep >= 16 {
+        return keeps.copy_line(p, from, to);
+    }
+    copy_words(keeps, p, from, to, tear.keep)
 }
 
 /// Makes a torn write: all its bytes are pending, of which the first are new, and the others stay or are filled.

@@ -1,5 +1,5 @@
 -- A store of words is a list of words.
-use Rattle.std.specs.Prelude.{◌≡◌, ◌⊎◌, ℕ, List, Option, Result, MatchResult, slice_set}
+use Rattle.std.specs.Prelude.{◌≡◌, ◌⊎◌, ◌≤◌, ◌+◌, ℕ, zero, suc, List, Option, Result, MatchResult, slice_index, slice_set}
 use Rattle.dc_media.specs.Told.{Becomes}
 
 -- at Ok the word is set; refused, it is old or new
@@ -7,3 +7,14 @@ abbrev pub SetsWord : {T E : Type 0} → ℕ → ℕ → Result T E → Option (
 SetsWord i w result old new = MatchResult result
     (λ _. Becomes old new (λ before after. after ≡ slice_set before i w))
     (λ _. Becomes old new (λ before after. (after ≡ before) ⊎ (after ≡ slice_set before i w)))
+
+-- the first k words from one index, copied in order to another
+abbrev pub copied : ℕ → ℕ → ℕ → List ℕ → List ℕ
+copied zero from to words = words
+copied (suc k) from to words = slice_set (copied k from to words) (to + k) (slice_index words (from + k))
+
+-- at Ok the 16 words of a line are copied; refused, the first k of them
+abbrev pub CopiesLine : {T E : Type 0} → ℕ → ℕ → Result T E → Option (List ℕ) → Option (List ℕ) → Type 0
+CopiesLine from to result old new = MatchResult result
+    (λ _. Becomes old new (λ before after. after ≡ copied 16 from to before))
+    (λ _. Becomes old new (λ before after. (k : ℕ) × (k ≤ 16) × (after ≡ copied k from to before)))

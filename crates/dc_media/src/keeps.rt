@@ -1,7 +1,7 @@
-ghost use Rattle.std.specs.Prelude.{refl, ◌≡◌, ◌≢◌, ◌<◌, ◌^◌, List, ℕ, Option, length, IfSome, OnOk, OnErr, slice_index, replicate};
+ghost use Rattle.std.specs.Prelude.{refl, ◌≡◌, ◌≢◌, ◌+◌, ◌<◌, ◌≤◌, ◌⊎◌, ◌^◌, List, ℕ, Option, length, IfSome, OnOk, OnErr, slice_index, replicate};
 ghost use Rattle.std.proofs.Common.{◌∙◌};
 ghost use Rattle.dc_media.specs.Causes.{IsCaused, IsMade, counted};
-ghost use Rattle.dc_media.specs.Stores.{SetsWord};
+ghost use Rattle.dc_media.specs.Stores.{CopiesLine, SetsWord};
 ghost use Rattle.dc_media.specs.Told.{TellsOn, IsSameStore, seen};
 
 use crate::{DeviceFault, MakeFault, STORES};
@@ -23,7 +23,7 @@ pub trait Keeps {
     /// How many calls on a store failed.
     ghost faults: { Self → ℕ → ℕ };
 
-    /// How many calls of `store` were made, refused ones too.
+    /// How many calls of `store` and `copy_line` were made, refused ones too.
     ghost calls: { Self → ℕ → ℕ };
 
     /// Whether the second is a later state of the first: what was lent to it stays lent to it.
@@ -51,6 +51,19 @@ pub trait Keeps {
         requires { i < extent self.old p }
         ensures extent { extent self.new p ≡ extent self.old p }
         ensures word { SetsWord i w result (told self.old p) (told self.new p) }
+        ensures tells { TellsOn (stops self.new p) (faults self.new p) (told self.old p) (told self.new p) }
+        ensures cause { IsCaused (stops self.old p) (stops self.new p) (faults self.old p) (faults self.new p) result }
+        ensures calls { calls self.new p ≡ counted (calls self.old p) }
+        ensures others { (q : ℕ) → q ≢ p → IsSameStore (seen told extent stops faults calls) self.old self.new q }
+        ensures continues { continues self.old self.new };
+
+    /// Copies a line of 16 words to an index that is the same or lies apart. A refused call copies the first of them, in order.
+    fn copy_line(&mut self, p: u32, from: u32, to: u32) -> Result<(), DeviceFault>
+        requires source { from + 16 ≤ extent self.old p }
+        requires place { to + 16 ≤ extent self.old p }
+        requires apart { (from ≡ to) ⊎ (from + 16 ≤ to) ⊎ (to + 16 ≤ from) }
+        ensures extent { extent self.new p ≡ extent self.old p }
+        ensures line { CopiesLine from to result (told self.old p) (told self.new p) }
         ensures tells { TellsOn (stops self.new p) (faults self.new p) (told self.old p) (told self.new p) }
         ensures cause { IsCaused (stops self.old p) (stops self.new p) (faults self.old p) (faults self.new p) result }
         ensures calls { calls self.new p ≡ counted (calls self.old p) }
@@ -102,5 +115,9 @@ impl<K: Keeps> Keeps for &mut K {
 
     fn store(&mut self, p: u32, i: u32, w: u32) -> Result<(), DeviceFault> {
         (**self).store(p, i, w)
+    }
+
+    fn copy_line(&mut self, p: u32, from: u32, to: u32) -> Result<(), DeviceFault> {
+        (**self).copy_line(p, from, to)
     }
 }

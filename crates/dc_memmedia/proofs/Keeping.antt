@@ -1,13 +1,14 @@
 -- What a call does to the words of a process.
-use Rattle.std.proofs.Common.{◌≡◌, ℕ, zero, suc, ◌-◌, ◌^◌, ◌<◌, ◌≤◌, ◌==◌, ◌&&◌, ◌⊎◌, nat_lt, List, [], ◌∷◌, Bool, true, false, Option, None, Some, refl, sym, subst, ap, ◌∙◌, arith, inl, inr, ⊎_elim, get_or, slice_index, slice_set, length, replicate, length-set, length-take, get_or-take, get_or-set_same}
+use Rattle.std.proofs.Common.{◌≡◌, ℕ, zero, suc, min, ◌+◌, ◌-◌, ◌^◌, ◌<◌, ◌≤◌, ◌==◌, ◌&&◌, ◌⊎◌, nat_lt, List, [], ◌∷◌, Bool, true, false, Option, None, Some, refl, sym, subst, ap, ◌∙◌, arith, inl, inr, ⊎_elim, get_or, slice_index, slice_set, length, replicate, length-set, length-take, get_or-take, get_or-set_same}
 use Rattle.std.proofs.lemmas.Bool.{cases_Bool, lt-ltb, ltb-true}
 use Rattle.std.proofs.lemmas.List.{length-replicate, set-get_or, take_all}
 use Rattle.std.proofs.Math.Seq.{take-set-lt}
-use Rattle.dc_media.specs.Stores.{SetsWord}
+use Rattle.dc_media.specs.Stores.{CopiesLine, SetsWord, copied}
+use Rattle.dc_media.proofs.Copying.{length-copied}
 use Rattle.dc_media.specs.Tears.{torn_word}
 use Rattle.dc_media.specs.Told.{Becomes, TellsOn}
 use Rattle.dc_memmedia.specs.Calls.{unless_last}
-use Rattle.dc_memmedia.specs.Keeps.{Stores, after_store, bounded, stored, told_words, with_words, words_of}
+use Rattle.dc_memmedia.specs.Keeps.{Stores, after, bounded, copied_count, copied_line, stored, told_words, with_words, words_of}
 use Rattle.dc_memmedia.specs.Listed.{Calls, answer_of, called, counts_of, faults_of, next_call, stops_of}
 use Rattle.dc_memmedia.specs.declared.listed.Counts.{Counts}
 use Rattle.dc_memmedia.specs.declared.listed.ListedCall.{ListedCall}
@@ -107,24 +108,62 @@ in_list [] p i within = absurd (omega (arith, within, bounded_length []))
 in_list (xs ∷ lists) zero i within = omega arith
 in_list (xs ∷ lists) (suc p) i within = omega (arith, in_list lists p i within)
 
--- the words of a process after its next store
-pub words_after : (stores : Stores) (p i w : ℕ) → i < length (words_of stores p)
-    → words_of (after_store p i w stores) p ≡ stored i w (next_call stores.calls p) (words_of stores p)
-words_after stores p i w within = let words = get_or stores.words p [] in let listed = next_call stores.calls p in
-    ap bounded (get_or-set_same stores.words p (stored i w listed words) [] (in_list stores.words p i within))
-    ∙ stored_in words i w listed (omega (arith, bounded_last words, within))
-
--- the state after a store, from what the calls in it say
-pub store_now : (s : Stores) (p i w : ℕ) (here put : List ℕ) (listed : Option ListedCall) (calls : Calls)
-    → here ≡ get_or s.words p [] → put ≡ stored i w listed here → listed ≡ next_call s.calls p → calls ≡ called s.calls p
-    → record { words = slice_set s.words p put; calls = calls } ≡ after_store p i w s
-store_now s p i w here put listed calls is put_is listed_is calls_are =
+-- the state after a call, from what the calls in it say
+pub state_now : (s : Stores) (p : ℕ) (change : Option ListedCall → List ℕ → List ℕ) (here put : List ℕ) (listed : Option ListedCall) (calls : Calls)
+    → here ≡ get_or s.words p [] → put ≡ change listed here → listed ≡ next_call s.calls p → calls ≡ called s.calls p
+    → record { words = slice_set s.words p put; calls = calls } ≡ after p change s
+state_now s p change here put listed calls is put_is listed_is calls_are =
     rw (put_is, is, listed_is, calls_are) refl
+
+-- a call that changes words as they are seen
+module _ (change : Option ListedCall → List ℕ → List ℕ) (s : Stores) (p i : ℕ) (within : i < length (words_of s p))
+    (same : bounded (change (next_call s.calls p) (get_or s.words p [])) ≡ change (next_call s.calls p) (words_of s p)) where
+  pub words_after : words_of (after p change s) p ≡ change (next_call s.calls p) (words_of s p)
+  words_after = ap bounded (get_or-set_same s.words p (change (next_call s.calls p) (get_or s.words p [])) [] (in_list s.words p i within)) ∙ same
+
+pub stored_after : (s : Stores) (p i w : ℕ) → i < length (words_of s p)
+    → words_of (after p (stored i w) s) p ≡ stored i w (next_call s.calls p) (words_of s p)
+stored_after s p i w within = let words = get_or s.words p [] in
+    words_after (stored i w) s p i within (stored_in words i w (next_call s.calls p) (omega (arith, bounded_last words, within)))
 
 pub store_sets : (s : Stores) (p i w : ℕ) → i < length (words_of s p)
     → (counts_of s.calls p).stops ≤ (counts_of (called s.calls p) p).stops → (counts_of s.calls p).faults ≤ (counts_of (called s.calls p) p).faults
-    → SetsWord i w (answer_of (next_call s.calls p)) (told_words s p) (told_words (after_store p i w s) p)
+    → SetsWord i w (answer_of (next_call s.calls p)) (told_words s p) (told_words (after p (stored i w) s) p)
 store_sets s p i w within stops faults =
     subst (λ (words : List ℕ). SetsWord i w (answer_of (next_call s.calls p)) (told_words s p) (unless_last (stops_of (called s.calls p) p) (faults_of (called s.calls p) p) words))
-    (sym (words_after s p i w within))
+    (sym (stored_after s p i w within))
     (sets_word (words_of s p) i w (next_call s.calls p) (counts_of s.calls p) (counts_of (called s.calls p) p) stops faults)
+
+-- words that are copied, of which there are not too many, are copied as the words that are there
+bounded_copied : (k from to : ℕ) (words : List ℕ) → k ≤ 16 → from + 16 ≤ last → to + 16 ≤ last → bounded (copied k from to words) ≡ copied k from to (bounded words)
+bounded_copied zero from to words few source place = refl
+bounded_copied (suc k) from to words few source place =
+    bounded_set (copied k from to words) (to + k) (slice_index words (from + k)) (omega arith)
+    ∙ ap (λ old. slice_set old (to + k) (slice_index words (from + k))) (bounded_copied k from to words (omega arith) source place)
+    ∙ ap (λ word. slice_set (copied k from to (bounded words)) (to + k) word) (sym (bounded_get words (from + k) (omega arith)))
+
+-- never more than a line
+pub copied_few : (listed : Option ListedCall) → copied_count listed ≤ 16
+copied_few None = let all : 16 ≤ 16 = omega arith in all
+copied_few (Some call) = let all : min call.tear.keep 16 ≤ 16 = omega arith in all
+
+copies_line : (words : List ℕ) (from to : ℕ) (listed : Option ListedCall) (before now : Counts) → before.stops ≤ now.stops → before.faults ≤ now.faults
+    → CopiesLine from to (answer_of listed) (unless_last before.stops before.faults words) (unless_last now.stops now.faults (copied_line from to listed words))
+copies_line words from to None before now stops faults = told_becomes before now words _ _ stops faults refl
+copies_line words from to (Some call) before now stops faults = told_becomes before now words _ _ stops faults (min call.tear.keep 16, copied_few (Some call), refl)
+
+pub copied_length : (words : List ℕ) (from to : ℕ) (listed : Option ListedCall) → length (copied_line from to listed words) ≡ length words
+copied_length words from to listed = length-copied (copied_count listed) from to words
+
+module _ (s : Stores) (p from to : ℕ) (source : from + 16 ≤ length (words_of s p)) (place : to + 16 ≤ length (words_of s p)) where
+  pub copied_after : words_of (after p (copied_line from to) s) p ≡ copied_line from to (next_call s.calls p) (words_of s p)
+  copied_after = let words = get_or s.words p [] in let listed = next_call s.calls p in
+      words_after (copied_line from to) s p from (omega (arith, source))
+      (bounded_copied (copied_count listed) from to words (copied_few listed) (omega (arith, bounded_last words, source)) (omega (arith, bounded_last words, place)))
+
+  pub copy_copies : (counts_of s.calls p).stops ≤ (counts_of (called s.calls p) p).stops → (counts_of s.calls p).faults ≤ (counts_of (called s.calls p) p).faults
+      → CopiesLine from to (answer_of (next_call s.calls p)) (told_words s p) (told_words (after p (copied_line from to) s) p)
+  copy_copies stops faults =
+      subst (λ (words : List ℕ). CopiesLine from to (answer_of (next_call s.calls p)) (told_words s p) (unless_last (stops_of (called s.calls p) p) (faults_of (called s.calls p) p) words))
+      (sym copied_after)
+      (copies_line (words_of s p) from to (next_call s.calls p) (counts_of s.calls p) (counts_of (called s.calls p) p) stops faults)

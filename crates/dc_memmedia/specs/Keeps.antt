@@ -1,5 +1,6 @@
 -- Stores in memory as contracts see them, and what a call does to them.
-use Rattle.std.specs.Prelude.{ℕ, ◌-◌, ◌^◌, List, [], Option, None, Some, get_or, take, length, slice_index, slice_set}
+use Rattle.std.specs.Prelude.{ℕ, ◌-◌, ◌^◌, List, [], Option, None, Some, get_or, take, min, length, slice_index, slice_set}
+use Rattle.dc_media.specs.Stores.{copied}
 use Rattle.dc_media.specs.Tears.{torn_word}
 use Rattle.dc_media.specs.Told.{Device}
 use Rattle.dc_memmedia.specs.Calls.{unless_last}
@@ -36,9 +37,18 @@ stored i w (Some call) words = slice_set words i (torn_word call.tear (slice_ind
 abbrev pub with_words : ℕ → List ℕ → Stores → Stores
 with_words p words stores = record stores { words = slice_set stores.words p words }
 
--- after the next call of a process, which stores a word
-abbrev pub after_store : ℕ → ℕ → ℕ → Stores → Stores
-after_store p i w stores = record {
-  words = slice_set stores.words p (stored i w (next_call stores.calls p) (get_or stores.words p []));
+-- how many words of a line are copied: all, or as many as a listed call keeps
+abbrev pub copied_count : Option ListedCall → ℕ
+copied_count None = 16
+copied_count (Some call) = min call.tear.keep 16
+
+-- the words after a line was copied, or as much of it
+abbrev pub copied_line : ℕ → ℕ → Option ListedCall → List ℕ → List ℕ
+copied_line from to listed words = copied (copied_count listed) from to words
+
+-- after the next call of a process, which changes its words so
+abbrev pub after : ℕ → (Option ListedCall → List ℕ → List ℕ) → Stores → Stores
+after p change stores = record {
+  words = slice_set stores.words p (change (next_call stores.calls p) (get_or stores.words p []));
   calls = called stores.calls p;
 }

@@ -51,7 +51,7 @@ impl MemDisks {
         })
     }
 
-    /// How many writes and syncs a process made.
+    /// How many writes and syncs a process made. Past the last process the count stands at its last value.
     pub fn calls(&self, p: u32) -> u64
         ensures { result ≡ calls_of self.now.calls p }
     {

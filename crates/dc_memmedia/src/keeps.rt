@@ -1,8 +1,8 @@
-ghost use Rattle.std.specs.Prelude.{◌≡◌, ◌≢◌, ◌<◌, [], ℕ, IfOk, IfSome, IsErrOf, IsOk, OnErr, OnOk, replicate, slice_index, length};
+ghost use Rattle.std.specs.Prelude.{◌≡◌, ◌≢◌, ◌+◌, ◌<◌, ◌≤◌, ◌⊎◌, [], ℕ, IfOk, IfSome, IsErrOf, IsOk, OnErr, OnOk, replicate, slice_index, length};
 ghost use Rattle.dc_media.specs.Causes.{IsCaused, IsMade, counted};
-ghost use Rattle.dc_media.specs.Stores.{SetsWord};
+ghost use Rattle.dc_media.specs.Stores.{CopiesLine, SetsWord};
 ghost use Rattle.dc_media.specs.Told.{IsSameStore, TellsOn};
-ghost use Rattle.dc_memmedia.specs.Keeps.{after_store, in_memory, stored, told_words, with_words, words_of};
+ghost use Rattle.dc_memmedia.specs.Keeps.{after, copied_line, in_memory, stored, told_words, with_words, words_of};
 ghost use Rattle.dc_memmedia.specs.Listed.{answer_of, calls_of, faults_of, next_call, none_made, stops_of};
 ghost use Rattle.dc_memmedia.specs.Extents.{words_fit, words_told};
 
@@ -43,6 +43,22 @@ fn put(words: &mut Region, i: u32, w: u32, listed: Option<ListedCall>)
     }
 }
 
+/// Copies a line, or what a listed call leaves of it.
+fn copy(words: &mut Region, from: u32, to: u32, listed: Option<ListedCall>)
+    requires source { from + 16 ≤ length words.old }
+    requires place { to + 16 ≤ length words.old }
+    requires apart { (from ≡ to) ⊎ (from + 16 ≤ to) ⊎ (to + 16 ≤ from) }
+    ensures { words.new ≡ copied_line from to listed words.old }
+{
+    match listed {
+        None => words.copy_line(from as usize, to as usize),
+        Some(call) => {
+            let count = (call.tear.keep as usize).min(16);
+            words.copy_front(from as usize, to as usize, count);
+        }
+    }
+}
+
 impl MemKeeps {
     /// Stores of no words. No call was made yet.
     pub fn new(alloc: Global, listed: Vec<ListedCall>) -> Result<MemKeeps, AllocError>
@@ -61,7 +77,7 @@ impl MemKeeps {
         })
     }
 
-    /// How many calls of `store` a process made.
+    /// How many calls of `store` and `copy_line` a process made. Past the last process the count stands at its last value.
     pub fn calls(&self, p: u32) -> u64
         ensures { result ≡ calls_of self.now.calls p }
     {
@@ -148,11 +164,33 @@ impl Keeps for MemKeeps {
 
         // exactly when it is refused, and all that it changes
         ensures answer { result ≡ answer_of (next_call self.old.calls p) }
-        ensures stored { self.new ≡ after_store p i w self.old }
+        ensures stored { self.new ≡ after p (stored i w) self.old }
         ensures calm { self.old.calls.listed ≡ [] → IsOk result }
     {
         let listed = self.calls.call(p);
         put(&mut self.words[p as usize], i, w, listed);
+        answer(listed)
+    }
+
+    fn copy_line(&mut self, p: u32, from: u32, to: u32) -> Result<(), DeviceFault>
+        requires source { from + 16 ≤ length (words_of self.old p) }
+        requires place { to + 16 ≤ length (words_of self.old p) }
+        requires apart { (from ≡ to) ⊎ (from + 16 ≤ to) ⊎ (to + 16 ≤ from) }
+        ensures extent { length (words_of self.new p) ≡ length (words_of self.old p) }
+        ensures line { CopiesLine from to result (told_words self.old p) (told_words self.new p) }
+        ensures tells { TellsOn (stops_of self.new.calls p) (faults_of self.new.calls p) (told_words self.old p) (told_words self.new p) }
+        ensures cause { IsCaused (stops_of self.old.calls p) (stops_of self.new.calls p) (faults_of self.old.calls p) (faults_of self.new.calls p) result }
+        ensures calls { calls_of self.new.calls p ≡ counted (calls_of self.old.calls p) }
+        ensures others { (q : ℕ) → q ≢ p → IsSameStore in_memory self.old self.new q }
+        ensures continues { Unit {0} }
+
+        // exactly when it is refused, and all that it changes
+        ensures answer { result ≡ answer_of (next_call self.old.calls p) }
+        ensures copied { self.new ≡ after p (copied_line from to) self.old }
+        ensures calm { self.old.calls.listed ≡ [] → IsOk result }
+    {
+        let listed = self.calls.call(p);
+        copy(&mut self.words[p as usize], from, to, listed);
         answer(listed)
     }
 }

@@ -1,4 +1,3 @@
-pub mod Copies
 pub mod Memory
 pub mod Places
 pub mod Sharing

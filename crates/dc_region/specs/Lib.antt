@@ -1,4 +1,3 @@
 pub mod Block
-pub mod Lines
 pub mod Ownership
 pub mod Places

@@ -1,6 +1,6 @@
 //! A region: a row of words that can be read, set and copied by the line.
 ghost use Rattle.std.specs.Prelude.{◌≡◌, ◌+◌, ◌*◌, ◌^◌, ◌<◌, ◌≤◌, ◌⊎◌, Some, length, replicate, IfOk, slice_index, slice_set};
-ghost use Rattle.dc_region.specs.Lines.{copied};
+ghost use Rattle.dc_media.specs.Stores.{copied};
 
 use crate::block::{Base, Deed, Words, allocate, deallocate};
 use std::alloc::{AllocError, Global};
@@ -95,9 +95,20 @@ impl Region {
         requires apart { (from ≡ to) ⊎ (from + 16 ≤ to) ⊎ (to + 16 ≤ from) }
         ensures { self.new ≡ copied 16 from to self.old }
     {
+        self.copy_front(from, to, LINE);
+    }
+
+    /// Copies only the first words of a line.
+    pub fn copy_front(&mut self, from: usize, to: usize, count: usize)
+        requires few { count ≤ 16 }
+        requires source { from + 16 ≤ length self.old }
+        requires place { to + 16 ≤ length self.old }
+        requires apart { (from ≡ to) ⊎ (from + 16 ≤ to) ⊎ (to + 16 ≤ from) }
+        ensures { self.new ≡ copied count from to self.old }
+    {
         // so the indices below fit
         prove!(from < self.len && to < self.len);
-        for k in 0..LINE {
+        for k in 0..count {
             let word = self.load(from + k);
             self.store(to + k, word);
         }

@@ -1,6 +1,6 @@
 use Rattle.std.proofs.Common.{◌∙◌, ap, arith, length}
-use Rattle.dc_region.proofs.Copies.{length-copied, one_more}
-use Rattle.dc_region.proofs.region.Region.copy_line.Goals as goal
+use Rattle.dc_media.proofs.Copying.{length-copied, one_more}
+use Rattle.dc_region.proofs.region.Region.copy_front.Goals as goal
 
 pub load-word-requires : goal.load-word-requires
 load-word-requires c = let l = c.loop-k in let same = ap length l.invariant ∙ length-copied l.k c.args.from c.args.to c.args.self.now in omega (arith, same, c.requires.source)
