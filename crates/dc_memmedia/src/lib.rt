@@ -3,6 +3,7 @@
 
 mod bytes;
 mod disks;
+mod failing;
 mod keeps;
 mod library;
 mod listed;

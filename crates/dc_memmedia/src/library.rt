@@ -2,8 +2,10 @@ ghost use Rattle.std.specs.Prelude.{◌≡◌, ◌↔◌, [], None, Some, IfOk, 
 ghost use Rattle.dc_media.specs.Causes.{IsFetched};
 ghost use Rattle.dc_media.specs.Files.{Fetches};
 ghost use Rattle.dc_media.specs.Told.{Becomes, TellsOn};
-ghost use Rattle.dc_memmedia.specs.Files.{AddsFile, Fails, bytes_named, file_named, told_files, with_call, with_fault};
+ghost use Rattle.dc_memmedia.specs.Files.{AddsFile, Fails, bytes_named, file_named, told_files};
+ghost use Rattle.dc_memmedia.specs.Calls.{with_call, with_fault};
 
+use crate::failing::FailingCalls;
 use dc_media::{Fetch, Library};
 use std::alloc::{AllocError, Global};
 use std::marker::Model;
@@ -29,9 +31,7 @@ impl Model for File {
 #[derive(Drop)]
 pub struct MemLibrary {
     files: Vec<File>,
-    failing: Vec<u64>,
-    calls: u64,
-    faults: u64,
+    calls: FailingCalls,
 }
 
 impl Model for MemLibrary {
@@ -39,7 +39,7 @@ impl Model for MemLibrary {
 
     ghost Value = { LibraryState };
 
-    ghost view = { λ l. record { files = l.files.items; failing = l.failing.items; calls = l.calls; faults = l.faults } };
+    ghost view = { λ l. record { files = l.files.items; calls = l.calls } };
 }
 
 fn named<'a>(files: &'a [File], name: &str) -> Option<&'a File>
@@ -51,13 +51,11 @@ fn named<'a>(files: &'a [File], name: &str) -> Option<&'a File>
 impl MemLibrary {
     /// A library with no files.
     pub fn new(alloc: Global, failing: Vec<u64>) -> MemLibrary
-        ensures { result ≡ record { files = []; failing = failing.items; calls = 0; faults = 0 } }
+        ensures { result ≡ record { files = []; calls = record { listed = failing.items; made = 0; faults = 0 } } }
     {
         MemLibrary {
             files: Vec::new(alloc),
-            failing,
-            calls: 0,
-            faults: 0,
+            calls: FailingCalls::new(failing),
         }
     }
 
@@ -74,28 +72,28 @@ impl MemLibrary {
 impl Library for MemLibrary {
     ghost files = { told_files };
 
-    ghost faults = { λ l. l.faults };
+    ghost faults = { λ l. l.calls.faults };
 
     /// A name that is not there is missing, also in a call that is listed.
     fn fetch(&mut self, alloc: Global, name: &str) -> Result<Vec<u8>, Fetch>
         ensures files { Becomes (told_files self.old) (told_files self.new) (λ before after. after ≡ before) }
-        ensures tells { TellsOn 0 self.new.faults (told_files self.old) (told_files self.new) }
+        ensures tells { TellsOn 0 self.new.calls.faults (told_files self.old) (told_files self.new) }
         ensures bytes { Fetches name.now result (told_files self.old) }
-        ensures cause { IsFetched self.old.faults self.new.faults result }
+        ensures cause { IsFetched self.old.calls.faults self.new.calls.faults result }
 
         // exactly when it is missing and when it fails, and all that a call changes
         ensures missing { IsErrOf result Fetch.Missing ↔ (bytes_named self.old.files name.now ≡ None) }
         ensures fails { IsErrOf result Fetch.Failed ↔ Fails self.old name.now }
         ensures found { IfOk result (λ bytes. bytes_named self.old.files name.now ≡ Some bytes.items) }
-        ensures failed { IsErrOf result Fetch.Failed → self.new ≡ with_fault self.old }
-        ensures calm { ¬ IsErrOf result Fetch.Failed → self.new ≡ with_call self.old }
+        ensures failed { IsErrOf result Fetch.Failed → self.new ≡ record self.old { calls = with_fault self.old.calls } }
+        ensures calm { ¬ IsErrOf result Fetch.Failed → self.new ≡ record self.old { calls = with_call self.old.calls } }
     {
-        self.calls = self.calls.saturating_add(1);
+        let listed = self.calls.call();
         let Some(file) = named(&self.files, name) else {
             return Err(Fetch::Missing);
         };
-        if self.failing.contains(&self.calls) {
-            self.faults = self.faults.saturating_add(1);
+        if listed {
+            self.calls.fail();
             return Err(Fetch::Failed);
         }
         match file.bytes.to_vec(alloc) {

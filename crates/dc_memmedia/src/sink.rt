@@ -2,8 +2,10 @@ ghost use Rattle.std.specs.Prelude.{◌≡◌, ◌≤◌, ◌<◌, ◌↔◌, []
 ghost use Rattle.dc_media.specs.Causes.{HasCause};
 ghost use Rattle.dc_media.specs.Sinks.{TakesSome};
 ghost use Rattle.dc_media.specs.Told.{TellsOn};
-ghost use Rattle.dc_memmedia.specs.Sinks.{Fails, told_bytes, part_of, with_part, with_fault};
+ghost use Rattle.dc_memmedia.specs.Sinks.{Fails, told_bytes, part_of, with_part};
+ghost use Rattle.dc_memmedia.specs.Calls.{with_fault};
 
+use crate::failing::FailingCalls;
 use dc_media::{Sink, SinkFailed};
 use std::alloc::{AllocError, Global};
 use std::marker::Model;
@@ -15,9 +17,7 @@ use std::marker::Model;
 pub struct MemSink {
     bytes: Vec<u8>,
     room: usize,
-    failing: Vec<u64>,
-    calls: u64,
-    faults: u64,
+    calls: FailingCalls,
 }
 
 impl Model for MemSink {
@@ -26,7 +26,7 @@ impl Model for MemSink {
 
     ghost Value = { SinkState };
 
-    ghost view = { λ s. record { bytes = s.bytes.items; room = s.room; failing = s.failing.items; calls = s.calls; faults = s.faults } };
+    ghost view = { λ s. record { bytes = s.bytes.items; room = s.room; calls = s.calls } };
 
     ghost invariant = { λ s. (length s.bytes.items ≤ s.room) × (s.room ≤ vec_capacity s.bytes) };
 }
@@ -34,14 +34,12 @@ impl Model for MemSink {
 impl MemSink {
     /// A sink for so many bytes. It takes all its memory here.
     pub fn new(alloc: Global, room: usize, failing: Vec<u64>) -> Result<MemSink, AllocError>
-        ensures { IfOk result (λ sink. sink ≡ record { bytes = []; room = room; failing = failing.items; calls = 0; faults = 0 }) }
+        ensures { IfOk result (λ sink. sink ≡ record { bytes = []; room = room; calls = record { listed = failing.items; made = 0; faults = 0 } }) }
     {
         Ok(MemSink {
             bytes: Vec::with_capacity(alloc, room)?,
             room,
-            failing,
-            calls: 0,
-            faults: 0,
+            calls: FailingCalls::new(failing),
         })
     }
 
@@ -56,28 +54,28 @@ impl MemSink {
 impl Sink for MemSink {
     ghost held = { told_bytes };
 
-    ghost faults = { λ s. s.faults };
+    ghost faults = { λ s. s.calls.faults };
 
     /// Takes as many bytes as there is room for, all at once.
     fn write_some(&mut self, from: &[u8]) -> Result<usize, SinkFailed>
         ensures count { IfOk result (λ n. n ≤ length from.now) }
         ensures some { IfOk result (λ n. 0 < length from.now → 0 < n) }
         ensures held { TakesSome from.now result (told_bytes self.old) (told_bytes self.new) }
-        ensures tells { TellsOn 0 self.new.faults (told_bytes self.old) (told_bytes self.new) }
-        ensures cause { HasCause self.old.faults self.new.faults result }
+        ensures tells { TellsOn 0 self.new.calls.faults (told_bytes self.old) (told_bytes self.new) }
+        ensures cause { HasCause self.old.calls.faults self.new.calls.faults result }
 
         // exactly when it fails, and all that a call changes
         ensures fails { IsErr result ↔ Fails self.old from.now }
         ensures takes { IfOk result (λ n. n ≡ part_of self.old from.now) }
         ensures taken { OnOk result (self.new ≡ with_part self.old from.now) }
-        ensures refused { OnErr result (self.new ≡ with_fault self.old) }
+        ensures refused { OnErr result (self.new ≡ record self.old { calls = with_fault self.old.calls }) }
     {
-        self.calls = self.calls.saturating_add(1);
+        let listed = self.calls.call();
         let part = from.len().min(self.room - self.bytes.len());
-        let refused = self.failing.contains(&self.calls) || (part == 0 && !from.is_empty());
+        let refused = listed || (part == 0 && !from.is_empty());
         // the memory for it is there since `new`
         if refused || self.bytes.extend_from_slice(&from[..part]).is_err() {
-            self.faults = self.faults.saturating_add(1);
+            self.calls.fail();
             return Err(SinkFailed);
         }
         Ok(part)
