@@ -5,12 +5,12 @@ use Rattle.std.proofs.lemmas.Bool.{lt-ltb}
 use Rattle.dc_armed.proofs.Counting.{IsInCalls-then}
 use Rattle.dc_media.specs.declared.faults.DeviceFault.{DeviceFault}
 use Rattle.dc_media.specs.declared.tear.Tear.{Tear}
-use Rattle.dc_media.specs.Stores.{CopiesLine, SetsWord, copied}
+use Rattle.dc_media.specs.Stores.{AreSameOrApart, CopiesLine, SetsWord, copied}
 use Rattle.dc_media.specs.Told.{Becomes, Device}
 use Rattle.dc_media.proofs.Copying.{one_more}
 use Rattle.dc_armed.specs.Torn.{IsInCalls, IsTornCopy, kept_words}
 
-module _ (k from to w : ℕ) (low : k < 16) (apart : (from ≡ to) ⊎ (from + 16 ≤ to) ⊎ (to + 16 ≤ from)) where
+module _ (k from to w : ℕ) (low : k < 16) (apart : AreSameOrApart from to) where
   -- one word more
   pub copied-next : (a b c : Option (List ℕ)) → IfSome b (λ words. w ≡ slice_index words (from + k))
       → Becomes a b (λ before after. after ≡ copied k from to before) → Becomes b c (λ before after. after ≡ slice_set before (to + k) w)
@@ -56,7 +56,7 @@ module _ {S T : Type 0} (device : Device S (List ℕ)) (p from to : ℕ) where
       → IsTornCopy device p (record { from = from; to = to; count = kept_words tear }) r a b
   whole_copy tear r a b keeps line lawful = full_copy (kept_words tear) r a b (omega arith) line lawful
 
-module _ {S : Type 0} (device : Device S (List ℕ)) (p from to k w : ℕ) (low : k < 16) (apart : (from ≡ to) ⊎ (from + 16 ≤ to) ⊎ (to + 16 ≤ from)) (a b c : S)
+module _ {S : Type 0} (device : Device S (List ℕ)) (p from to k w : ℕ) (low : k < 16) (apart : AreSameOrApart from to) (a b c : S)
     (word : IfSome (device.told b p) (λ words. w ≡ slice_index words (from + k)))
     (so_far : Becomes (device.told a p) (device.told b p) (λ before after. after ≡ copied k from to before)) (calls : IsInCalls {T = Unit {0}} device p k (Ok tt) a b) where
   -- after a store that was made

@@ -45,6 +45,10 @@ impl<D: Disks> Disks for Armed<D> {
         ensures others { (q : ℕ) → q ≢ p → IsSameStore (armed (of_disks D.Disks)) self.old self.new q }
         ensures continues { D.continues self.old.device self.new.device }
 
+        // the device within
+        ensures apart { (q : ℕ) → q ≢ p → IsSameStore (of_disks D.Disks) self.old.device self.new.device q }
+        ensures uncounted { D.calls self.new.device p ≡ D.calls self.old.device p }
+
         // no planned stop comes
         ensures plan { self.new.plan ≡ self.old.plan }
     {
@@ -64,6 +68,10 @@ impl<D: Disks> Disks for Armed<D> {
         ensures calls { calls_to self.new.plan p ≡ calls_to self.old.plan p }
         ensures others { (q : ℕ) → q ≢ p → IsSameStore (armed (of_disks D.Disks)) self.old self.new q }
         ensures continues { D.continues self.old.device self.new.device }
+
+        // the device within
+        ensures apart { (q : ℕ) → q ≢ p → IsSameStore (of_disks D.Disks) self.old.device self.new.device q }
+        ensures uncounted { D.calls self.new.device p ≡ D.calls self.old.device p }
 
         // the answer is the device's, and what waits after it
         ensures passes { IsOwn (of_disks D.Disks) p result self.old self.new }
@@ -85,6 +93,9 @@ impl<D: Disks> Disks for Armed<D> {
         ensures calls { calls_to self.new.plan p ≡ counted (calls_to self.old.plan p) }
         ensures others { (q : ℕ) → q ≢ p → IsSameStore (armed (of_disks D.Disks)) self.old self.new q }
         ensures continues { D.continues self.old.device self.new.device }
+
+        // the device within
+        ensures apart { (q : ℕ) → q ≢ p → IsSameStore (of_disks D.Disks) self.old.device self.new.device q }
 
         // what a planned stop does, and what waits after a call
         ensures once { due self.old.plan p ≡ None → D.calls self.new.device p ≡ counted (D.calls self.old.device p) }
@@ -115,6 +126,9 @@ impl<D: Disks> Disks for Armed<D> {
         ensures calls { calls_to self.new.plan p ≡ counted (calls_to self.old.plan p) }
         ensures others { (q : ℕ) → q ≢ p → IsSameStore (armed (of_disks D.Disks)) self.old self.new q }
         ensures continues { D.continues self.old.device self.new.device }
+
+        // the device within
+        ensures apart { (q : ℕ) → q ≢ p → IsSameStore (of_disks D.Disks) self.old.device self.new.device q }
 
         // what a planned stop does, and what waits after a call
         ensures once { due self.old.plan p ≡ None → D.calls self.new.device p ≡ counted (D.calls self.old.device p) }

@@ -1,6 +1,6 @@
-ghost use Rattle.std.specs.Prelude.{◌≡◌, ◌≢◌, ◌⊎◌, ◌+◌, ◌<◌, ◌≤◌, ℕ, None, IfSome, OnOk, OnErr, replicate};
+ghost use Rattle.std.specs.Prelude.{◌≡◌, ◌≢◌, ◌+◌, ◌<◌, ◌≤◌, ℕ, None, IfSome, OnOk, OnErr, replicate};
 ghost use Rattle.dc_media.specs.Causes.{IsCaused, IsMade, counted};
-ghost use Rattle.dc_media.specs.Stores.{CopiesLine, SetsWord, copied};
+ghost use Rattle.dc_media.specs.Stores.{AreSameOrApart, CopiesLine, SetsWord, copied};
 ghost use Rattle.dc_media.specs.Devices.{of_words};
 ghost use Rattle.dc_media.specs.Told.{TellsOn, IsSameStore};
 ghost use Rattle.dc_armed.specs.Armed.{all_calls, all_stops, armed, within, ComesOrRefused, IsOwn, IsPlannedAlone};
@@ -45,6 +45,10 @@ impl<K: Keeps> Keeps for Armed<K> {
         ensures others { (q : ℕ) → q ≢ p → IsSameStore (armed (of_words K.Keeps)) self.old self.new q }
         ensures continues { K.continues self.old.device self.new.device }
 
+        // the device within
+        ensures apart { (q : ℕ) → q ≢ p → IsSameStore (of_words K.Keeps) self.old.device self.new.device q }
+        ensures uncounted { K.calls self.new.device p ≡ K.calls self.old.device p }
+
         // no planned stop comes
         ensures plan { self.new.plan ≡ self.old.plan }
     {
@@ -67,6 +71,9 @@ impl<K: Keeps> Keeps for Armed<K> {
         ensures calls { calls_to self.new.plan p ≡ counted (calls_to self.old.plan p) }
         ensures others { (q : ℕ) → q ≢ p → IsSameStore (armed (of_words K.Keeps)) self.old self.new q }
         ensures continues { K.continues self.old.device self.new.device }
+
+        // the device within
+        ensures apart { (q : ℕ) → q ≢ p → IsSameStore (of_words K.Keeps) self.old.device self.new.device q }
 
         // what a planned stop does, and what waits after a call
         ensures once { due self.old.plan p ≡ None → K.calls self.new.device p ≡ counted (K.calls self.old.device p) }
@@ -95,7 +102,7 @@ impl<K: Keeps> Keeps for Armed<K> {
     fn copy_line(&mut self, p: u32, from: u32, to: u32) -> Result<(), DeviceFault>
         requires source { from + 16 ≤ K.extent self.old.device p }
         requires place { to + 16 ≤ K.extent self.old.device p }
-        requires apart { (from ≡ to) ⊎ (from + 16 ≤ to) ⊎ (to + 16 ≤ from) }
+        requires apart { AreSameOrApart from to }
         ensures extent { K.extent self.new.device p ≡ K.extent self.old.device p }
         ensures line { CopiesLine from to result (K.told self.old.device p) (K.told self.new.device p) }
         ensures tells { TellsOn (K.stops self.new.device p) (K.faults self.new.device p) (K.told self.old.device p) (K.told self.new.device p) }
@@ -103,6 +110,9 @@ impl<K: Keeps> Keeps for Armed<K> {
         ensures calls { calls_to self.new.plan p ≡ counted (calls_to self.old.plan p) }
         ensures others { (q : ℕ) → q ≢ p → IsSameStore (armed (of_words K.Keeps)) self.old self.new q }
         ensures continues { K.continues self.old.device self.new.device }
+
+        // the device within
+        ensures apart { (q : ℕ) → q ≢ p → IsSameStore (of_words K.Keeps) self.old.device self.new.device q }
 
         // what a planned stop does, and what waits after a call
         ensures once { due self.old.plan p ≡ None → K.calls self.new.device p ≡ counted (K.calls self.old.device p) }

@@ -1,408 +1,268 @@
-ghost use Rattle.std.specs.Prelude.{◌-◌, ◌^◌, ◌≡◌, ◌≤◌, ◌<◌, ◌+◌, length, None};
-ghost use Rattle.dc_media.specs.Disk.{Writes};
-ghost use Rattle.dc_media.specs.Stores.{SetsWord};
-ghost use Rattle.std.proofs.Common.{lit<};
+//! Armed devices, by calls and answers that are told as text.
+
+mod cases;
+mod fakes;
+mod lent;
 
 use crate::{Armed, PlannedStop};
+use cases::{DISKS, WORDS};
 use dc_media::{DeviceFault, Disks, Keeps, MakeFault, Tear};
-use std::alloc::{AllocError, Global};
+use fakes::{FakeDisk, FakeWords};
+use std::alloc::Global;
 use std::test::Fail;
 
-/// One disk for all processes, whose next call is refused if it is to be.
-#[derive(Drop)]
-struct FakeDisk {
-    bytes: [u8; 200],
-    refusal: Option<DeviceFault>,
-    syncs: u32,
+fn holds(ok: bool, what: &str) -> Result<(), Fail> {
+    if ok { Ok(()) } else { Err(Fail::new(what)) }
 }
 
-impl FakeDisk {
-    fn refused(&mut self) -> Result<(), DeviceFault> {
-        match self.refusal.take() {
-            Some(fault) => Err(fault),
-            None => Ok(()),
-        }
-    }
-}
-
-impl Disks for FakeDisk {
-    ghost told = { λ s p. None };
-
-    ghost extent = { λ s p. 200 };
-
-    ghost stops = { λ s p. 2 ^ 64 - 1 };
-
-    ghost faults = { λ s p. 2 ^ 64 - 1 };
-
-    ghost calls = { λ s p. 2 ^ 64 - 1 };
-
-    ghost continues = { λ s t. Unit {0} };
-
-    ghost told_extent = { λ s p. tt };
-
-    ghost extent_fits = { λ s p. lit< tt };
-
-    ghost continues_self = { λ s. tt };
-
-    ghost continues_on = { λ s t u first then. tt };
-
-    fn format(&mut self, _alloc: Global, _p: u32, bytes: u64) -> Result<(), MakeFault> {
-        if bytes != 200 {
-            return Err(MakeFault::Memory);
-        }
-        self.bytes = [0; 200];
-        Ok(())
-    }
-
-    fn size(&self, _p: u32) -> u64 {
-        200
-    }
-
-    fn read(&mut self, _p: u32, at: u64, to: &mut [u8]) -> Result<(), DeviceFault> {
-        self.refused()?;
-        let at = at as usize;
-        to.copy_from_slice(&self.bytes[at..at + to.len()]);
-        Ok(())
-    }
-
-    fn write(&mut self, _p: u32, at: u64, from: &[u8]) -> Result<(), DeviceFault> {
-        self.refused()?;
-        let at = at as usize;
-        self.bytes[at..at + from.len()].copy_from_slice(from);
-        Ok(())
-    }
-
-    fn sync(&mut self, _p: u32) -> Result<(), DeviceFault> {
-        self.refused()?;
-        self.syncs = self.syncs.saturating_add(1);
-        Ok(())
+/// A number, or an answer as one.
+fn number(word: &str) -> Result<u64, Fail> {
+    match word {
+        "ok" => Ok(0),
+        "stopped" => Ok(1),
+        "failed" => Ok(2),
+        "memory" => Ok(3),
+        _ => Ok(word.parse::<u64>()?),
     }
 }
 
-/// Two words for all processes.
-#[derive(Drop)]
-struct FakeWords {
-    words: [u32; 2],
+/// Adds a number, or one so many times, as `7*150`.
+fn push_word(list: &mut Vec<u64>, word: &str) -> Result<(), Fail> {
+    let (one, times) = word.split_once('*').unwrap_or((word, "1"));
+    let one = number(one)?;
+    for _ in 0..times.parse::<u32>()? {
+        list.push(one)?;
+    }
+    Ok(())
 }
 
-impl Keeps for FakeWords {
-    ghost told = { λ s p. None };
-
-    ghost extent = { λ s p. 2 };
-
-    ghost stops = { λ s p. 2 ^ 64 - 1 };
-
-    ghost faults = { λ s p. 2 ^ 64 - 1 };
-
-    ghost calls = { λ s p. 2 ^ 64 - 1 };
-
-    ghost continues = { λ s t. Unit {0} };
-
-    ghost told_extent = { λ s p. tt };
-
-    ghost extent_fits = { λ s p. lit< tt };
-
-    ghost continues_self = { λ s. tt };
-
-    ghost continues_on = { λ s t u first then. tt };
-
-    fn format(&mut self, _alloc: Global, _p: u32, words: u32) -> Result<(), MakeFault> {
-        if words != 2 {
-            return Err(MakeFault::Memory);
-        }
-        self.words = [0; 2];
-        Ok(())
+fn numbers(alloc: Global, text: &str) -> Result<Vec<u64>, Fail> {
+    let mut list = Vec::new(alloc);
+    for word in text.split_whitespace() {
+        push_word(&mut list, word)?;
     }
+    Ok(list)
+}
 
-    fn load(&self, _p: u32, i: u32) -> u32 {
-        self.words[i as usize]
+fn small(n: u64) -> u32 {
+    n.min(0xffff_ffff) as u32
+}
+
+fn byte(n: u64) -> u8 {
+    n.min(255) as u8
+}
+
+fn bytes(alloc: Global, numbers: &[u64]) -> Result<Vec<u8>, Fail> {
+    let mut list = Vec::new(alloc);
+    for n in numbers {
+        list.push(byte(*n))?;
     }
+    Ok(list)
+}
 
-    fn store(&mut self, _p: u32, i: u32, w: u32) -> Result<(), DeviceFault> {
-        self.words[i as usize] = w;
-        Ok(())
+fn code(answer: Result<(), DeviceFault>) -> u64 {
+    match answer {
+        Ok(()) => 0,
+        Err(DeviceFault::Stopped) => 1,
+        Err(DeviceFault::Failed) => 2,
     }
 }
 
-fn stop(turn: u32, process: u32, call: u32, tear: Tear) -> PlannedStop {
+fn made_code(answer: Result<(), MakeFault>) -> u64 {
+    match answer {
+        Ok(()) => 0,
+        Err(MakeFault::Memory) => 3,
+        Err(MakeFault::Failed) => 2,
+    }
+}
+
+fn at(args: &[u64], i: usize) -> u64 {
+    args.get(i).copied().unwrap_or(0)
+}
+
+fn planned(args: &[u64]) -> PlannedStop {
+    let keep = small(at(args, 3));
+    let fill = args.get(4).map(|n| byte(*n));
     PlannedStop {
-        turn,
-        process,
-        call,
-        tear,
+        turn: small(at(args, 0)),
+        process: small(at(args, 1)),
+        call: small(at(args, 2)),
+        tear: Tear { keep, fill },
     }
 }
 
-/// Keeps so many bytes; the others stay.
-fn keeping(keep: u32) -> Tear {
-    Tear { keep, fill: None }
+/// The planned stops of a case.
+fn stops_in(alloc: Global, lines: &str) -> Result<Vec<PlannedStop>, Fail> {
+    let mut stops = Vec::new(alloc);
+    for line in lines.lines() {
+        if let Some(args) = line.strip_prefix("stop ") {
+            let args = numbers(alloc, args)?;
+            stops.push(planned(&args))?;
+        }
+    }
+    Ok(stops)
 }
 
-/// A disk of zeros, at turn 0.
-fn disk(
-    rt: &impl AllocGlobal,
-    refusal: Option<DeviceFault>,
-    stops: &[PlannedStop],
-) -> Result<Armed<FakeDisk>, AllocError> {
-    let device = FakeDisk {
-        bytes: [0; 200],
-        refusal,
-        syncs: 0,
+/// What the device of a case refuses its first call with.
+fn refusal_in(lines: &str) -> Option<DeviceFault> {
+    if lines.starts_with("refusal stopped") {
+        return Some(DeviceFault::Stopped);
+    }
+    if lines.starts_with("refusal failed") {
+        return Some(DeviceFault::Failed);
+    }
+    None
+}
+
+/// A device that is called by name.
+trait Rig: Sized + Drop {
+    /// At turn 0 of a case.
+    fn new(refusal: Option<DeviceFault>, stops: Vec<PlannedStop>) -> Self;
+
+    /// The answer of a call.
+    fn call(&mut self, alloc: Global, verb: &str, args: &[u64]) -> Result<Vec<u64>, Fail>;
+}
+
+/// One line of a case.
+fn line_holds<R: Rig>(rig: &mut R, alloc: Global, line: &str) -> Result<(), Fail> {
+    if line.starts_with("stop ") || line.starts_with("refusal ") {
+        return Ok(());
+    }
+    let Some((call, answer)) = line.split_once(" = ") else {
+        return Err(Fail::new(line));
     };
-    let mut armed = Armed::new(device, stops.to_vec(rt.alloc())?);
-    armed.at_turn(0);
-    Ok(armed)
+    let (verb, args) = call.split_once(' ').unwrap_or((call, ""));
+    let args = numbers(alloc, args)?;
+    let want = numbers(alloc, answer)?;
+    let got = rig.call(alloc, verb, &args)?;
+    holds(got.as_slice() == want.as_slice(), line)
 }
 
-/// Two words of 5, at turn 0.
-fn words(rt: &impl AllocGlobal, stops: &[PlannedStop]) -> Result<Armed<FakeWords>, AllocError> {
-    let mut armed = Armed::new(FakeWords { words: [5; 2] }, stops.to_vec(rt.alloc())?);
-    armed.at_turn(0);
-    Ok(armed)
-}
-
-const STOPPED: Result<(), DeviceFault> = Err(DeviceFault::Stopped);
-
-#[test]
-fn a_torn_write_keeps_its_first_bytes(rt: HostRuntime) -> Result<(), Fail> {
-    let mut disk = disk(&rt, None, &[stop(0, 0, 1, keeping(2))])?;
-    assert_eq!(rt; disk.write(0, 0, &[1, 2, 3, 4]), STOPPED);
-    let mut bytes = [9; 4];
-    assert_eq!(rt; disk.read(0, 0, &mut bytes), Ok(()));
-    assert_eq!(rt; bytes, [1, 2, 0, 0]);
+fn case_holds<R: Rig>(alloc: Global, lines: &str) -> Result<(), Fail> {
+    let stops = stops_in(alloc, lines)?;
+    let mut rig = R::new(refusal_in(lines), stops);
+    for line in lines.lines() {
+        line_holds(&mut rig, alloc, line)?;
+    }
     Ok(())
 }
 
-#[test]
-fn a_torn_write_is_filled(rt: HostRuntime) -> Result<(), Fail> {
-    let tear = Tear {
-        keep: 2,
-        fill: Some(255),
-    };
-    let mut disk = disk(&rt, None, &[stop(0, 0, 1, tear)])?;
-    assert_eq!(rt; disk.write(0, 0, &[1, 2, 3, 4]), STOPPED);
-    let mut bytes = [9; 5];
-    assert_eq!(rt; disk.read(0, 0, &mut bytes), Ok(()));
-    assert_eq!(rt; bytes, [1, 2, 255, 255, 0]);
+/// Each case of a text.
+fn cases_hold<R: Rig>(alloc: Global, text: &str) -> Result<(), Fail> {
+    for case in text.split("# ") {
+        if let Some((_, lines)) = case.split_once('\n') {
+            case_holds::<R>(alloc, lines)?;
+        }
+    }
     Ok(())
 }
 
-#[test]
-fn a_long_write_is_torn_past_its_middle(rt: HostRuntime) -> Result<(), Fail> {
-    let tear = Tear {
-        keep: 20,
-        fill: Some(9),
-    };
-    let mut disk = disk(&rt, None, &[stop(0, 0, 1, tear)])?;
-    assert_eq!(rt; disk.write(0, 10, &[7; 150]), STOPPED);
-    let mut bytes = [1; 170];
-    assert_eq!(rt; disk.read(0, 0, &mut bytes), Ok(()));
-    assert_eq!(rt; &bytes[..10], [0; 10].as_slice());
-    assert_eq!(rt; &bytes[10..30], [7; 20].as_slice());
-    assert_eq!(rt; &bytes[30..160], [9; 130].as_slice());
-    assert_eq!(rt; &bytes[160..], [0; 10].as_slice());
-    Ok(())
+impl Armed<FakeDisk> {
+    fn write_at(&mut self, p: u32, at: u64, piece: &[u8]) -> u64 {
+        if at <= 200 && piece.len() as u64 <= 200 - at {
+            return code(self.write(p, at, piece));
+        }
+        9
+    }
+
+    /// The bytes at a place, or the refusal.
+    fn bytes_at(&mut self, alloc: Global, p: u32, at: u64, count: usize) -> Result<Vec<u64>, Fail> {
+        let mut list = Vec::new(alloc);
+        let mut room = vec![in alloc; 0; count.min(200)]?;
+        if at > 200 - room.len() as u64 {
+            return Ok(list);
+        }
+        match self.read(p, at, &mut room) {
+            Ok(()) => {
+                for byte in room.as_slice() {
+                    list.push(u64::from(*byte))?;
+                }
+            }
+            Err(fault) => list.push(code(Err(fault)))?,
+        }
+        Ok(list)
+    }
+}
+
+impl Rig for Armed<FakeDisk> {
+    fn new(refusal: Option<DeviceFault>, stops: Vec<PlannedStop>) -> Armed<FakeDisk> {
+        let mut armed = Armed::new(FakeDisk::new(refusal), stops);
+        armed.at_turn(0);
+        armed
+    }
+
+    fn call(&mut self, alloc: Global, verb: &str, args: &[u64]) -> Result<Vec<u64>, Fail> {
+        let p = small(at(args, 0));
+        match verb {
+            "write" => {
+                let piece = bytes(alloc, args.get(2..).unwrap_or(&[]))?;
+                Ok(vec![in alloc; self.write_at(p, at(args, 1), &piece)]?)
+            }
+            "read" => self.bytes_at(alloc, p, at(args, 1), at(args, 2) as usize),
+            "sync" => Ok(vec![in alloc; code(self.sync(p))]?),
+            "syncs" => Ok(vec![in alloc; u64::from(self.device().syncs)]?),
+            "size" => Ok(vec![in alloc; self.size(p)]?),
+            "format" => Ok(vec![in alloc; made_code(self.format(alloc, 0, at(args, 0)))]?),
+            "calls" => Ok(vec![in alloc; self.calls(p)]?),
+            _ => Err(Fail::new(verb)),
+        }
+    }
+}
+
+impl Armed<FakeWords> {
+    fn store_at(&mut self, p: u32, i: u32, w: u32) -> u64 {
+        if i < 40 {
+            return code(self.store(p, i, w));
+        }
+        9
+    }
+
+    fn word_at(&self, p: u32, i: u32) -> u64 {
+        if i < 40 {
+            return u64::from(self.load(p, i));
+        }
+        9
+    }
+
+    fn copy_at(&mut self, p: u32, from: u32, to: u32) -> u64 {
+        if from <= 4 && to >= 20 && to <= 24 {
+            return code(self.copy_line(p, from, to));
+        }
+        9
+    }
+}
+
+impl Rig for Armed<FakeWords> {
+    fn new(_refusal: Option<DeviceFault>, stops: Vec<PlannedStop>) -> Armed<FakeWords> {
+        let mut armed = Armed::new(FakeWords::new(), stops);
+        armed.at_turn(0);
+        armed
+    }
+
+    fn call(&mut self, alloc: Global, verb: &str, args: &[u64]) -> Result<Vec<u64>, Fail> {
+        let (p, i, w) = (small(at(args, 0)), small(at(args, 1)), small(at(args, 2)));
+        match verb {
+            "store" => Ok(vec![in alloc; self.store_at(p, i, w)]?),
+            "load" => Ok(vec![in alloc; self.word_at(p, i)]?),
+            "copy" => Ok(vec![in alloc; self.copy_at(p, i, w)]?),
+            "lines" => Ok(vec![in alloc; u64::from(self.device().lines)]?),
+            "format" => Ok(vec![in alloc; made_code(self.format(alloc, 0, p))]?),
+            "calls" => Ok(vec![in alloc; self.calls(p)]?),
+            "turn" => {
+                self.at_turn(p);
+                Ok(vec![in alloc; 0]?)
+            }
+            _ => Err(Fail::new(verb)),
+        }
+    }
 }
 
 #[test]
-fn old_bytes_stay_past_the_first_part(rt: HostRuntime) -> Result<(), Fail> {
-    let mut disk = disk(&rt, None, &[stop(0, 0, 2, keeping(1))])?;
-    assert_eq!(rt; disk.write(0, 0, &[3; 100]), Ok(()));
-    assert_eq!(rt; disk.write(0, 0, &[7; 90]), STOPPED);
-    let mut bytes = [1; 101];
-    assert_eq!(rt; disk.read(0, 0, &mut bytes), Ok(()));
-    assert_eq!(rt; bytes[0], 7);
-    assert_eq!(rt; &bytes[1..100], [3; 99].as_slice());
-    assert_eq!(rt; bytes[100], 0);
-    Ok(())
+fn disks_stop_as_planned(rt: HostRuntime) -> Result<(), Fail> {
+    cases_hold::<Armed<FakeDisk>>(rt.alloc(), DISKS)
 }
 
 #[test]
-fn a_torn_store_that_keeps_nothing_leaves_the_word(rt: HostRuntime) -> Result<(), Fail> {
-    let mut words = words(&rt, &[stop(0, 0, 2, keeping(0))])?;
-    assert_eq!(rt; words.store(0, 0, 8), Ok(()));
-    assert_eq!(rt; words.store(0, 1, 8), STOPPED);
-    assert_eq!(rt; words.load(0, 0), 8);
-    assert_eq!(rt; words.load(0, 1), 5);
-    Ok(())
-}
-
-#[test]
-fn a_torn_store_that_keeps_a_byte_sets_the_word(rt: HostRuntime) -> Result<(), Fail> {
-    let mut words = words(&rt, &[stop(0, 0, 2, keeping(1))])?;
-    assert_eq!(rt; words.store(0, 0, 8), Ok(()));
-    assert_eq!(rt; words.store(0, 1, 8), STOPPED);
-    assert_eq!(rt; words.load(0, 1), 8);
-    assert_eq!(rt; words.store(0, 1, 6), Ok(()));
-    Ok(())
-}
-
-#[test]
-fn another_turn_or_process_is_not_stopped(rt: HostRuntime) -> Result<(), Fail> {
-    let mut words = words(&rt, &[stop(1, 0, 1, keeping(0)), stop(0, 1, 1, keeping(0))])?;
-    assert_eq!(rt; words.store(0, 0, 8), Ok(()));
-    assert_eq!(rt; words.store(1, 0, 9), STOPPED);
-    words.at_turn(1);
-    assert_eq!(rt; words.store(0, 0, 9), STOPPED);
-    assert_eq!(rt; words.load(0, 0), 8);
-    Ok(())
-}
-
-#[test]
-fn the_lower_call_comes_alone(rt: HostRuntime) -> Result<(), Fail> {
-    let mut words = words(&rt, &[stop(0, 0, 3, keeping(0)), stop(0, 0, 2, keeping(1))])?;
-    assert_eq!(rt; words.store(0, 0, 8), Ok(()));
-    assert_eq!(rt; words.store(0, 0, 9), STOPPED);
-    assert_eq!(rt; words.store(0, 0, 1), Ok(()));
-    Ok(())
-}
-
-#[test]
-fn the_first_of_one_call_comes(rt: HostRuntime) -> Result<(), Fail> {
-    let mut words = words(&rt, &[stop(0, 0, 1, keeping(1)), stop(0, 0, 1, keeping(0))])?;
-    assert_eq!(rt; words.store(0, 0, 8), STOPPED);
-    assert_eq!(rt; words.load(0, 0), 8);
-    Ok(())
-}
-
-#[test]
-fn a_planned_stop_passes_no_sync_on(rt: HostRuntime) -> Result<(), Fail> {
-    let mut disk = disk(&rt, None, &[stop(0, 0, 2, keeping(1))])?;
-    assert_eq!(rt; disk.sync(0), Ok(()));
-    assert_eq!(rt; disk.sync(0), STOPPED);
-    assert_eq!(rt; disk.device().syncs, 1);
-    assert_eq!(rt; disk.sync(0), Ok(()));
-    assert_eq!(rt; disk.device().syncs, 2);
-    Ok(())
-}
-
-#[test]
-fn a_call_that_does_not_come_stops_no_other_turn(rt: HostRuntime) -> Result<(), Fail> {
-    let mut words = words(&rt, &[stop(0, 0, 2, keeping(0))])?;
-    assert_eq!(rt; words.store(0, 0, 8), Ok(()));
-    words.at_turn(1);
-    assert_eq!(rt; words.store(0, 0, 8), Ok(()));
-    assert_eq!(rt; words.store(0, 0, 8), Ok(()));
-    Ok(())
-}
-
-#[test]
-fn a_turn_may_come_again(rt: HostRuntime) -> Result<(), Fail> {
-    let mut words = words(&rt, &[stop(3, 0, 1, keeping(0)), stop(7, 0, 1, keeping(0))])?;
-    words.at_turn(5);
-    assert_eq!(rt; words.store(0, 0, 8), Ok(()));
-    words.at_turn(3);
-    assert_eq!(rt; words.store(0, 0, 8), STOPPED);
-    words.at_turn(7);
-    assert_eq!(rt; words.store(0, 0, 8), STOPPED);
-    words.at_turn(u32::MAX);
-    assert_eq!(rt; words.store(0, 0, 8), Ok(()));
-    words.at_turn(3);
-    assert_eq!(rt; words.store(0, 0, 8), STOPPED);
-    Ok(())
-}
-
-#[test]
-fn no_planned_stop_comes_after_a_stop_of_the_device(rt: HostRuntime) -> Result<(), Fail> {
-    let mut disk = disk(
-        &rt,
-        Some(DeviceFault::Stopped),
-        &[stop(0, 0, 1, keeping(0))],
-    )?;
-    assert_eq!(rt; disk.read(0, 0, &mut [0; 1]), STOPPED);
-    assert_eq!(rt; disk.write(0, 0, &[1]), Ok(()));
-    Ok(())
-}
-
-#[test]
-fn a_refusal_of_the_device_is_passed_on(rt: HostRuntime) -> Result<(), Fail> {
-    let mut disk = disk(&rt, Some(DeviceFault::Failed), &[stop(0, 0, 1, keeping(1))])?;
-    assert_eq!(rt; disk.write(0, 0, &[1, 2]), Err(DeviceFault::Failed));
-    assert_eq!(rt; disk.write(0, 0, &[1, 2]), Ok(()));
-    Ok(())
-}
-
-#[test]
-fn call_0_and_process_32_are_none(rt: HostRuntime) -> Result<(), Fail> {
-    let mut words = words(
-        &rt,
-        &[stop(0, 0, 0, keeping(0)), stop(0, 32, 1, keeping(0))],
-    )?;
-    assert_eq!(rt; words.store(0, 0, 8), Ok(()));
-    assert_eq!(rt; words.store(32, 0, 8), Ok(()));
-    Ok(())
-}
-
-#[test]
-fn a_disk_is_made_by_the_device(rt: HostRuntime) -> Result<(), Fail> {
-    let mut disk = disk(&rt, None, &[stop(0, 0, 1, keeping(0))])?;
-    assert_eq!(rt; disk.format(rt.alloc(), 0, 100), Err(MakeFault::Memory));
-    assert_eq!(rt; disk.format(rt.alloc(), 0, 200), Ok(()));
-    assert_eq!(rt; disk.size(0), 200);
-    assert_eq!(rt; disk.sync(0), STOPPED);
-    Ok(())
-}
-
-#[test]
-fn a_store_of_words_is_made_by_the_device(rt: HostRuntime) -> Result<(), Fail> {
-    let mut words = words(&rt, &[stop(0, 0, 1, keeping(0))])?;
-    assert_eq!(rt; words.format(rt.alloc(), 0, 3), Err(MakeFault::Memory));
-    assert_eq!(rt; words.format(rt.alloc(), 0, 2), Ok(()));
-    assert_eq!(rt; words.load(0, 0), 0);
-    assert_eq!(rt; words.store(0, 0, 8), STOPPED);
-    Ok(())
-}
-
-/// A layer above, over any stores.
-fn store_through<K: Keeps>(keeps: &mut K, p: u32, i: u32, w: u32) -> Result<(), DeviceFault>
-    requires { i < K.extent keeps.old p }
-    ensures word { SetsWord i w result (K.told keeps.old p) (K.told keeps.new p) }
-    ensures continues { K.continues keeps.old keeps.new }
-{
-    keeps.store(p, i, w)
-}
-
-/// One store of it over armed stores that are lent: what was lent is told of.
-fn stores_lent<K: Keeps>(
-    keeps: &mut K,
-    stops: Vec<PlannedStop>,
-    p: u32,
-    i: u32,
-    w: u32,
-) -> Result<(), DeviceFault>
-    requires { i < K.extent keeps.old p }
-    ensures { SetsWord i w result (K.told keeps.old p) (K.told keeps.new p) }
-{
-    let mut armed = Armed::new(keeps, stops);
-    armed.at_turn(0);
-    let result = store_through(&mut armed, p, i, w);
-    let _back = armed.into_device();
-    result
-}
-
-/// A layer above, over any disks.
-fn write_through<D: Disks>(disks: &mut D, p: u32, at: u64, from: &[u8]) -> Result<(), DeviceFault>
-    requires { at + length from.now ≤ D.extent disks.old p }
-    ensures bytes { Writes at from.now result (D.told disks.old p) (D.told disks.new p) }
-    ensures continues { D.continues disks.old disks.new }
-{
-    disks.write(p, at, from)
-}
-
-/// One write of it over armed disks that are lent.
-fn writes_lent<D: Disks>(
-    disks: &mut D,
-    stops: Vec<PlannedStop>,
-    p: u32,
-    at: u64,
-    from: &[u8],
-) -> Result<(), DeviceFault>
-    requires { at + length from.now ≤ D.extent disks.old p }
-    ensures { Writes at from.now result (D.told disks.old p) (D.told disks.new p) }
-{
-    let mut armed = Armed::new(disks, stops);
-    armed.at_turn(0);
-    let result = write_through(&mut armed, p, at, from);
-    let _back = armed.into_device();
-    result
+fn words_stop_as_planned(rt: HostRuntime) -> Result<(), Fail> {
+    cases_hold::<Armed<FakeWords>>(rt.alloc(), WORDS)
 }

@@ -1,6 +1,7 @@
-ghost use Rattle.std.specs.Prelude.{◌≡◌, ◌≢◌, ◌⊎◌, ◌+◌, ◌<◌, ◌≤◌, ℕ, length};
+ghost use Rattle.std.specs.Prelude.{◌≡◌, ◌≢◌, ◌+◌, ◌<◌, ◌≤◌, ℕ, length};
 ghost use Rattle.dc_media.specs.Tears.{left, torn};
 ghost use Rattle.dc_media.specs.Devices.{of_disks, of_words};
+ghost use Rattle.dc_media.specs.Stores.{AreSameOrApart};
 ghost use Rattle.dc_armed.specs.Torn.{IsOverwrite, IsTornCopy, IsTornStore, at_once, in_parts, kept_words, torn_calls};
 
 use dc_media::{DeviceFault, Disks, Keeps, Tear};
@@ -107,7 +108,7 @@ fn copy_words<K: Keeps>(
     requires few { count < 16 }
     requires source { from + 16 ≤ K.extent keeps.old p }
     requires place { to + 16 ≤ K.extent keeps.old p }
-    requires apart { (from ≡ to) ⊎ (from + 16 ≤ to) ⊎ (to + 16 ≤ from) }
+    requires apart { AreSameOrApart from to }
     ensures made { IsTornCopy (of_words K.Keeps) p (record { from = from; to = to; count = count }) result keeps.old keeps.new }
     ensures continues { K.continues keeps.old keeps.new }
 {
@@ -131,7 +132,7 @@ pub(crate) fn torn_copy<K: Keeps>(
 ) -> Result<(), DeviceFault>
     requires source { from + 16 ≤ K.extent keeps.old p }
     requires place { to + 16 ≤ K.extent keeps.old p }
-    requires apart { (from ≡ to) ⊎ (from + 16 ≤ to) ⊎ (to + 16 ≤ from) }
+    requires apart { AreSameOrApart from to }
     ensures made { IsTornCopy (of_words K.Keeps) p (record { from = from; to = to; count = kept_words tear }) result keeps.old keeps.new }
     ensures continues { K.continues keeps.old keeps.new }
 {

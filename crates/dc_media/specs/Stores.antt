@@ -13,6 +13,10 @@ abbrev pub copied : ℕ → ℕ → ℕ → List ℕ → List ℕ
 copied zero from to words = words
 copied (suc k) from to words = slice_set (copied k from to words) (to + k) (slice_index words (from + k))
 
+-- two lines of 16 words are the same, or have no word in common
+abbrev pub AreSameOrApart : ℕ → ℕ → Type 0
+AreSameOrApart from to = (from ≡ to) ⊎ (from + 16 ≤ to) ⊎ (to + 16 ≤ from)
+
 -- at Ok the 16 words of a line are copied; refused, the first k of them
 abbrev pub CopiesLine : {T E : Type 0} → ℕ → ℕ → Result T E → Option (List ℕ) → Option (List ℕ) → Type 0
 CopiesLine from to result old new = MatchResult result

@@ -1,7 +1,7 @@
-ghost use Rattle.std.specs.Prelude.{refl, ◌≡◌, ◌≢◌, ◌+◌, ◌<◌, ◌≤◌, ◌⊎◌, ◌^◌, List, ℕ, Option, length, IfSome, OnOk, OnErr, slice_index, replicate};
+ghost use Rattle.std.specs.Prelude.{refl, ◌≡◌, ◌≢◌, ◌+◌, ◌<◌, ◌≤◌, ◌^◌, List, ℕ, Option, length, IfSome, OnOk, OnErr, slice_index, replicate};
 ghost use Rattle.std.proofs.Common.{◌∙◌};
 ghost use Rattle.dc_media.specs.Causes.{IsCaused, IsMade, counted};
-ghost use Rattle.dc_media.specs.Stores.{CopiesLine, SetsWord};
+ghost use Rattle.dc_media.specs.Stores.{AreSameOrApart, CopiesLine, SetsWord};
 ghost use Rattle.dc_media.specs.Told.{TellsOn, IsSameStore, seen};
 
 use crate::{DeviceFault, MakeFault, STORES};
@@ -61,7 +61,7 @@ pub trait Keeps {
     fn copy_line(&mut self, p: u32, from: u32, to: u32) -> Result<(), DeviceFault>
         requires source { from + 16 ≤ extent self.old p }
         requires place { to + 16 ≤ extent self.old p }
-        requires apart { (from ≡ to) ⊎ (from + 16 ≤ to) ⊎ (to + 16 ≤ from) }
+        requires apart { AreSameOrApart from to }
         ensures extent { extent self.new p ≡ extent self.old p }
         ensures line { CopiesLine from to result (told self.old p) (told self.new p) }
         ensures tells { TellsOn (stops self.new p) (faults self.new p) (told self.old p) (told self.new p) }

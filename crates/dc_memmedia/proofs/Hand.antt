@@ -4,8 +4,8 @@ use Rattle.std.proofs.lemmas.Bool.{cases_Bool, eqb-false, eqb-true, eq-eqb, ltb-
 use Rattle.std.proofs.lemmas.Bool.Decides.{eqb_tells}
 use Rattle.dc_media.specs.declared.faults.DeviceFault.TheVariants.{Stopped, Failed}
 use Rattle.dc_media.specs.Causes.{counted}
-use Rattle.dc_media.specs.Firsts.{first_by, sooner}
-use Rattle.dc_memmedia.specs.Due.{IsAtHand, due_after, due_at, is_after, next_after}
+use Rattle.dc_media.specs.Firsts.{sooner}
+use Rattle.dc_memmedia.specs.Due.{IsAtHand, due_after, due_at, next_after}
 use Rattle.dc_memmedia.specs.Listed.{is_call, next_call, none_made, with_call, with_fault}
 use Rattle.dc_memmedia.specs.declared.listed.Counts.{Counts}
 use Rattle.dc_memmedia.specs.declared.listed.ListedCall.{ListedCall}

@@ -119,6 +119,7 @@ impl DiskBytes {
         })
     }
 
+    /// How many bytes the disk has, which fits a place on it.
     pub fn len(&self) -> usize
         ensures len { result ≡ length self.now.content }
         ensures fits { result < 2 ^ 63 }
@@ -127,6 +128,7 @@ impl DiskBytes {
         self.content.len()
     }
 
+    /// The bytes at a place, pending or not.
     pub fn read(&self, at: usize, to: &mut [u8])
         requires { at + length to.old ≤ length self.now.content }
         ensures { to.new ≡ take (length to.old) (drop at self.now.content) }

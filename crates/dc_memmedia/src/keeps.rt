@@ -1,6 +1,6 @@
-ghost use Rattle.std.specs.Prelude.{◌≡◌, ◌≢◌, ◌+◌, ◌<◌, ◌≤◌, ◌⊎◌, [], ℕ, IfOk, IfSome, IsErrOf, IsOk, OnErr, OnOk, replicate, slice_index, length};
+ghost use Rattle.std.specs.Prelude.{◌≡◌, ◌≢◌, ◌+◌, ◌<◌, ◌≤◌, [], ℕ, IfOk, IfSome, IsErrOf, IsOk, OnErr, OnOk, replicate, slice_index, length};
 ghost use Rattle.dc_media.specs.Causes.{IsCaused, IsMade, counted};
-ghost use Rattle.dc_media.specs.Stores.{CopiesLine, SetsWord};
+ghost use Rattle.dc_media.specs.Stores.{AreSameOrApart, CopiesLine, SetsWord};
 ghost use Rattle.dc_media.specs.Told.{IsSameStore, TellsOn};
 ghost use Rattle.dc_memmedia.specs.Keeps.{after, copied_line, in_memory, stored, told_words, with_words, words_of};
 ghost use Rattle.dc_memmedia.specs.Listed.{answer_of, calls_of, faults_of, next_call, none_made, stops_of};
@@ -47,7 +47,7 @@ fn put(words: &mut Region, i: u32, w: u32, listed: Option<ListedCall>)
 fn copy(words: &mut Region, from: u32, to: u32, listed: Option<ListedCall>)
     requires source { from + 16 ≤ length words.old }
     requires place { to + 16 ≤ length words.old }
-    requires apart { (from ≡ to) ⊎ (from + 16 ≤ to) ⊎ (to + 16 ≤ from) }
+    requires apart { AreSameOrApart from to }
     ensures { words.new ≡ copied_line from to listed words.old }
 {
     match listed {
@@ -175,7 +175,7 @@ impl Keeps for MemKeeps {
     fn copy_line(&mut self, p: u32, from: u32, to: u32) -> Result<(), DeviceFault>
         requires source { from + 16 ≤ length (words_of self.old p) }
         requires place { to + 16 ≤ length (words_of self.old p) }
-        requires apart { (from ≡ to) ⊎ (from + 16 ≤ to) ⊎ (to + 16 ≤ from) }
+        requires apart { AreSameOrApart from to }
         ensures extent { length (words_of self.new p) ≡ length (words_of self.old p) }
         ensures line { CopiesLine from to result (told_words self.old p) (told_words self.new p) }
         ensures tells { TellsOn (stops_of self.new.calls p) (faults_of self.new.calls p) (told_words self.old p) (told_words self.new p) }
@@ -192,116 +192,5 @@ impl Keeps for MemKeeps {
         let listed = self.calls.call(p);
         copy(&mut self.words[p as usize], from, to, listed);
         answer(listed)
-    }
-}
-
-#[cfg(test)]
-mod tests {
-    use super::*;
-    use dc_media::Tear;
-    use std::test::Fail;
-
-    fn listed(process: u32, call: u64, fault: DeviceFault, keep: u32) -> ListedCall {
-        ListedCall {
-            process,
-            call,
-            fault,
-            tear: Tear { keep, fill: None },
-        }
-    }
-
-    /// Stores of four words for the first two processes.
-    fn stores(rt: &impl AllocGlobal, calls: &[ListedCall]) -> Result<MemKeeps, Fail>
-        ensures { IfOk result (λ stores. (q : ℕ) → q < 2 → length (words_of stores q) ≡ 4) }
-    {
-        let mut stores = MemKeeps::new(rt.alloc(), calls.to_vec(rt.alloc())?)?;
-        stores.format(rt.alloc(), 0, 4)?;
-        stores.format(rt.alloc(), 1, 4)?;
-        Ok(stores)
-    }
-
-    fn store(stores: &mut MemKeeps, p: u32, i: u32, w: u32) -> Result<(), DeviceFault>
-        requires place { (p < 2) × (i < 4) }
-        requires four { (q : ℕ) → q < 2 → length (words_of stores.old q) ≡ 4 }
-        ensures four { (q : ℕ) → q < 2 → length (words_of stores.new q) ≡ 4 }
-    {
-        stores.store(p, i, w)
-    }
-
-    fn load(stores: &MemKeeps, p: u32, i: u32) -> u32
-        requires place { (p < 2) × (i < 4) }
-        requires four { (q : ℕ) → q < 2 → length (words_of stores.now q) ≡ 4 }
-    {
-        stores.load(p, i)
-    }
-
-    #[test]
-    fn keeps_what_is_stored(rt: HostRuntime) -> Result<(), Fail> {
-        let mut stores = stores(&rt, &[])?;
-        assert_eq!(rt; store(&mut stores, 0, 1, 7), Ok(()));
-        assert_eq!(rt; store(&mut stores, 1, 1, 9), Ok(()));
-        assert_eq!(rt; load(&stores, 0, 0), 0);
-        assert_eq!(rt; load(&stores, 0, 1), 7);
-        assert_eq!(rt; load(&stores, 1, 1), 9);
-        Ok(())
-    }
-
-    #[test]
-    fn stops_at_a_listed_store(rt: HostRuntime) -> Result<(), Fail> {
-        let mut stores = stores(&rt, &[listed(0, 2, DeviceFault::Stopped, 0)])?;
-        assert_eq!(rt; store(&mut stores, 0, 1, 7), Ok(()));
-        assert_eq!(rt; store(&mut stores, 0, 2, 9), Err(DeviceFault::Stopped));
-        assert_eq!(rt; load(&stores, 0, 2), 0);
-        assert_eq!(rt; (stores.stops(0), stores.faults(0)), (1, 0));
-        assert_eq!(rt; store(&mut stores, 0, 2, 9), Ok(()));
-        assert_eq!(rt; load(&stores, 0, 2), 9);
-        Ok(())
-    }
-
-    #[test]
-    fn may_keep_the_word_of_a_listed_store(rt: HostRuntime) -> Result<(), Fail> {
-        let mut stores = stores(&rt, &[listed(0, 2, DeviceFault::Stopped, 1)])?;
-        assert_eq!(rt; store(&mut stores, 0, 1, 7), Ok(()));
-        assert_eq!(rt; store(&mut stores, 0, 2, 9), Err(DeviceFault::Stopped));
-        assert_eq!(rt; load(&stores, 0, 2), 9);
-        Ok(())
-    }
-
-    #[test]
-    fn fails_at_a_listed_store(rt: HostRuntime) -> Result<(), Fail> {
-        let calls = [
-            listed(0, 3, DeviceFault::Failed, 1),
-            listed(0, 1, DeviceFault::Failed, 0),
-            listed(0, 1, DeviceFault::Stopped, 1),
-        ];
-        let mut stores = stores(&rt, &calls)?;
-        assert_eq!(rt; store(&mut stores, 0, 0, 5), Err(DeviceFault::Failed));
-        assert_eq!(rt; store(&mut stores, 0, 0, 6), Ok(()));
-        assert_eq!(rt; store(&mut stores, 0, 0, 7), Err(DeviceFault::Failed));
-        assert_eq!(rt; load(&stores, 0, 0), 7);
-        assert_eq!(rt; (stores.stops(0), stores.faults(0)), (0, 2));
-        Ok(())
-    }
-
-    #[test]
-    fn numbers_the_calls_of_each_process(rt: HostRuntime) -> Result<(), Fail> {
-        let mut stores = stores(&rt, &[listed(1, 2, DeviceFault::Stopped, 0)])?;
-        assert_eq!(rt; store(&mut stores, 0, 0, 1), Ok(()));
-        assert_eq!(rt; store(&mut stores, 0, 0, 2), Ok(()));
-        assert_eq!(rt; store(&mut stores, 1, 0, 3), Ok(()));
-        assert_eq!(rt; store(&mut stores, 1, 0, 4), Err(DeviceFault::Stopped));
-        assert_eq!(rt; load(&stores, 1, 0), 3);
-        assert_eq!(rt; [0, 1, 2].map(|p| stores.calls(p)), [2, 2, 0]);
-        Ok(())
-    }
-
-    #[test]
-    fn makes_a_store_again(rt: HostRuntime) -> Result<(), Fail> {
-        let mut stores = stores(&rt, &[])?;
-        assert_eq!(rt; store(&mut stores, 1, 3, 6), Ok(()));
-        stores.format(rt.alloc(), 1, 4)?;
-        assert_eq!(rt; load(&stores, 1, 3), 0);
-        assert_eq!(rt; stores.calls(1), 1);
-        Ok(())
     }
 }

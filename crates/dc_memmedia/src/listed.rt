@@ -134,6 +134,7 @@ pub(crate) fn answer(listed: Option<ListedCall>) -> Result<(), DeviceFault>
 }
 
 impl Calls {
+    /// No call was made yet; the first listed one of each process is at hand.
     pub fn new(listed: Vec<ListedCall>) -> Calls
         ensures { result ≡ record { listed = listed.items; counts = replicate STORES none_made } }
     {

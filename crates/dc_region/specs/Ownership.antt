@@ -19,10 +19,12 @@ abbrev pub slots : ℕ → ℕ → List (Option ℕ) → Fml
 slots b o [] = ftrue
 slots b o (c ∷ cs) = fsep (slot b o c) (slots b (o + 4) cs)
 
+-- one place that is lent: a word that is shared, or nothing
 abbrev pub slot_lent : ℕ → ℕ → Option ℕ → Lft → Fml
 slot_lent b o (Some x) = shared_of u32 x b o
 slot_lent b o None = nothing
 
+-- lent places side by side
 abbrev pub slots_lent : ℕ → ℕ → List (Option ℕ) → Lft → Fml
 slots_lent b o [] = nothing
 slots_lent b o (c ∷ cs) = beside (slot_lent b o c) (slots_lent b (o + 4) cs)
@@ -31,10 +33,12 @@ slots_lent b o (c ∷ cs) = beside (slot_lent b o c) (slots_lent b (o + 4) cs)
 abbrev pub fit : List (Option ℕ) → Fml
 fit cs = flt (length cs * 4) (2 ^ 63)
 
+-- what the owner of the places at a pointer owns
 abbrev pub words_own : Ptr → List (Option ℕ) → Fml
 words_own (block_ptr b o) cs = fsep (fit cs) (slots b o cs)
 words_own null_ptr cs = ffalse
 
+-- what it lends
 abbrev pub words_lent : Ptr → List (Option ℕ) → Lft → Fml
 words_lent (block_ptr b o) cs = beside (said (fit cs)) (slots_lent b o cs)
 words_lent null_ptr cs = said ffalse

@@ -1,6 +1,6 @@
 //! A region: a row of words that can be read, set and copied by the line.
-ghost use Rattle.std.specs.Prelude.{◌≡◌, ◌+◌, ◌*◌, ◌^◌, ◌<◌, ◌≤◌, ◌⊎◌, Some, length, replicate, IfOk, slice_index, slice_set};
-ghost use Rattle.dc_media.specs.Stores.{copied};
+ghost use Rattle.std.specs.Prelude.{◌≡◌, ◌+◌, ◌*◌, ◌^◌, ◌<◌, ◌≤◌, Some, length, replicate, IfOk, slice_index, slice_set};
+ghost use Rattle.dc_media.specs.Stores.{AreSameOrApart, copied};
 
 use crate::block::{Base, Deed, Words, allocate, deallocate};
 use std::alloc::{AllocError, Global};
@@ -92,7 +92,7 @@ impl Region {
     pub fn copy_line(&mut self, from: usize, to: usize)
         requires source { from + 16 ≤ length self.old }
         requires place { to + 16 ≤ length self.old }
-        requires apart { (from ≡ to) ⊎ (from + 16 ≤ to) ⊎ (to + 16 ≤ from) }
+        requires apart { AreSameOrApart from to }
         ensures { self.new ≡ copied 16 from to self.old }
     {
         self.copy_front(from, to, LINE);
@@ -103,7 +103,7 @@ impl Region {
         requires few { count ≤ 16 }
         requires source { from + 16 ≤ length self.old }
         requires place { to + 16 ≤ length self.old }
-        requires apart { (from ≡ to) ⊎ (from + 16 ≤ to) ⊎ (to + 16 ≤ from) }
+        requires apart { AreSameOrApart from to }
         ensures { self.new ≡ copied count from to self.old }
     {
         // so the indices below fit

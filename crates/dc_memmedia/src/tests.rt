@@ -1,0 +1,260 @@
+//! Stores and disks in memory, by calls and answers that are told as text.
+
+ghost use Rattle.std.specs.Prelude.{◌≡◌, ◌<◌, ℕ, length};
+ghost use Rattle.dc_memmedia.specs.Keeps.{words_of};
+
+mod cases;
+mod others;
+
+use crate::{ListedCall, MemDisks, MemKeeps};
+use cases::{DISKS, STORES};
+use dc_media::{DeviceFault, Disks, Keeps, Tear};
+use std::alloc::Global;
+use std::test::Fail;
+
+fn holds(ok: bool, what: &str) -> Result<(), Fail> {
+    if ok { Ok(()) } else { Err(Fail::new(what)) }
+}
+
+/// A number, or an answer as one.
+fn number(word: &str) -> Result<u64, Fail> {
+    match word {
+        "ok" => Ok(0),
+        "stopped" => Ok(1),
+        "failed" => Ok(2),
+        _ => Ok(word.parse::<u64>()?),
+    }
+}
+
+fn numbers(alloc: Global, text: &str) -> Result<Vec<u64>, Fail> {
+    let mut list = Vec::new(alloc);
+    for word in text.split_whitespace() {
+        list.push(number(word)?)?;
+    }
+    Ok(list)
+}
+
+fn small(n: u64) -> u32 {
+    n.min(0xffff_ffff) as u32
+}
+
+fn byte(n: u64) -> u8 {
+    n.min(255) as u8
+}
+
+fn bytes(alloc: Global, numbers: &[u64]) -> Result<Vec<u8>, Fail> {
+    let mut list = Vec::new(alloc);
+    for n in numbers {
+        list.push(byte(*n))?;
+    }
+    Ok(list)
+}
+
+fn code(answer: Result<(), DeviceFault>) -> u64 {
+    match answer {
+        Ok(()) => 0,
+        Err(DeviceFault::Stopped) => 1,
+        Err(DeviceFault::Failed) => 2,
+    }
+}
+
+fn at(args: &[u64], i: usize) -> u64 {
+    args.get(i).copied().unwrap_or(0)
+}
+
+fn listed_call(args: &[u64]) -> ListedCall {
+    let fault = if at(args, 2) == 1 {
+        DeviceFault::Stopped
+    } else {
+        DeviceFault::Failed
+    };
+    let keep = small(at(args, 3));
+    let fill = args.get(4).map(|n| byte(*n));
+    ListedCall {
+        process: small(at(args, 0)),
+        call: at(args, 1),
+        fault,
+        tear: Tear { keep, fill },
+    }
+}
+
+/// The listed calls of a case.
+fn listed_in(alloc: Global, lines: &str) -> Result<Vec<ListedCall>, Fail> {
+    let mut listed = Vec::new(alloc);
+    for line in lines.lines() {
+        if let Some(args) = line.strip_prefix("listed ") {
+            let args = numbers(alloc, args)?;
+            listed.push(listed_call(&args))?;
+        }
+    }
+    Ok(listed)
+}
+
+/// A device that is called by name.
+trait Rig: Sized + Drop {
+    /// Before the calls of a case.
+    fn new(alloc: Global, listed: Vec<ListedCall>) -> Result<Self, Fail>;
+
+    /// The answer of a call.
+    fn call(&mut self, alloc: Global, verb: &str, args: &[u64]) -> Result<Vec<u64>, Fail>;
+}
+
+/// One line of a case.
+fn line_holds<R: Rig>(rig: &mut R, alloc: Global, line: &str) -> Result<(), Fail> {
+    if line.starts_with("listed ") {
+        return Ok(());
+    }
+    let Some((call, answer)) = line.split_once(" = ") else {
+        return Err(Fail::new(line));
+    };
+    let (verb, args) = call.split_once(' ').unwrap_or((call, ""));
+    let args = numbers(alloc, args)?;
+    let want = numbers(alloc, answer)?;
+    let got = rig.call(alloc, verb, &args)?;
+    holds(got.as_slice() == want.as_slice(), line)
+}
+
+fn case_holds<R: Rig>(alloc: Global, lines: &str) -> Result<(), Fail> {
+    let listed = listed_in(alloc, lines)?;
+    let mut rig = R::new(alloc, listed)?;
+    for line in lines.lines() {
+        line_holds(&mut rig, alloc, line)?;
+    }
+    Ok(())
+}
+
+/// Each case of a text.
+fn cases_hold<R: Rig>(alloc: Global, text: &str) -> Result<(), Fail> {
+    for case in text.split("# ") {
+        if let Some((_, lines)) = case.split_once('\n') {
+            case_holds::<R>(alloc, lines)?;
+        }
+    }
+    Ok(())
+}
+
+/// Stores of 40 words for the first two processes.
+#[derive(Drop)]
+struct StoreRig {
+    stores: MemKeeps,
+    ghost forty: { (q : ℕ) → q < 2 → length (words_of stores q) ≡ 40 },
+}
+
+impl StoreRig {
+    fn store(&mut self, p: u32, i: u32, w: u32) -> u64 {
+        if p < 2 && i < 40 {
+            return code(self.stores.store(p, i, w));
+        }
+        9
+    }
+
+    fn load(&self, p: u32, i: u32) -> u64 {
+        if p < 2 && i < 40 {
+            return u64::from(self.stores.load(p, i));
+        }
+        9
+    }
+
+    fn copy(&mut self, p: u32, from: u32, to: u32) -> u64 {
+        if p < 2 && from <= 4 && to >= 20 && to <= 24 {
+            return code(self.stores.copy_line(p, from, to));
+        }
+        if p < 2 && from == to && to <= 24 {
+            return code(self.stores.copy_line(p, from, to));
+        }
+        9
+    }
+
+    fn format(&mut self, alloc: Global, p: u32) -> u64 {
+        if p < 2 && self.stores.format(alloc, p, 40).is_ok() {
+            return 0;
+        }
+        9
+    }
+}
+
+impl Rig for StoreRig {
+    fn new(alloc: Global, listed: Vec<ListedCall>) -> Result<StoreRig, Fail> {
+        let mut stores = MemKeeps::new(alloc, listed)?;
+        stores.format(alloc, 0, 40)?;
+        stores.format(alloc, 1, 40)?;
+        Ok(StoreRig { stores })
+    }
+
+    fn call(&mut self, alloc: Global, verb: &str, args: &[u64]) -> Result<Vec<u64>, Fail> {
+        let (p, i, w) = (small(at(args, 0)), small(at(args, 1)), small(at(args, 2)));
+        match verb {
+            "store" => Ok(vec![in alloc; self.store(p, i, w)]?),
+            "load" => Ok(vec![in alloc; self.load(p, i)]?),
+            "copy" => Ok(vec![in alloc; self.copy(p, i, w)]?),
+            "format" => Ok(vec![in alloc; self.format(alloc, p)]?),
+            "calls" => Ok(vec![in alloc; self.stores.calls(p)]?),
+            "refused" => Ok(vec![in alloc; self.stores.stops(p), self.stores.faults(p)]?),
+            _ => Err(Fail::new(verb)),
+        }
+    }
+}
+
+/// Disks, of which process 0 has one of six bytes.
+#[derive(Drop)]
+struct DiskRig {
+    disks: MemDisks,
+}
+
+impl DiskRig {
+    fn write(&mut self, at: u64, piece: &[u8]) -> u64 {
+        if self.disks.size(0) == 6 && at <= 6 && piece.len() as u64 <= 6 - at {
+            return code(self.disks.write(0, at, piece));
+        }
+        9
+    }
+
+    /// The bytes that it has.
+    fn read(&mut self, alloc: Global) -> Result<Vec<u64>, Fail> {
+        let mut room = [0; 6];
+        if self.disks.size(0) == 6 {
+            self.disks.read(0, 0, &mut room)?;
+        }
+        let mut list = Vec::new(alloc);
+        for byte in room {
+            list.push(u64::from(byte))?;
+        }
+        Ok(list)
+    }
+}
+
+impl Rig for DiskRig {
+    fn new(alloc: Global, listed: Vec<ListedCall>) -> Result<DiskRig, Fail> {
+        let mut disks = MemDisks::new(alloc, listed)?;
+        disks.format(alloc, 0, 6)?;
+        disks.write(0, 0, &[1, 2, 3, 4, 5, 6])?;
+        disks.sync(0)?;
+        Ok(DiskRig { disks })
+    }
+
+    fn call(&mut self, alloc: Global, verb: &str, args: &[u64]) -> Result<Vec<u64>, Fail> {
+        let p = small(at(args, 0));
+        match verb {
+            "write" => {
+                let piece = bytes(alloc, args.get(1..).unwrap_or(&[]))?;
+                Ok(vec![in alloc; self.write(at(args, 0), &piece)]?)
+            }
+            "read" => self.read(alloc),
+            "sync" => Ok(vec![in alloc; code(self.disks.sync(0))]?),
+            "calls" => Ok(vec![in alloc; self.disks.calls(p)]?),
+            "size" => Ok(vec![in alloc; self.disks.size(p)]?),
+            "refused" => Ok(vec![in alloc; self.disks.stops(p), self.disks.faults(p)]?),
+            _ => Err(Fail::new(verb)),
+        }
+    }
+}
+
+#[test]
+fn stores_do_as_told(rt: HostRuntime) -> Result<(), Fail> {
+    cases_hold::<StoreRig>(rt.alloc(), STORES)
+}
+
+#[test]
+fn disks_do_as_told(rt: HostRuntime) -> Result<(), Fail> {
+    cases_hold::<DiskRig>(rt.alloc(), DISKS)
+}
