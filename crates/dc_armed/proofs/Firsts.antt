@@ -4,7 +4,7 @@ use Rattle.std.specs.Option.{option_map}
 use Rattle.std.proofs.lemmas.Bool.Decides.{nat_tests}
 use Rattle.std.proofs.lemmas.Bool.{cases_eq}
 use Rattle.std.proofs.lemmas.List.{get_or-set_same, get_or-set_other, take_more}
-use Rattle.dc_media.specs.Firsts.{later}
+use Rattle.dc_media.specs.Firsts.{or_sooner}
 use Rattle.dc_media.proofs.Firsts.{first_by-push, first_by-push_other}
 use Rattle.dc_armed.specs.declared.stop.PlannedStop.{PlannedStop}
 use Rattle.dc_armed.specs.declared.stop.Waiting.{Waiting}
@@ -23,16 +23,16 @@ first_stop-push_other : (stops : List PlannedStop) (stop : PlannedStop) (turn p 
 first_stop-push_other stops stop turn p other = first_by-push_other (is_of turn p) (λ s. s.call) stops stop other
 
 -- what waits of the sooner of two
-waiting_of-later : (found : Option PlannedStop) (stop : PlannedStop) → waiting_of (later (λ s. s.call) found stop) ≡ sooner_waiting (option_map waiting_of found) stop
-waiting_of-later None stop = refl
-waiting_of-later (Some other) stop =
+waiting_of-or_sooner : (found : Option PlannedStop) (stop : PlannedStop) → waiting_of (or_sooner (λ s. s.call) found stop) ≡ sooner_waiting (option_map waiting_of found) stop
+waiting_of-or_sooner None stop = refl
+waiting_of-or_sooner (Some other) stop =
     elim (nat_lt stop.call other.call) as (λ b. waiting_of (if b then stop else other) ≡ (if b then waiting_of stop else waiting_of other)) [ true ↦ refl | false ↦ refl ]
 
 -- a stop put at the end, which is of the turn and process
 first_stop-push : (stops : List PlannedStop) (stop : PlannedStop) (turn p : ℕ)
     → is_of turn p stop ≡ true → option_map waiting_of (first_stop (stops ++ stop ∷ []) turn p) ≡ Some (sooner_waiting (option_map waiting_of (first_stop stops turn p)) stop)
 first_stop-push stops stop turn p of =
-    ap (option_map waiting_of) (first_by-push (is_of turn p) (λ s. s.call) stops stop of) ∙ ap Some (waiting_of-later (first_stop stops turn p) stop)
+    ap (option_map waiting_of) (first_by-push (is_of turn p) (λ s. s.call) stops stop of) ∙ ap Some (waiting_of-or_sooner (first_stop stops turn p) stop)
 
 -- a stop of another process
 is_of-other : (stop : PlannedStop) (turn p : ℕ) → p ≢ stop.process → is_of turn p stop ≡ false

@@ -3,7 +3,7 @@ use Rattle.std.specs.Prelude.{◌≡◌, ◌⊎◌, ◌+◌, ℕ, Result, IsErr,
 use Rattle.dc_media.specs.declared.faults.DeviceFault.{DeviceFault}
 use Rattle.dc_media.specs.declared.faults.DeviceFault.TheVariants.{Stopped}
 use Rattle.dc_media.specs.Causes.{IsCaused}
-use Rattle.dc_media.specs.Told.{Becomes, Device, seen}
+use Rattle.dc_media.specs.Told.{Becomes, Device, showing}
 use Rattle.dc_armed.specs.Torn.{counted_by}
 use Rattle.dc_armed.specs.Stops.{Plan, Comes, came_to, calls_to}
 
@@ -26,7 +26,7 @@ all_calls armed p = calls_to armed.plan p
 
 -- an armed device as a device
 abbrev pub armed : {D C : Type 0} → Device D C → Device (Armed D) C
-armed device = seen (within device.told) (within device.extent) (all_stops device.stops) (within device.faults) all_calls
+armed device = showing (within device.told) (within device.extent) (all_stops device.stops) (within device.faults) all_calls
 
 -- the answer is that of the device within: its counts bear it out, and no planned stop came
 pub record IsOwn {D C T : Type 0} (device : Device D C) (p : ℕ) (result : Result T DeviceFault) (old new : Armed D) : Type 0 where

@@ -46,7 +46,7 @@ impl<D: Disks> Disks for Armed<D> {
         ensures continues { D.continues self.old.device self.new.device }
 
         // the device within
-        ensures apart { (q : ℕ) → q ≢ p → IsSameStore (of_disks D.Disks) self.old.device self.new.device q }
+        ensures untouched { (q : ℕ) → q ≢ p → IsSameStore (of_disks D.Disks) self.old.device self.new.device q }
         ensures uncounted { D.calls self.new.device p ≡ D.calls self.old.device p }
 
         // no planned stop comes
@@ -70,7 +70,7 @@ impl<D: Disks> Disks for Armed<D> {
         ensures continues { D.continues self.old.device self.new.device }
 
         // the device within
-        ensures apart { (q : ℕ) → q ≢ p → IsSameStore (of_disks D.Disks) self.old.device self.new.device q }
+        ensures untouched { (q : ℕ) → q ≢ p → IsSameStore (of_disks D.Disks) self.old.device self.new.device q }
         ensures uncounted { D.calls self.new.device p ≡ D.calls self.old.device p }
 
         // the answer is the device's, and what waits after it
@@ -95,7 +95,7 @@ impl<D: Disks> Disks for Armed<D> {
         ensures continues { D.continues self.old.device self.new.device }
 
         // the device within
-        ensures apart { (q : ℕ) → q ≢ p → IsSameStore (of_disks D.Disks) self.old.device self.new.device q }
+        ensures untouched { (q : ℕ) → q ≢ p → IsSameStore (of_disks D.Disks) self.old.device self.new.device q }
 
         // what a planned stop does, and what waits after a call
         ensures once { due self.old.plan p ≡ None → D.calls self.new.device p ≡ counted (D.calls self.old.device p) }
@@ -128,7 +128,7 @@ impl<D: Disks> Disks for Armed<D> {
         ensures continues { D.continues self.old.device self.new.device }
 
         // the device within
-        ensures apart { (q : ℕ) → q ≢ p → IsSameStore (of_disks D.Disks) self.old.device self.new.device q }
+        ensures untouched { (q : ℕ) → q ≢ p → IsSameStore (of_disks D.Disks) self.old.device self.new.device q }
 
         // what a planned stop does, and what waits after a call
         ensures once { due self.old.plan p ≡ None → D.calls self.new.device p ≡ counted (D.calls self.old.device p) }

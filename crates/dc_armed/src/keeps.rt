@@ -46,7 +46,7 @@ impl<K: Keeps> Keeps for Armed<K> {
         ensures continues { K.continues self.old.device self.new.device }
 
         // the device within
-        ensures apart { (q : ℕ) → q ≢ p → IsSameStore (of_words K.Keeps) self.old.device self.new.device q }
+        ensures untouched { (q : ℕ) → q ≢ p → IsSameStore (of_words K.Keeps) self.old.device self.new.device q }
         ensures uncounted { K.calls self.new.device p ≡ K.calls self.old.device p }
 
         // no planned stop comes
@@ -73,7 +73,7 @@ impl<K: Keeps> Keeps for Armed<K> {
         ensures continues { K.continues self.old.device self.new.device }
 
         // the device within
-        ensures apart { (q : ℕ) → q ≢ p → IsSameStore (of_words K.Keeps) self.old.device self.new.device q }
+        ensures untouched { (q : ℕ) → q ≢ p → IsSameStore (of_words K.Keeps) self.old.device self.new.device q }
 
         // what a planned stop does, and what waits after a call
         ensures once { due self.old.plan p ≡ None → K.calls self.new.device p ≡ counted (K.calls self.old.device p) }
@@ -112,7 +112,7 @@ impl<K: Keeps> Keeps for Armed<K> {
         ensures continues { K.continues self.old.device self.new.device }
 
         // the device within
-        ensures apart { (q : ℕ) → q ≢ p → IsSameStore (of_words K.Keeps) self.old.device self.new.device q }
+        ensures untouched { (q : ℕ) → q ≢ p → IsSameStore (of_words K.Keeps) self.old.device self.new.device q }
 
         // what a planned stop does, and what waits after a call
         ensures once { due self.old.plan p ≡ None → K.calls self.new.device p ≡ counted (K.calls self.old.device p) }

@@ -2,7 +2,7 @@
 use Rattle.std.proofs.Common.{◌≡◌, ◌≤◌, ◌<◌, ℕ, List, [], ◌∷◌, ◌++◌, All, Bool, true, false, Option, None, Some, refl, ap, ◌∙◌, if◌then◌else◌, nat_lt, arith}
 use Rattle.std.proofs.lemmas.Bool.Decides.{nat_tests}
 use Rattle.std.proofs.lemmas.List.Elements.{All-nil, All-cons, All-append}
-use Rattle.dc_media.specs.Firsts.{IsFirst, IsFoundFirst, first_by, later, sooner}
+use Rattle.dc_media.specs.Firsts.{IsFirst, IsFoundFirst, first_by, or_sooner, sooner}
 
 lt_of : (a b : ℕ) → nat_lt a b ≡ true → a < b
 lt_of a b e = grind (arith, nat_tests)
@@ -12,17 +12,17 @@ le_of a b e = grind (arith, nat_tests)
 
 module _ {A : Type 0} (test : A → Bool) (number : A → ℕ) where
   -- of three in a row, whichever are compared first
-  later-sooner : (one : A) (found : Option A) (item : A) → sooner number one (Some (later number found item)) ≡ later number (Some (sooner number one found)) item
-  later-sooner one None item = refl
-  later-sooner one (Some other) item = grind (arith, nat_tests)
+  or_sooner-sooner : (one : A) (found : Option A) (item : A) → sooner number one (Some (or_sooner number found item)) ≡ or_sooner number (Some (sooner number one found)) item
+  or_sooner-sooner one None item = refl
+  or_sooner-sooner one (Some other) item = grind (arith, nat_tests)
 
-  push_step : (passes : Bool) (one item : A) (found next : Option A) → next ≡ Some (later number found item)
-      → (if passes then Some (sooner number one next) else next) ≡ Some (later number (if passes then Some (sooner number one found) else found) item)
-  push_step true one item found next e = ap (λ x. Some (sooner number one x)) e ∙ ap Some (later-sooner one found item)
+  push_step : (passes : Bool) (one item : A) (found next : Option A) → next ≡ Some (or_sooner number found item)
+      → (if passes then Some (sooner number one next) else next) ≡ Some (or_sooner number (if passes then Some (sooner number one found) else found) item)
+  push_step true one item found next e = ap (λ x. Some (sooner number one x)) e ∙ ap Some (or_sooner-sooner one found item)
   push_step false one item found next e = e
 
   -- an item put at the end, which passes the test
-  pub first_by-push : (items : List A) (item : A) → test item ≡ true → first_by test number (items ++ item ∷ []) ≡ Some (later number (first_by test number items) item)
+  pub first_by-push : (items : List A) (item : A) → test item ≡ true → first_by test number (items ++ item ∷ []) ≡ Some (or_sooner number (first_by test number items) item)
   first_by-push [] item passes = rw passes refl
   first_by-push (one ∷ items) item passes = push_step (test one) one item (first_by test number items) _ (first_by-push items item passes)
 

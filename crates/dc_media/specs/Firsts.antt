@@ -12,9 +12,9 @@ first_by test number [] = None
 first_by test number (item ∷ items) = if test item then Some (sooner number item (first_by test number items)) else first_by test number items
 
 -- the sooner of one found and of an item behind it; of two of one number the one found
-abbrev pub later : {A : Type 0} → (A → ℕ) → Option A → A → A
-later number None item = item
-later number (Some found) item = if nat_lt (number item) (number found) then item else found
+abbrev pub or_sooner : {A : Type 0} → (A → ℕ) → Option A → A → A
+or_sooner number None item = item
+or_sooner number (Some found) item = if nat_lt (number item) (number found) then item else found
 
 -- this item passes the test: those before it that do so too have a higher number, and those after it no lower one
 pub record IsFirst {A : Type 0} (test : A → Bool) (number : A → ℕ) (items : List A) (first : A) : Type 0 where

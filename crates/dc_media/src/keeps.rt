@@ -2,7 +2,7 @@ ghost use Rattle.std.specs.Prelude.{refl, ◌≡◌, ◌≢◌, ◌+◌, ◌<◌
 ghost use Rattle.std.proofs.Common.{◌∙◌};
 ghost use Rattle.dc_media.specs.Causes.{IsCaused, IsMade, counted};
 ghost use Rattle.dc_media.specs.Stores.{AreSameOrApart, CopiesLine, SetsWord};
-ghost use Rattle.dc_media.specs.Told.{TellsOn, IsSameStore, seen};
+ghost use Rattle.dc_media.specs.Told.{TellsOn, IsSameStore, showing};
 
 use crate::{DeviceFault, MakeFault, STORES};
 use std::alloc::Global;
@@ -38,7 +38,7 @@ pub trait Keeps {
         ensures tells { TellsOn (stops self.new p) (faults self.new p) (told self.old p) (told self.new p) }
         ensures cause { IsMade (stops self.old p) (stops self.new p) (faults self.old p) (faults self.new p) result }
         ensures calls { calls self.new p ≡ calls self.old p }
-        ensures others { (q : ℕ) → q ≢ p → IsSameStore (seen told extent stops faults calls) self.old self.new q }
+        ensures others { (q : ℕ) → q ≢ p → IsSameStore (showing told extent stops faults calls) self.old self.new q }
         ensures continues { continues self.old self.new };
 
     /// The word at an index.
@@ -54,7 +54,7 @@ pub trait Keeps {
         ensures tells { TellsOn (stops self.new p) (faults self.new p) (told self.old p) (told self.new p) }
         ensures cause { IsCaused (stops self.old p) (stops self.new p) (faults self.old p) (faults self.new p) result }
         ensures calls { calls self.new p ≡ counted (calls self.old p) }
-        ensures others { (q : ℕ) → q ≢ p → IsSameStore (seen told extent stops faults calls) self.old self.new q }
+        ensures others { (q : ℕ) → q ≢ p → IsSameStore (showing told extent stops faults calls) self.old self.new q }
         ensures continues { continues self.old self.new };
 
     /// Copies a line of 16 words to an index that is the same or lies apart. A refused call copies the first of them, in order.
@@ -67,7 +67,7 @@ pub trait Keeps {
         ensures tells { TellsOn (stops self.new p) (faults self.new p) (told self.old p) (told self.new p) }
         ensures cause { IsCaused (stops self.old p) (stops self.new p) (faults self.old p) (faults self.new p) result }
         ensures calls { calls self.new p ≡ counted (calls self.old p) }
-        ensures others { (q : ℕ) → q ≢ p → IsSameStore (seen told extent stops faults calls) self.old self.new q }
+        ensures others { (q : ℕ) → q ≢ p → IsSameStore (showing told extent stops faults calls) self.old self.new q }
         ensures continues { continues self.old self.new };
 
     /// A told store has its extent.

@@ -1,7 +1,7 @@
 -- The calls of a process's device, which are numbered from 1, and those that are listed: they are stopped or fail.
 use Rattle.std.specs.Prelude.{ℕ, ◌+◌, ◌-◌, ◌^◌, ◌==◌, ◌&&◌, nat_lt, List, Bool, Option, None, Some, Result, Ok, Err, find, get_or, slice_set, if◌then◌else◌}
 use Rattle.dc_media.specs.Causes.{IsCaused, counted}
-use Rattle.dc_media.specs.Told.{Device, seen}
+use Rattle.dc_media.specs.Told.{Device, showing}
 use Rattle.dc_media.specs.declared.TheConstants.{STORES}
 use Rattle.dc_media.specs.declared.faults.DeviceFault.{DeviceFault}
 use Rattle.dc_media.specs.declared.faults.DeviceFault.TheVariants.{Stopped, Failed}
@@ -35,7 +35,7 @@ faults_of calls p = (counts_of calls p).faults
 
 -- a device whose state has such calls
 abbrev pub counting : {S C : Type 0} → (S → Calls) → (S → ℕ → Option C) → (S → ℕ → ℕ) → Device S C
-counting calls told extent = seen told extent (λ s p. stops_of (calls s) p) (λ s p. faults_of (calls s) p) (λ s p. calls_of (calls s) p)
+counting calls told extent = showing told extent (λ s p. stops_of (calls s) p) (λ s p. faults_of (calls s) p) (λ s p. calls_of (calls s) p)
 
 -- of this process and number
 abbrev pub is_call : ℕ → ℕ → ListedCall → Bool
