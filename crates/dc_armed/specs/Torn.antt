@@ -13,7 +13,7 @@ abbrev pub counted_by : ℕ → ℕ → ℕ
 counted_by zero n = n
 counted_by (suc k) n = counted (counted_by k n)
 
--- a process's store by the laws of a device, in exactly so many counted calls, of which the first that is refused is the answer
+-- what the laws of a device say of a process's store after exactly so many counted calls, with this answer for all of them
 pub record IsInCalls {S C T : Type 0} (device : Device S C) (p count : ℕ) (result : Result T DeviceFault) (old new : S) : Type 0 where
   pub extent_same : device.extent new p ≡ device.extent old p
   pub tells : TellsOn (device.stops new p) (device.faults new p) (device.told old p) (device.told new p)
@@ -25,7 +25,7 @@ pub record IsInCalls {S C T : Type 0} (device : Device S C) (p count : ℕ) (res
 abbrev pub torn_store : Tear → ℕ → ℕ → List ℕ → List ℕ
 torn_store tear i w words = slice_set words i (torn_word tear (slice_index words i) w)
 
--- in how many calls so many bytes or words are written at once: in none where there are none
+-- in how many calls something is written at once: in none where there is none of it
 abbrev pub at_once : ℕ → ℕ
 at_once count = min count 1
 
@@ -57,7 +57,7 @@ kept_words tear = min tear.keep 16
 abbrev pub copy_calls : ℕ → ℕ
 copy_calls count = if nat_lt count 16 then count else 1
 
--- a line of which a planned stop keeps the first words: at Ok so many are copied; the first call that is refused is the last one
+-- a line of which a planned stop keeps the first words: at Ok so many are copied, in all the calls; refused, the first of them, in some of the calls
 pub record IsTornCopy {S T : Type 0} (device : Device S (List ℕ)) (p : ℕ) (copy : Copy) (result : Result T DeviceFault) (old new : S) : Type 0 where
   pub words : MatchResult result
       (λ _. Becomes (device.told old p) (device.told new p) (λ before after. after ≡ copied copy.count copy.from copy.to before))
