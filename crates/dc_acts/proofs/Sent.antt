@@ -1,5 +1,5 @@
 -- Pieces that were sent one after the other, the last of them whole or cut off.
-use Rattle.std.proofs.Common.{◌≡◌, ◌∙◌, ◌+◌, ◌<◌, ◌≤◌, ◌∷◌, ◌++◌, ℕ, zero, suc, List, [], Option, Result, Ok, Err, length, take, drop, ap, sym}
+use Rattle.std.proofs.Common.{◌≡◌, ◌∙◌, ◌+◌, ◌<◌, ◌∷◌, ◌++◌, ℕ, zero, suc, List, [], Option, Result, Ok, Err, length, take, drop, ap, sym}
 use Rattle.std.proofs.Common.{refl, arith, append_assoc, length-append, slice_index_or}
 use Rattle.std.proofs.lemmas.List.{take-append-le}
 use Rattle.std.specs.List.{flat_map}
@@ -7,12 +7,12 @@ use Rattle.dc_media.specs.Sinks.{TakesWhole}
 use Rattle.dc_media.specs.Told.{Becomes}
 use Rattle.dc_media.proofs.Becoming.{Becomes-then, Becomes-weaker}
 
--- a piece was sent, and a front of one
+-- a piece was sent, and a part of the front of one
 abbrev pub Sent : List ℕ → Option (List ℕ) → Option (List ℕ) → Type 0
 Sent piece old new = Becomes old new (λ x y. y ≡ x ++ piece)
 
 abbrev pub CutOff : List ℕ → Option (List ℕ) → Option (List ℕ) → Type 0
-CutOff piece old new = (n : ℕ) × (n ≤ length piece) × Sent (take n piece) old new
+CutOff piece old new = (n : ℕ) × (n < length piece) × Sent (take n piece) old new
 
 take_past : (p r : List ℕ) (n : ℕ) → take (length p + n) (p ++ r) ≡ p ++ take n r
 take_past [] r n = ap (λ k. take k r) (let same : 0 + n ≡ n = omega arith in same)
@@ -26,17 +26,17 @@ sent_then a b c p q = Becomes-then a b c _ _ _ (λ x y z first then. then ∙ ap
 pub cut_first : (a b : Option (List ℕ)) (q rest whole : List ℕ) → whole ≡ q ++ rest → CutOff q a b → CutOff whole a b
 cut_first a b q rest whole whole_is cut = (cut.0, within, Becomes-weaker a b _ _ (λ x y e. e ∙ ap (λ w. x ++ w) (sym front)) cut.2)
   where
-    within : cut.0 ≤ length whole
+    within : cut.0 < length whole
     within = let short = cut.1 in omega (arith, ap length whole_is, length-append q rest, short)
 
     front : take cut.0 whole ≡ take cut.0 q
-    front = ap (take cut.0) whole_is ∙ take-append-le cut.0 q rest cut.1
+    front = ap (take cut.0) whole_is ∙ take-append-le cut.0 q rest (let short = cut.1 in omega (arith, short))
 
 -- cut off in a piece behind another
 pub cut_behind : (a b c : Option (List ℕ)) (p q : List ℕ) → Sent p a b → CutOff q b c → CutOff (p ++ q) a c
 cut_behind a b c p q first cut = (length p + cut.0, within, Becomes-then a b c _ _ _ joined first cut.2)
   where
-    within : length p + cut.0 ≤ length (p ++ q)
+    within : length p + cut.0 < length (p ++ q)
     within = let short = cut.1 in omega (arith, length-append p q, short)
 
     joined : (x y z : List ℕ) → y ≡ x ++ p → z ≡ y ++ take cut.0 q → z ≡ x ++ take (length p + cut.0) (p ++ q)

@@ -5,8 +5,9 @@ ghost use Rattle.dc_media.specs.Causes.{HasCause};
 ghost use Rattle.dc_media.specs.Sinks.{TakesWhole};
 ghost use Rattle.dc_media.specs.Told.{TellsOn};
 
+use crate::Line;
 use dc_media::{Sink, SinkFailed, write_whole};
-use dc_plain::{Act, Line, Taken};
+use dc_model::{Act, Taken};
 
 /// Adds what an act told.
 fn push_act(line: &mut Line, act: &Act)

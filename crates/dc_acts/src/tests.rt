@@ -1,7 +1,7 @@
 use crate::write_report;
 use dc_media::SinkFailed;
 use dc_memmedia::MemSink;
-use dc_plain::{Act, Taken};
+use dc_model::{Act, Taken};
 use std::test::Fail;
 
 /// An act of each kind.

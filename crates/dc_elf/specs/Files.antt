@@ -79,7 +79,3 @@ header_fault file =
 abbrev pub file_fault : List ℕ → ℕ → Option ElfFault
 file_fault file size = if nat_lt (length file) 52 then Some Short
     else option_or (header_fault file) (option_or (faulty_from file size 0 (parts_of file)) (fault_if (has_bad_entry file size) Entry))
-
--- the same, by its earlier name
-abbrev pub fault_of : List ℕ → ℕ → Option ElfFault
-fault_of file size = file_fault file size

@@ -6,24 +6,22 @@ use Rattle.std.proofs.lemmas.Option.{slice_get-map}
 use Rattle.std.proofs.lemmas.Bool.{le-ltb, lt-ltb}
 use Rattle.std.proofs.lemmas.Bool.Decides.{nat_tests}
 use Rattle.std.proofs.lemmas.Slice.Eq.{bytes_eq-Decides}
-use Rattle.dc_calls.specs.declared.call.Call.TheVariants as calls
 use Rattle.dc_elf.specs.Images.{Image}
 use Rattle.dc_events.specs.Kinds.{kind_of}
-use Rattle.dc_events.specs.declared.event.Kind.{Kind}
-use Rattle.dc_events.specs.declared.event.Kind.TheVariants as kind
 use Rattle.dc_events.specs.declared.event.Next.{Next}
-use Rattle.dc_events.specs.declared.event.Next.TheVariants as next
-use Rattle.dc_plain.specs.Answers.{is_of}
-use Rattle.dc_plain.specs.Guest.{Guest, coming, event_of, guests_of, next_of}
-use Rattle.dc_plain.specs.Plain.{World, told}
+use Rattle.dc_guest.specs.Answers.{may_answer}
+use Rattle.dc_guest.specs.Guest.{Guest, coming, event_of, guests_of, next_of}
+use Rattle.dc_guest.proofs.Coming.{by_kind, kind_at, not_ended}
+use Rattle.dc_model.specs.World.{World, answer_for}
 use Rattle.dc_plain.specs.Playing.{answer_to, can_be, ends_well, items_of, lists_of, local_at, local_of, procs_of}
-use Rattle.dc_plain.specs.World.{Answer, Event, Guests, Local, fits, is_clock, is_input, is_random, is_receive, is_record, is_sure}
-use Rattle.dc_plain.specs.World.Event.{AtEnd, AtInternal, AtClock, AtRandom, AtInput, AtReceive, AtVisible, AtSend}
-use Rattle.dc_plain.specs.World.{Answer as answer}
+use Rattle.dc_model.specs.Guests.{Answer, Event, Guests, is_clock, is_input, is_random, is_receive, is_sure}
+use Rattle.dc_model.specs.Process.{Local, fits, is_next_input}
+use Rattle.dc_model.specs.Guests.Event.{AtEnd, AtInternal, AtClock, AtRandom, AtInput, AtReceive, AtVisible, AtSend}
+use Rattle.dc_model.specs.Guests.{Answer as answer}
 use Rattle.dc_plain.specs.declared.process.Process.{Process}
-use Rattle.dc_plain.specs.declared.visible.Visible.{Visible}
-use Rattle.dc_plain.specs.declared.act.Act.{Act}
-use Rattle.dc_plain.specs.declared.act.Act.TheVariants as act
+use Rattle.dc_model.specs.declared.visible.Visible.{Visible}
+use Rattle.dc_model.specs.declared.act.Act.{Act}
+use Rattle.dc_model.specs.declared.act.Act.TheVariants as act
 use Rattle.dc_rv32.specs.Machine.{Machine}
 
 -- the test of an event, by an answer
@@ -37,31 +35,7 @@ test answer.InputEnd = is_input
 test answer.ReceiveNone = is_receive
 test (answer.ReceiveFrom s message) = is_receive
 
--- the kind of an event that is not the end
-abbrev kind_at : Event → Kind
-kind_at AtClock = kind.Clock
-kind_at AtRandom = kind.Random
-kind_at AtInput = kind.Input
-kind_at AtReceive = kind.Receive
-kind_at (AtVisible body) = kind.Visible
-kind_at (AtSend to message) = kind.Send
-kind_at _ = kind.Internal
-
-by_kind : (n : Next) (m : Machine) → kind_of n ≡ kind_at (event_of n m)
-by_kind next.Retire m = refl
-by_kind (next.Trap cause) m = refl
-by_kind (next.Call (calls.Exit code)) m = refl
-by_kind (next.Call (calls.Output from count)) m = refl
-by_kind (next.Call (calls.Input to room)) m = refl
-by_kind (next.Call calls.Clock) m = refl
-by_kind (next.Call calls.Random) m = refl
-by_kind (next.Call (calls.Send q from count)) m = refl
-by_kind (next.Call (calls.Receive to room)) m = refl
-by_kind (next.Call calls.Own) m = refl
-by_kind (next.Call calls.BadArgument) m = refl
-by_kind (next.Call calls.Unknown) m = refl
-
-by_answer : (a : Answer) (e : Event) → e ≢ AtEnd → test a e ≡ is_of a (kind_at e)
+by_answer : (a : Answer) (e : Event) → e ≢ AtEnd → test a e ≡ may_answer a (kind_at e)
 by_answer a AtEnd live = absurd (live refl)
 by_answer answer.Plain AtInternal live = refl
 by_answer answer.Plain AtClock live = refl
@@ -120,24 +94,6 @@ by_answer (answer.ReceiveFrom s message) AtReceive live = refl
 by_answer (answer.ReceiveFrom s message) (AtVisible body) live = refl
 by_answer (answer.ReceiveFrom s message) (AtSend to sent) live = refl
 
--- what a guest does next is never its end
-pub not_ended : (n : Next) (m : Machine) → event_of n m ≢ AtEnd
-not_ended next.Retire m = λ e. cc
-not_ended (next.Trap cause) m = λ e. cc
-not_ended (next.Call (calls.Exit code)) m = λ e. cc
-not_ended (next.Call (calls.Output from count)) m = λ e. cc
-not_ended (next.Call (calls.Input to room)) m = λ e. cc
-not_ended (next.Call calls.Clock) m = λ e. cc
-not_ended (next.Call calls.Random) m = λ e. cc
-not_ended (next.Call (calls.Send q from count)) m = λ e. cc
-not_ended (next.Call (calls.Receive to room)) m = λ e. cc
-not_ended (next.Call calls.Own) m = λ e. cc
-not_ended (next.Call calls.BadArgument) m = λ e. cc
-not_ended (next.Call calls.Unknown) m = λ e. cc
-
-pub live_coming : (g : Guest) → g.ended ≡ false → coming g ≡ event_of (next_of g) g.machine
-live_coming g live = ap (λ (b : Bool). if b then AtEnd else event_of (next_of g) g.machine) live
-
 -- the end has no answer
 at_end : (a : Answer) → test a AtEnd ≡ false
 at_end answer.Plain = refl
@@ -149,9 +105,9 @@ at_end answer.InputEnd = refl
 at_end answer.ReceiveNone = refl
 at_end (answer.ReceiveFrom s message) = refl
 
-by_ended : (b : Bool) (n : Next) (m : Machine) (a : Answer) → test a (if b then AtEnd else event_of n m) ≡ (not b && is_of a (kind_of n))
+by_ended : (b : Bool) (n : Next) (m : Machine) (a : Answer) → test a (if b then AtEnd else event_of n m) ≡ (not b && may_answer a (kind_of n))
 by_ended true n m a = at_end a
-by_ended false n m a = by_answer a (event_of n m) (not_ended n m) ∙ ap (is_of a) (sym (by_kind n m))
+by_ended false n m a = by_answer a (event_of n m) (not_ended n m) ∙ ap (may_answer a) (sym (by_kind n m))
 
 tested : (g : Guest) (a : Answer) → test a (coming g) ≡ can_be g a
 tested g a = by_ended g.ended (next_of g) g.machine a
@@ -182,7 +138,7 @@ module _ (images : List Image) (inputs : List (List (List ℕ))) where
   fits_by p l (answer.Clock v) hands = tested l.machine (answer.Clock v) ∙ and_true (can_be l.machine (answer.Clock v))
   fits_by p l (answer.Random v) hands = tested l.machine (answer.Random v) ∙ and_true (can_be l.machine (answer.Random v))
   fits_by p l answer.InputNone hands = tested l.machine answer.InputNone ∙ and_true (can_be l.machine answer.InputNone)
-  fits_by p l (answer.InputNext bytes) hands = ap (λ o. is_input (coming l.machine) && is_record bytes o) (hands bytes refl)
+  fits_by p l (answer.InputNext bytes) hands = ap (λ o. is_input (coming l.machine) && is_next_input bytes o) (hands bytes refl)
       ∙ ap (λ b. is_input (coming l.machine) && b) ((bytes_eq-Decides bytes bytes).1 refl) ∙ ap (λ b. b && true) (tested l.machine (answer.InputNext bytes))
   fits_by p l answer.InputEnd hands = ap (λ b. is_input (coming l.machine) && not b) (left_some l.place (G.inputs p))
       ∙ ap (λ b. b && not (is_some (slice_get (G.inputs p) l.place))) (tested l.machine answer.InputEnd)
@@ -193,15 +149,15 @@ module _ (images : List Image) (inputs : List (List (List ℕ))) where
   next_is None a is = cc
   next_is (Some bytes) a is = λ taken same. let one : bytes ≡ taken = cc in ap (λ (xs : List ℕ). Some xs) one
 
-  told_hands : (w : World Guest) (p : ℕ) (b : Act) (a : Answer) → told G w p b ≡ Some a → Hands a (slice_get (G.inputs p) (w.procs p).place)
-  told_hands w p act.Plain a is = λ bytes same. absurd cc
-  told_hands w p (act.Clock v) a is = λ bytes same. absurd cc
-  told_hands w p (act.Random v) a is = λ bytes same. absurd cc
-  told_hands w p act.InputNone a is = λ bytes same. absurd cc
-  told_hands w p act.InputNext a is = next_is (slice_get (G.inputs p) (w.procs p).place) a is
-  told_hands w p act.InputEnd a is = λ bytes same. absurd cc
-  told_hands w p act.ReceiveNone a is = λ bytes same. absurd cc
-  told_hands w p (act.ReceiveFrom s) a is = from (s == p) (slice_get ((w.procs s).sent p) ((w.procs p).got s)) is
+  answer_hands : (w : World Guest) (p : ℕ) (b : Act) (a : Answer) → answer_for G w p b ≡ Some a → Hands a (slice_get (G.inputs p) (w.procs p).place)
+  answer_hands w p act.Plain a is = λ bytes same. absurd cc
+  answer_hands w p (act.Clock v) a is = λ bytes same. absurd cc
+  answer_hands w p (act.Random v) a is = λ bytes same. absurd cc
+  answer_hands w p act.InputNone a is = λ bytes same. absurd cc
+  answer_hands w p act.InputNext a is = next_is (slice_get (G.inputs p) (w.procs p).place) a is
+  answer_hands w p act.InputEnd a is = λ bytes same. absurd cc
+  answer_hands w p act.ReceiveNone a is = λ bytes same. absurd cc
+  answer_hands w p (act.ReceiveFrom s) a is = from (s == p) (slice_get ((w.procs s).sent p) ((w.procs p).received s)) is
     where
       from : (b : Bool) (o : Option (List ℕ)) → (if b then None else option_map (answer.ReceiveFrom s) o) ≡ Some a → Hands a (slice_get (G.inputs p) (w.procs p).place)
       from true o sent = cc
@@ -209,9 +165,9 @@ module _ (images : List Image) (inputs : List (List (List ℕ))) where
       from false (Some message) sent = λ bytes same. absurd cc
 
   -- the answer of an act, where it fits
-  pub fits_told : (w : World Guest) (p : ℕ) (b : Act) (a : Answer) (fit : Bool) → told G w p b ≡ Some a
+  pub fits_answer : (w : World Guest) (p : ℕ) (b : Act) (a : Answer) (fit : Bool) → answer_for G w p b ≡ Some a
       → fit ≡ (can_be (w.procs p).machine a && ends_well a (slice_get (G.inputs p) (w.procs p).place)) → answer_to G w p b ≡ (if fit then Some a else None)
-  fits_told w p b a fit is tests = rw is (ap (λ (c : Bool). if c then Some a else None) (fits_by p (w.procs p) a (told_hands w p b a is) ∙ sym tests))
+  fits_answer w p b a fit is tests = rw is (ap (λ (c : Bool). if c then Some a else None) (fits_by p (w.procs p) a (answer_hands w p b a is) ∙ sym tests))
 
 -- the records of a process are the items of its vector
 pub items_are : (vectors : List (Vec (List ℕ) Global)) (p : ℕ) → unwrap_or (slice_get (lists_of vectors) p) [] ≡ items_of (slice_get vectors p)
@@ -222,20 +178,20 @@ items_are vectors p = ap (λ o. unwrap_or o []) (slice_get-map (λ v. v.items) v
     there (Some v) = refl
 
 -- the same over the code's processes and inputs
-module _ (images : List Image) (inputs : List (Vec (List ℕ) Global)) (processes : List Process) (seen : List Visible) (p : ℕ) (b : Act) where
+module _ (images : List Image) (inputs : List (Vec (List ℕ) Global)) (processes : List Process) (visibles : List Visible) (p : ℕ) (b : Act) where
   abbrev G' : Guests Guest
   G' = guests_of images (lists_of inputs)
 
   abbrev w' : World Guest
-  w' = record { procs = procs_of processes; seen = seen }
+  w' = record { procs = procs_of processes; visibles = visibles }
 
-  pub untold : told G' w' p b ≡ None → None ≡ answer_to G' w' p b
-  untold is = rw is refl
+  pub no_answer : answer_for G' w' p b ≡ None → None ≡ answer_to G' w' p b
+  no_answer is = rw is refl
 
-  pub told_fits : (a : Answer) (process : Process) (next : Option (List ℕ)) (fit : Bool) → told G' w' p b ≡ Some a → slice_get processes p ≡ Some process
+  pub answer_fits : (a : Answer) (process : Process) (next : Option (List ℕ)) (fit : Bool) → answer_for G' w' p b ≡ Some a → slice_get processes p ≡ Some process
       → next ≡ slice_get (items_of (slice_get inputs p)) process.place → fit ≡ (can_be process.guest a && ends_well a next)
       → (if fit then Some a else None) ≡ answer_to G' w' p b
-  told_fits a process next fit is there next_is tests = sym (fits_told images (lists_of inputs) w' p b a fit is
+  answer_fits a process next fit is there next_is tests = sym (fits_answer images (lists_of inputs) w' p b a fit is
       (tests ∙ ap (λ o. can_be process.guest a && ends_well a o) (next_is ∙ ap (λ xs. slice_get xs process.place) (sym (items_are inputs p)))
       ∙ ap (λ (l : Local Guest). can_be l.machine a && ends_well a (slice_get (G'.inputs p) l.place)) (sym here)))
     where

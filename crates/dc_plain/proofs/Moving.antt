@@ -6,23 +6,24 @@ use Rattle.std.proofs.lemmas.Option.{slice_get_within}
 use Rattle.std.specs.Vec.{with_items}
 use Rattle.std.specs.declared.alloc.Global.{Global}
 use Rattle.dc_elf.specs.Images.{Image}
-use Rattle.dc_plain.specs.Answers.{effect_of}
-use Rattle.dc_plain.specs.declared.visible.Body.{Body}
-use Rattle.dc_plain.specs.declared.effect.Effect.TheVariants.{Nothing, Shows, Sends}
-use Rattle.dc_plain.specs.Guest.{Guest, after_answer, coming, guests_of}
+use Rattle.dc_guest.specs.Answers.{effect_of}
+use Rattle.dc_model.specs.declared.visible.Body.{Body}
+use Rattle.dc_guest.specs.declared.effect.Effect.TheVariants.{Nothing, Shows, Sends}
+use Rattle.dc_guest.specs.Guest.{Guest, after_answer, coming, guests_of}
 use Rattle.dc_plain.specs.Playing.{items_of}
 use Rattle.dc_plain.proofs.Lists.{get_set_same, get_set_other}
-use Rattle.dc_plain.specs.World.{Answer, Event, Local, moved, posted, shows, took_from, took_input}
-use Rattle.dc_plain.specs.World.Event.{AtEnd, AtInternal, AtClock, AtRandom, AtInput, AtReceive, AtVisible, AtSend}
+use Rattle.dc_model.specs.Guests.{Answer, Event}
+use Rattle.dc_model.specs.Process.{Local, moved, posted, shows, took_from, took_input}
+use Rattle.dc_model.specs.Guests.Event.{AtEnd, AtInternal, AtClock, AtRandom, AtInput, AtReceive, AtVisible, AtSend}
 
 -- counts that were written back into their vector
-pub counted : (got : Vec ℕ Global) (lent new : List ℕ) (a : Answer) → lent ≡ got.items → length new ≡ length lent
+pub counted : (received : Vec ℕ Global) (lent new : List ℕ) (a : Answer) → lent ≡ received.items → length new ≡ length lent
     → ((s : ℕ) → slice_index new s ≡ slice_index lent s + took_from a s)
-    → (s : ℕ) → slice_index (with_items got new).items s ≡ slice_index got.items s + took_from a s
-counted got lent new a lent_is long more s = ap (λ xs. slice_index xs s) (take_at new (drop (length new) got.items) got.len (long ∙ ap length lent_is ∙ sym got.ok.0))
+    → (s : ℕ) → slice_index (with_items received new).items s ≡ slice_index received.items s + took_from a s
+counted received lent new a lent_is long more s = ap (λ xs. slice_index xs s) (take_at new (drop (length new) received.items) received.len (long ∙ ap length lent_is ∙ sym received.ok.0))
     ∙ more s ∙ ap (λ xs. slice_index xs s + took_from a s) lent_is
 
--- what an event does of which nothing is seen
+-- what an event does of which nothing is visibles
 pub unseen : (e : Event) → effect_of e ≡ Nothing → (shows e ≡ 0) × ((q : ℕ) → posted e q ≡ [])
 unseen AtEnd is = (refl, λ q. refl)
 unseen AtInternal is = (refl, λ q. refl)
@@ -33,16 +34,16 @@ unseen AtReceive is = (refl, λ q. refl)
 unseen (AtVisible body) is = absurd cc
 unseen (AtSend to message) is = absurd cc
 
--- of which a record is seen
-pub visible : (e : Event) (body : Body) → effect_of e ≡ Shows body → (shows e ≡ 1) × ((q : ℕ) → posted e q ≡ [])
-visible AtEnd shown is = absurd cc
-visible AtInternal shown is = absurd cc
-visible AtClock shown is = absurd cc
-visible AtRandom shown is = absurd cc
-visible AtInput shown is = absurd cc
-visible AtReceive shown is = absurd cc
-visible (AtVisible body) shown is = (refl, λ q. refl)
-visible (AtSend to message) shown is = absurd cc
+-- of which a record is visibles
+pub showing : (e : Event) (body : Body) → effect_of e ≡ Shows body → (shows e ≡ 1) × ((q : ℕ) → posted e q ≡ [])
+showing AtEnd shown is = absurd cc
+showing AtInternal shown is = absurd cc
+showing AtClock shown is = absurd cc
+showing AtRandom shown is = absurd cc
+showing AtInput shown is = absurd cc
+showing AtReceive shown is = absurd cc
+showing (AtVisible body) shown is = (refl, λ q. refl)
+showing (AtSend to message) shown is = absurd cc
 
 -- and of which a message is
 pub sending : (e : Event) (to : ℕ) (message : List ℕ) → effect_of e ≡ Sends to message → e ≡ AtSend to message
@@ -65,22 +66,22 @@ module _ (sent : List (Vec (List ℕ) Global)) (to : ℕ) (old new : Vec (List �
       (λ (ne : to ≢ q). rw (get_set_other sent to q new ne, ne_eqb to q ne) (sym (append-nil (items_of (slice_get sent q)))))
       (cases_eq to q)
 
--- a process whose guest, place and counts moved has moved, by what is seen of the event
-module _ (images : List Image) (inputs : List (List (List ℕ))) (l : Local Guest) (a : Answer) (guest : Guest) (place : ℕ) (got : ℕ → ℕ)
-    (guest_is : guest ≡ after_answer l.machine a) (place_is : place ≡ l.place + took_input a) (got_is : (s : ℕ) → got s ≡ l.got s + took_from a s) where
-  has_moved : (sent : ℕ → List (List ℕ)) (said : ℕ) → ((q : ℕ) → sent q ≡ l.sent q ++ posted (coming l.machine) q) → said ≡ l.said + shows (coming l.machine)
-      → record { machine = guest; place = place; got = got; sent = sent; said = said } ≡ moved (guests_of images inputs) l a
-  has_moved sent said sent_is said_is = λ i. record { machine = guest_is i; place = place_is i; got = λ s. got_is s i; sent = λ q. sent_is q i; said = said_is i }
+-- a process whose guest, place and counts moved has moved, by what is visibles of the event
+module _ (images : List Image) (inputs : List (List (List ℕ))) (l : Local Guest) (a : Answer) (guest : Guest) (place : ℕ) (received : ℕ → ℕ)
+    (guest_is : guest ≡ after_answer l.machine a) (place_is : place ≡ l.place + took_input a) (got_is : (s : ℕ) → received s ≡ l.received s + took_from a s) where
+  has_moved : (sent : ℕ → List (List ℕ)) (visible : ℕ) → ((q : ℕ) → sent q ≡ l.sent q ++ posted (coming l.machine) q) → visible ≡ l.visible + shows (coming l.machine)
+      → record { machine = guest; place = place; received = received; sent = sent; visible = visible } ≡ moved (guests_of images inputs) l a
+  has_moved sent visible sent_is visible_is = λ i. record { machine = guest_is i; place = place_is i; received = λ s. got_is s i; sent = λ q. sent_is q i; visible = visible_is i }
 
-  pub moved_unseen : Nothing ≡ effect_of (coming l.machine) → record { machine = guest; place = place; got = got; sent = l.sent; said = l.said } ≡ moved (guests_of images inputs) l a
-  moved_unseen is = let facts = unseen (coming l.machine) (sym is) in has_moved l.sent l.said
+  pub moved_unseen : Nothing ≡ effect_of (coming l.machine) → record { machine = guest; place = place; received = received; sent = l.sent; visible = l.visible } ≡ moved (guests_of images inputs) l a
+  moved_unseen is = let facts = unseen (coming l.machine) (sym is) in has_moved l.sent l.visible
       (λ q. sym (append-nil (l.sent q)) ∙ ap (λ more. l.sent q ++ more) (sym (facts.1 q))) (rw facts.0 (omega arith))
 
-  pub moved_showing : (body : Body) → Shows body ≡ effect_of (coming l.machine) → record { machine = guest; place = place; got = got; sent = l.sent; said = l.said + 1 } ≡ moved (guests_of images inputs) l a
-  moved_showing body is = let facts = visible (coming l.machine) body (sym is) in has_moved l.sent (l.said + 1)
+  pub moved_showing : (body : Body) → Shows body ≡ effect_of (coming l.machine) → record { machine = guest; place = place; received = received; sent = l.sent; visible = l.visible + 1 } ≡ moved (guests_of images inputs) l a
+  moved_showing body is = let facts = showing (coming l.machine) body (sym is) in has_moved l.sent (l.visible + 1)
       (λ q. sym (append-nil (l.sent q)) ∙ ap (λ more. l.sent q ++ more) (sym (facts.1 q))) (rw facts.0 refl)
 
   pub moved_sending : (to : ℕ) (message : List ℕ) (sent : ℕ → List (List ℕ)) → Sends to message ≡ effect_of (coming l.machine)
-      → ((q : ℕ) → sent q ≡ l.sent q ++ posted (AtSend to message) q) → record { machine = guest; place = place; got = got; sent = sent; said = l.said } ≡ moved (guests_of images inputs) l a
-  moved_sending to message sent is more = let at = sending (coming l.machine) to message (sym is) in has_moved sent l.said
+      → ((q : ℕ) → sent q ≡ l.sent q ++ posted (AtSend to message) q) → record { machine = guest; place = place; received = received; sent = sent; visible = l.visible } ≡ moved (guests_of images inputs) l a
+  moved_sending to message sent is more = let at = sending (coming l.machine) to message (sym is) in has_moved sent l.visible
       (λ q. more q ∙ ap (λ e. l.sent q ++ posted e q) (sym at)) (rw at (omega arith))

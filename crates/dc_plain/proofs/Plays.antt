@@ -4,23 +4,24 @@ use Rattle.std.proofs.lemmas.Bool.{cases_eq}
 use Rattle.std.proofs.lemmas.List.{length-set}
 use Rattle.std.proofs.lemmas.Option.{slice_get_within}
 use Rattle.dc_elf.specs.Images.{Image}
-use Rattle.dc_plain.specs.Guest.{Guest, coming, guests_of}
-use Rattle.dc_plain.specs.Plain.{happened, put}
+use Rattle.dc_guest.specs.Guest.{Guest, coming, guests_of}
+use Rattle.dc_model.specs.World.{happened, put}
 use Rattle.dc_plain.specs.Playing.{body_of, local_at, local_of, procs_of, world_at}
-use Rattle.dc_plain.specs.World.{Answer, Event, Guests, Local, moved, record_of}
-use Rattle.dc_plain.specs.World.Event.{AtEnd, AtInternal, AtClock, AtRandom, AtInput, AtReceive, AtVisible, AtSend}
+use Rattle.dc_model.specs.Guests.{Answer, Event, Guests}
+use Rattle.dc_model.specs.Process.{Local, moved, visible_of}
+use Rattle.dc_model.specs.Guests.Event.{AtEnd, AtInternal, AtClock, AtRandom, AtInput, AtReceive, AtVisible, AtSend}
 use Rattle.dc_plain.specs.declared.process.Process.{Process}
-use Rattle.dc_plain.specs.declared.visible.Body.{Body}
-use Rattle.dc_plain.specs.declared.visible.Visible.{Visible}
+use Rattle.dc_model.specs.declared.visible.Body.{Body}
+use Rattle.dc_model.specs.declared.visible.Visible.{Visible}
 use Rattle.dc_plain.proofs.Lists.{get_set_same, get_set_other}
-use Rattle.dc_plain.proofs.Own.{put_self, put_other}
+use Rattle.dc_model.proofs.Own.{put_self, put_other}
 
 -- the record of what an event shows
 abbrev pub recorded : ℕ → ℕ → Option Body → List Visible
 recorded p k None = []
 recorded p k (Some body) = record { p = p; k = k; body = body } ∷ []
 
-recorded_is : (p k : ℕ) (e : Event) → recorded p k (body_of e) ≡ record_of p k e
+recorded_is : (p k : ℕ) (e : Event) → recorded p k (body_of e) ≡ visible_of p k e
 recorded_is p k AtEnd = refl
 recorded_is p k AtInternal = refl
 recorded_is p k AtClock = refl
@@ -54,10 +55,10 @@ module _ (processes : List Process) (p : ℕ) (old new : Process) (there : slice
     new_is : local_of new ≡ moved G (procs_of processes p) a
     new_is = moves ∙ ap (λ l. moved G l a) (same ∙ own)
 
-    pub plays : (seen seen' : List Visible) (body : Option Body) → body ≡ body_of (coming ready.guest) → seen' ≡ seen ++ recorded p ready.said body
-        → world_at (slice_set processes p new) seen' ≡ happened G (world_at processes seen) p a
-    plays seen seen' body body_is seen_is = λ i. record {
+    pub plays : (visibles visibles' : List Visible) (body : Option Body) → body ≡ body_of (coming ready.guest) → visibles' ≡ visibles ++ recorded p ready.visible body
+        → world_at (slice_set processes p new) visibles' ≡ happened G (world_at processes visibles) p a
+    plays visibles visibles' body body_is visibles_are = λ i. record {
       procs = λ q. (put_at q ∙ ap (λ l. put p l (procs_of processes) q) new_is) i;
-      seen = (seen_is ∙ ap (λ xs. seen ++ xs) (ap (recorded p ready.said) body_is ∙ recorded_is p ready.said (coming ready.guest)
-          ∙ ap (λ (l : Local Guest). record_of p l.said (coming l.machine)) (same ∙ own))) i;
+      visibles = (visibles_are ∙ ap (λ xs. visibles ++ xs) (ap (recorded p ready.visible) body_is ∙ recorded_is p ready.visible (coming ready.guest)
+          ∙ ap (λ (l : Local Guest). visible_of p l.visible (coming l.machine)) (same ∙ own))) i;
     }

@@ -4,16 +4,17 @@ use Rattle.std.specs.declared.alloc.Global.{Global}
 use Rattle.dc_elf.specs.Images.{Image}
 use Rattle.dc_elf.specs.declared.image.Image as loaded
 use Rattle.dc_events.specs.Kinds.{kind_of}
-use Rattle.dc_plain.specs.Answers.{is_of}
-use Rattle.dc_plain.specs.Guest.{Guest, coming, next_of, started}
-use Rattle.dc_plain.specs.Plain.{World, told}
-use Rattle.dc_plain.specs.World.{Answer, Event, Guests, Local, fits}
-use Rattle.dc_plain.specs.World.Answer.{InputEnd, InputNext, ReceiveFrom}
-use Rattle.dc_plain.specs.World.Event.{AtSend, AtVisible}
-use Rattle.dc_plain.specs.declared.act.Act.{Act}
+use Rattle.dc_guest.specs.Answers.{may_answer}
+use Rattle.dc_guest.specs.Guest.{Guest, coming, next_of, started}
+use Rattle.dc_model.specs.World.{World, answer_for}
+use Rattle.dc_model.specs.Guests.{Answer, Event, Guests}
+use Rattle.dc_model.specs.Process.{Local, fits}
+use Rattle.dc_model.specs.Guests.Answer.{InputEnd, InputNext, ReceiveFrom}
+use Rattle.dc_model.specs.Guests.Event.{AtSend, AtVisible}
+use Rattle.dc_model.specs.declared.act.Act.{Act}
 use Rattle.dc_plain.specs.declared.process.Process.{Process}
-use Rattle.dc_plain.specs.declared.visible.Body.{Body}
-use Rattle.dc_plain.specs.declared.visible.Visible.{Visible}
+use Rattle.dc_model.specs.declared.visible.Body.{Body}
+use Rattle.dc_model.specs.declared.visible.Visible.{Visible}
 
 -- the items of a vector, if it is there
 abbrev pub items_of : {A : Type 0} → Option (Vec A Global) → List A
@@ -25,9 +26,9 @@ abbrev pub local_of : Process → Local Guest
 local_of l = record {
   machine = l.guest;
   place = l.place;
-  got = λ s. slice_index l.got.items s;
+  received = λ s. slice_index l.received.items s;
   sent = λ q. items_of (slice_get l.sent.items q);
-  said = l.said;
+  visible = l.visible;
 }
 
 -- an image by its fields
@@ -40,11 +41,13 @@ CanStart image = (16 ≤ length image.memory.items) × (length image.memory.item
 
 -- process p of n before its first act, by its image
 abbrev pub started_at : ℕ → ℕ → Option Image → Local Guest
-started_at p n image = record { machine = started p n image; place = 0; got = λ s. 0; sent = λ q. []; said = 0 }
+started_at p n image = record { machine = started p n image; place = 0; received = λ s. 0; sent = λ q. []; visible = 0 }
 
+-- the same, by an image that is there
 abbrev pub begun_at : ℕ → ℕ → Image → Local Guest
 begun_at p n image = started_at p n (Some image)
 
+-- a process of a list, or none past its end
 abbrev pub local_at : ℕ → ℕ → Option Process → Local Guest
 local_at n p None = started_at p n None
 local_at n p (Some l) = local_of l
@@ -66,36 +69,39 @@ abbrev pub if_fits : {Mc : Type 0} → Guests Mc → World Mc → ℕ → Option
 if_fits G w p None = None
 if_fits G w p (Some a) = if fits G p (w.procs p) a then Some a else None
 
+-- the answer that an act gives, where it fits
 abbrev pub answer_to : {Mc : Type 0} → Guests Mc → World Mc → ℕ → Act → Option Answer
-answer_to G w p act = if_fits G w p (told G w p act)
+answer_to G w p act = if_fits G w p (answer_for G w p act)
 
--- no record is left, where an answer says so
+-- no input is left, where an answer says so
 abbrev pub ends_well : Answer → Option (List ℕ) → Bool
 ends_well InputEnd next = not (is_some next)
 ends_well _ next = true
 
 -- whether its next event may be answered so, apart from what the answer hands over
 abbrev pub can_be : Guest → Answer → Bool
-can_be g a = not g.ended && is_of a (kind_of (next_of g))
+can_be g a = not g.ended && may_answer a (kind_of (next_of g))
 
 -- a message from its sender can be counted
 abbrev pub CanCount : List ℕ → Answer → Type 0
-CanCount got (ReceiveFrom s message) = (s < length got) × (slice_index got s + 1 < 2 ^ 64)
-CanCount got _ = Unit {0}
+CanCount received (ReceiveFrom s message) = (s < length received) × (slice_index received s + 1 < 2 ^ 64)
+CanCount received _ = Unit {0}
 
--- a record can be counted
+-- an input can be counted
 abbrev pub CanTake : ℕ → Answer → Type 0
 CanTake place (InputNext bytes) = place + 1 < 2 ^ 64
 CanTake place _ = Unit {0}
 
+-- an input or a message that it hands over can be counted
 abbrev pub IsWithin : Process → Answer → Type 0
-IsWithin l a = CanTake l.place a × CanCount l.got.items a
+IsWithin l a = CanTake l.place a × CanCount l.received.items a
 
 -- there is room for a message that is sent next
 abbrev pub RoomAt : Process → Event → Type 0
 RoomAt l (AtSend q message) = IfSome (slice_get l.sent.items q) (λ v. length v.items < vec_capacity v)
 RoomAt l _ = Unit {0}
 
+-- there is room for what it sends next
 abbrev pub HasRoom : Process → Type 0
 HasRoom l = RoomAt l (coming l.guest)
 
@@ -106,32 +112,35 @@ body_of _ = None
 
 -- the world of a list of processes
 abbrev pub world_at : List Process → List Visible → World Guest
-world_at processes seen = record { procs = procs_of processes; seen = seen }
+world_at processes visibles = record { procs = procs_of processes; visibles = visibles }
 
--- what a process has come to, as lists: its guest, its place in its input, how many messages it got from each, all that it sent to each, and how many records it showed
+-- what a process has come to, as lists: its guest, its place in its inputs, how many messages it received from each, all that it sent to each, and how many visible events it had
 pub record Standing : Type 0 where
   pub guest : Guest
   pub place : ℕ
-  pub got : List ℕ
+  pub received : List ℕ
   pub sent : List (List (List ℕ))
-  pub said : ℕ
+  pub visible : ℕ
 
+-- what a process of the code has come to
 abbrev pub standing_of : Process → Standing
-standing_of l = record { guest = l.guest; place = l.place; got = l.got.items; sent = lists_of l.sent.items; said = l.said }
+standing_of l = record { guest = l.guest; place = l.place; received = l.received.items; sent = lists_of l.sent.items; visible = l.visible }
 
--- guests that are played: what each has come to, the records of their inputs, and the visible records
+-- guests that are played: what each has come to, their inputs, and the visible records
 pub record Played : Type 0 where
   pub processes : List Standing
   pub inputs : List (List (List ℕ))
-  pub seen : List Visible
+  pub visibles : List Visible
 
+-- guests of the code that are played
 abbrev pub played : List Process → List (Vec (List ℕ) Global) → List Visible → Played
-played processes inputs seen = record { processes = map standing_of processes; inputs = lists_of inputs; seen = seen }
+played processes inputs visibles = record { processes = map standing_of processes; inputs = lists_of inputs; visibles = visibles }
 
 -- the world that they have come to
 abbrev pub local_in : ℕ → ℕ → Option Standing → Local Guest
 local_in n p None = started_at p n None
-local_in n p (Some s) = record { machine = s.guest; place = s.place; got = λ q. slice_index s.got q; sent = λ q. unwrap_or (slice_get s.sent q) []; said = s.said }
+local_in n p (Some s) = record { machine = s.guest; place = s.place; received = λ q. slice_index s.received q; sent = λ q. unwrap_or (slice_get s.sent q) []; visible = s.visible }
 
+-- the world that they have come to
 abbrev pub world_in : Played → World Guest
-world_in w = record { procs = λ p. local_in (length w.processes) p (slice_get w.processes p); seen = w.seen }
+world_in w = record { procs = λ p. local_in (length w.processes) p (slice_get w.processes p); visibles = w.visibles }

@@ -1,4 +1,4 @@
-ghost use Rattle.std.specs.Prelude.{◌≡◌, ◌<◌, ◌*◌, ◌%◌, ◌^◌, IfOk, length};
+ghost use Rattle.std.specs.Prelude.{◌≡◌, ◌<◌, ◌*◌, ◌%◌, ◌^◌, Some, IfOk, length};
 ghost use Rattle.dc_words.specs.Words.{bytes_in};
 
 use dc_rv32::Bus;
@@ -16,9 +16,19 @@ pub struct Memory {
 impl Bus for Memory {
     type Stop = Infallible;
 
-    ghost memory = { λ m. m.words.items };
+    ghost use Rattle.std.specs.Prelude.{refl};
 
-    ghost stops = { λ m. 0 };
+    ghost told = { λ m. Some m.words.items };
+
+    ghost count = { λ m. length m.words.items };
+
+    ghost live = { λ m. Unit {0} };
+
+    ghost made = { λ m i n. Unit {0} };
+
+    ghost refused = { λ m i n why. ⊥ };
+
+    ghost told_long = { λ m live. refl };
 
     fn size(&self) -> u32 {
         4 * self.words.len() as u32

@@ -1,19 +1,19 @@
 ghost use Rattle.std.specs.Prelude.{◌≡◌, ◌↔◌, ◌<◌, ◌&&◌, ◌+◌, ◌-◌, ◌^◌, ℕ, List, Err, IfSome, false, None, Some, All, IfOk, OnErr, OnOk, length, map, slice_get};
 ghost use Rattle.std.specs.Option.{option_map};
 ghost use Rattle.dc_elf.specs.Images.{Image as Images};
-ghost use Rattle.dc_plain.specs.Answers.{answer_of};
-ghost use Rattle.dc_plain.specs.Guest.{guests_of};
-ghost use Rattle.dc_plain.specs.Plain.{apply, happened, opened, told};
+ghost use Rattle.dc_guest.specs.Answers.{answer_of};
+ghost use Rattle.dc_guest.specs.Guest.{guests_of};
+ghost use Rattle.dc_model.specs.World.{apply, happened, opened, answer_for};
 ghost use Rattle.dc_plain.specs.Playing.{AreAmong, CanStart, IsWithin, answer_to, can_be, ends_well, items_of, lists_of, procs_of, seen_image, world_at, world_in};
-ghost use Rattle.dc_plain.specs.World.{begun};
+ghost use Rattle.dc_model.specs.Process.{begun};
 ghost use Rattle.dc_plain.specs.declared.process.Process.{Process as Processes};
-ghost use Rattle.dc_plain.specs.declared.visible.Visible.{Visible as Records};
+ghost use Rattle.dc_model.specs.declared.visible.Visible.{Visible as Records};
 
-use crate::answer::Answer;
 use crate::process::Process;
-use crate::{Act, Visible};
 use dc_elf::Image;
+use dc_guest::Answer;
 use dc_links::Message;
+use dc_model::{Act, Visible};
 use std::alloc::{AllocError, Global};
 use std::marker::Model;
 
@@ -26,8 +26,8 @@ pub enum ApplyFault {
     Memory,
 }
 
-/// The record of its input that a process takes next, if there is one.
-fn next_record(inputs: &[Vec<Message>], p: usize, place: usize) -> Option<Message>
+/// The input that a process takes next, if there is one.
+fn next_input(inputs: &[Vec<Message>], p: usize, place: usize) -> Option<Message>
     ensures exact { result ≡ slice_get (items_of (slice_get inputs.now p)) place }
     ensures few { IfSome result (λ message. place + 1 < 2 ^ 64) }
 {
@@ -38,21 +38,21 @@ fn next_record(inputs: &[Vec<Message>], p: usize, place: usize) -> Option<Messag
 fn next_message(processes: &[Process], from: usize, to: usize) -> Option<Message>
     requires receiver { to < length processes.now }
     requires each { AreAmong (length processes.now) processes.now }
-    ensures exact { result ≡ slice_get ((procs_of processes.now from).sent to) ((procs_of processes.now to).got from) }
+    ensures exact { result ≡ slice_get ((procs_of processes.now from).sent to) ((procs_of processes.now to).received from) }
     ensures sender { IfSome result (λ message. from < length processes.now) }
-    ensures few { IfSome result (λ message. (procs_of processes.now to).got from + 1 < 2 ^ 64) }
+    ensures few { IfSome result (λ message. (procs_of processes.now to).received from + 1 < 2 ^ 64) }
 {
     let sent = processes.get(from)?.sent.get(to)?;
-    sent.get(processes[to].got[from]).copied()
+    sent.get(processes[to].received[from]).copied()
 }
 
-/// What an act of a process hands over.
-fn told(processes: &[Process], inputs: &[Vec<Message>], p: u32, act: &Act) -> Option<Answer>
+/// The answer that an act of a process gives, where it hands over what is there.
+fn answer_for(processes: &[Process], inputs: &[Vec<Message>], p: u32, act: &Act) -> Option<Answer>
     requires process { p < length processes.now }
     requires each { AreAmong (length processes.now) processes.now }
     ensures within { (l : Processes) → slice_get processes.now p ≡ Some l → IfSome result (λ a. IsWithin l (answer_of a)) }
-    ensures exact { (images : List Images) (seen : List Records) →
-        option_map answer_of result ≡ told (guests_of images (lists_of inputs.now)) (world_at processes.now seen) p act.now }
+    ensures exact { (images : List Images) (visibles : List Records) →
+        option_map answer_of result ≡ answer_for (guests_of images (lists_of inputs.now)) (world_at processes.now visibles) p act.now }
 {
     let own = p as usize;
     match *act {
@@ -61,7 +61,7 @@ fn told(processes: &[Process], inputs: &[Vec<Message>], p: u32, act: &Act) -> Op
         Act::Random(word) => Some(Answer::Random(word)),
         Act::InputNone => Some(Answer::InputNone),
         Act::InputNext => {
-            let message = next_record(inputs, own, processes[own].place)?;
+            let message = next_input(inputs, own, processes[own].place)?;
             Some(Answer::InputNext(message))
         }
         Act::InputEnd => Some(Answer::InputEnd),
@@ -74,7 +74,7 @@ fn told(processes: &[Process], inputs: &[Vec<Message>], p: u32, act: &Act) -> Op
     }
 }
 
-/// Whether no record of the input is left, where an answer says so.
+/// Whether no input is left, where an answer says so.
 fn ends_well(answer: &Answer, next: Option<Message>) -> bool
     ensures { result ≡ ends_well (answer_of answer.now) next }
 {
@@ -84,7 +84,7 @@ fn ends_well(answer: &Answer, next: Option<Message>) -> bool
     }
 }
 
-/// Whether what an act tells a process fits its next event, where this is the next record of its input.
+/// Whether what an act tells a process fits its next event, where this is its next input.
 fn fits(process: &Process, next: Option<Message>, answer: &Answer) -> bool
     ensures { result ≡ can_be process.now.guest (answer_of answer.now) && ends_well (answer_of answer.now) next }
 {
@@ -97,12 +97,12 @@ fn fitting(processes: &[Process], inputs: &[Vec<Message>], p: u32, act: &Act) ->
     requires each { AreAmong (length processes.now) processes.now }
     ensures within { (l : Processes) → slice_get processes.now p ≡ Some l → IfSome result (λ a. IsWithin l (answer_of a)) }
     ensures live { (l : Processes) → slice_get processes.now p ≡ Some l → IfSome result (λ a. l.guest.ended ≡ false) }
-    ensures exact { (images : List Images) (seen : List Records) →
-        option_map answer_of result ≡ answer_to (guests_of images (lists_of inputs.now)) (world_at processes.now seen) p act.now }
+    ensures exact { (images : List Images) (visibles : List Records) →
+        option_map answer_of result ≡ answer_to (guests_of images (lists_of inputs.now)) (world_at processes.now visibles) p act.now }
 {
-    let answer = told(processes, inputs, p, act)?;
+    let answer = answer_for(processes, inputs, p, act)?;
     let process = &processes[p as usize];
-    let next = next_record(inputs, p as usize, process.place);
+    let next = next_input(inputs, p as usize, process.place);
     if fits(process, next, &answer) {
         Some(answer)
     } else {
@@ -113,29 +113,29 @@ fn fitting(processes: &[Process], inputs: &[Vec<Message>], p: u32, act: &Act) ->
 /// Takes the next event of a process with its answer. Where there is no memory for what it shows or sends nothing changes.
 fn play(
     processes: &mut [Process],
-    seen: &mut Vec<Visible>,
+    visibles: &mut Vec<Visible>,
     p: u32,
     answer: &Answer,
 ) -> Result<(), AllocError>
     requires process { p < length processes.old }
     requires within { (l : Processes) → slice_get processes.old p ≡ Some l → IsWithin l (answer_of answer.now) }
     requires live { (l : Processes) → slice_get processes.old p ≡ Some l → l.guest.ended ≡ false }
-    requires few { (procs_of processes.old p).said < 2 ^ 32 - 1 }
+    requires few { (procs_of processes.old p).visible < 2 ^ 32 - 1 }
     requires each { AreAmong (length processes.old) processes.old }
     ensures happened { OnOk result ((images : List Images) (inputs : List (List (List ℕ))) →
-        world_at processes.new seen.new.items
-        ≡ happened (guests_of images inputs) (world_at processes.old seen.old.items) p (answer_of answer.now)) }
-    ensures unchanged { OnErr result (world_at processes.new seen.new.items ≡ world_at processes.old seen.old.items) }
+        world_at processes.new visibles.new.items
+        ≡ happened (guests_of images inputs) (world_at processes.old visibles.old.items) p (answer_of answer.now)) }
+    ensures unchanged { OnErr result (world_at processes.new visibles.new.items ≡ world_at processes.old visibles.old.items) }
     ensures length { length processes.new ≡ length processes.old }
     ensures each { AreAmong (length processes.old) processes.new }
 {
-    seen.reserve(1)?;
+    visibles.reserve(1)?;
     let process = &mut processes[p as usize];
     process.reserve()?;
-    let k = process.said;
+    let k = process.visible;
     match process.turn(answer) {
         Some(body) => {
-            let _ = seen.push(Visible { p, k, body });
+            let _ = visibles.push(Visible { p, k, body });
             Ok(())
         }
         None => Ok(()),
@@ -146,27 +146,27 @@ fn play(
 fn apply_to(
     processes: &mut [Process],
     inputs: &[Vec<Message>],
-    seen: &mut Vec<Visible>,
+    visibles: &mut Vec<Visible>,
     p: u32,
     act: &Act,
 ) -> Result<(), ApplyFault>
     requires process { p < length processes.old }
-    requires few { (procs_of processes.old p).said < 2 ^ 32 - 1 }
+    requires few { (procs_of processes.old p).visible < 2 ^ 32 - 1 }
     requires each { AreAmong (length processes.old) processes.old }
     ensures applied { OnOk result ((images : List Images) →
-        apply (guests_of images (lists_of inputs.now)) (world_at processes.old seen.old.items) p act.now
-        ≡ Some (world_at processes.new seen.new.items)) }
+        apply (guests_of images (lists_of inputs.now)) (world_at processes.old visibles.old.items) p act.now
+        ≡ Some (world_at processes.new visibles.new.items)) }
     ensures illegal { (images : List Images) →
         (result ≡ Err ApplyFault.Illegal)
-        ↔ (apply (guests_of images (lists_of inputs.now)) (world_at processes.old seen.old.items) p act.now ≡ None) }
-    ensures unchanged { OnErr result (world_at processes.new seen.new.items ≡ world_at processes.old seen.old.items) }
+        ↔ (apply (guests_of images (lists_of inputs.now)) (world_at processes.old visibles.old.items) p act.now ≡ None) }
+    ensures unchanged { OnErr result (world_at processes.new visibles.new.items ≡ world_at processes.old visibles.old.items) }
     ensures length { length processes.new ≡ length processes.old }
     ensures each { AreAmong (length processes.old) processes.new }
 {
     let Some(answer) = fitting(processes, inputs, p, act) else {
         return Err(ApplyFault::Illegal);
     };
-    let Ok(()) = play(processes, seen, p, &answer) else {
+    let Ok(()) = play(processes, visibles, p, &answer) else {
         return Err(ApplyFault::Memory);
     };
     Ok(())
@@ -188,7 +188,7 @@ fn begin_each(alloc: Global, images: &[Image]) -> Result<Vec<Process>, AllocErro
     Ok(processes)
 }
 
-/// A copy of the records of each input.
+/// A copy of the inputs of each process.
 fn copied(alloc: Global, inputs: &[Vec<Message>]) -> Result<Vec<Vec<Message>>, AllocError>
     ensures { IfOk result (λ copies. lists_of copies.items ≡ lists_of inputs.now) }
 {
@@ -205,7 +205,7 @@ fn copied(alloc: Global, inputs: &[Vec<Message>]) -> Result<Vec<Vec<Message>>, A
 pub struct Plain {
     processes: Vec<Process>,
     inputs: Vec<Vec<Message>>,
-    seen: Vec<Visible>,
+    visibles: Vec<Visible>,
 }
 
 impl Model for Plain {
@@ -214,13 +214,13 @@ impl Model for Plain {
 
     ghost Value = { Played };
 
-    ghost view = { λ w. played w.processes.items w.inputs.items w.seen.items };
+    ghost view = { λ w. played w.processes.items w.inputs.items w.visibles.items };
 
     ghost invariant = { λ w. AreAmong (length w.processes.items) w.processes.items };
 }
 
 impl Plain {
-    /// The guests of these images before their first act, with these records as their inputs.
+    /// The guests of these images before their first act, with these inputs of each.
     pub fn open(
         alloc: Global,
         images: &[Image],
@@ -235,14 +235,14 @@ impl Plain {
         Ok(Plain {
             processes: begin_each(alloc, images)?,
             inputs: copied(alloc, inputs)?,
-            seen: Vec::new(alloc),
+            visibles: Vec::new(alloc),
         })
     }
 
     /// Lets process `p` take its next event with this act. A fault changes nothing.
     pub fn apply(&mut self, p: u32, act: &Act) -> Result<(), ApplyFault>
         requires process { p < length self.old.processes }
-        requires few { ((world_in self.old).procs p).said < 2 ^ 32 - 1 }
+        requires few { ((world_in self.old).procs p).visible < 2 ^ 32 - 1 }
         ensures applied { OnOk result ((images : List Images) →
             apply (guests_of images self.old.inputs) (world_in self.old) p act.now ≡ Some (world_in self.new)) }
         ensures illegal { (images : List Images) →
@@ -251,21 +251,34 @@ impl Plain {
         ensures count { length self.new.processes ≡ length self.old.processes }
         ensures inputs { self.new.inputs ≡ self.old.inputs }
     {
-        apply_to(&mut self.processes, &self.inputs, &mut self.seen, p, act)
+        apply_to(
+            &mut self.processes,
+            &self.inputs,
+            &mut self.visibles,
+            p,
+            act,
+        )
+    }
+
+    /// How many processes there are.
+    pub fn count(&self) -> usize
+        ensures { result ≡ length self.now.processes }
+    {
+        self.processes.len()
     }
 
     /// How many visible records process `p` has shown.
     pub fn visible_count(&self, p: u32) -> u32
         requires { p < length self.now.processes }
-        ensures { result ≡ ((world_in self.now).procs p).said }
+        ensures { result ≡ ((world_in self.now).procs p).visible }
     {
-        self.processes[p as usize].said
+        self.processes[p as usize].visible
     }
 
     /// The visible records so far, the first one first.
     pub fn visibles(&self) -> &[Visible]
-        ensures { result.now ≡ self.now.seen }
+        ensures { result.now ≡ self.now.visibles }
     {
-        &self.seen
+        &self.visibles
     }
 }

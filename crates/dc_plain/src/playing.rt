@@ -2,24 +2,23 @@
 
 ghost use Rattle.std.specs.Prelude.{◌≡◌, ◌≤◌, ◌<◌, ◌+◌, ◌-◌, ◌*◌, ◌^◌, ℕ, List, [], false, Some, length, slice_get, slice_index, IfOk, OnOk};
 ghost use Rattle.dc_elf.specs.Images.{Image as Images};
-ghost use Rattle.dc_plain.specs.Answers.{answer_of};
-ghost use Rattle.dc_plain.specs.Guest.{coming, guests_of};
+ghost use Rattle.dc_guest.specs.Answers.{answer_of};
+ghost use Rattle.dc_guest.specs.Guest.{coming, guests_of};
 ghost use Rattle.dc_plain.specs.Playing.{CanCount, CanStart, CanTake, HasRoom, IsWithin, begun_at, body_of, can_be, items_of, local_of, seen_image};
-ghost use Rattle.dc_plain.specs.World.{moved, took_from, took_input};
+ghost use Rattle.dc_model.specs.Process.{moved, took_from, took_input};
 
-use crate::Body;
-use crate::answer::Answer;
-use crate::effect::Effect;
-use crate::guest::Guest;
+use crate::hosted::HostedGuest;
 use crate::memory::words_in;
 use crate::process::Process;
 use dc_calls::Call;
 use dc_elf::Image;
 use dc_events::{Kind, Next};
+use dc_guest::{Answer, Effect};
 use dc_links::Message;
+use dc_model::Body;
 use std::alloc::{AllocError, Global};
 
-/// Counts a record that was taken.
+/// Counts an input that was taken.
 fn count_taken(place: &mut usize, answer: &Answer)
     requires { CanTake place.old (answer_of answer.now) }
     ensures { place.new ≡ place.old + took_input (answer_of answer.now) }
@@ -30,13 +29,13 @@ fn count_taken(place: &mut usize, answer: &Answer)
 }
 
 /// Counts a message that was received, by its sender.
-fn count_received(got: &mut [usize], answer: &Answer)
-    requires { CanCount got.old (answer_of answer.now) }
-    ensures counted { (s : ℕ) → slice_index got.new s ≡ slice_index got.old s + took_from (answer_of answer.now) s }
-    ensures each { length got.new ≡ length got.old }
+fn count_received(received: &mut [usize], answer: &Answer)
+    requires { CanCount received.old (answer_of answer.now) }
+    ensures counted { (s : ℕ) → slice_index received.new s ≡ slice_index received.old s + took_from (answer_of answer.now) s }
+    ensures each { length received.new ≡ length received.old }
 {
     if let Answer::ReceiveFrom(sender, _) = *answer {
-        got[sender as usize] += 1;
+        received[sender as usize] += 1;
     }
 }
 
@@ -61,11 +60,11 @@ impl Process {
     {
         let words = words_in(alloc, &image.memory)?;
         Ok(Process {
-            guest: Guest::new(p, count, words, image.entry),
+            guest: HostedGuest::new(p, count, words, image.entry),
             place: 0,
-            got: vec![in alloc; 0; count as usize]?,
+            received: vec![in alloc; 0; count as usize]?,
             sent: empty_lists(alloc, count)?,
-            said: 0,
+            visible: 0,
         })
     }
 
@@ -77,13 +76,13 @@ impl Process {
             Some(call) => Next::Call(call).kind(),
             None => Kind::Internal,
         };
-        !self.guest.has_ended() && answer.is_of(kind)
+        !self.guest.has_ended() && answer.may_answer(kind)
     }
 
     /// Makes room for the message that it sends next, if it sends one.
     pub fn reserve(&mut self) -> Result<(), AllocError>
         ensures same { local_of self.new ≡ local_of self.old }
-        ensures got { self.new.got ≡ self.old.got }
+        ensures received { self.new.received ≡ self.old.received }
         ensures room { OnOk result (HasRoom self.new) }
     {
         if let Some(Call::Send(to, _, _)) = self.guest.next_call() {
@@ -97,18 +96,18 @@ impl Process {
         requires live { self.old.guest.ended ≡ false }
         requires room { HasRoom self.old }
         requires within { IsWithin self.old (answer_of answer.now) }
-        requires said { self.old.said < 2 ^ 32 - 1 }
+        requires visible { self.old.visible < 2 ^ 32 - 1 }
         ensures moved { (images : List Images) (inputs : List (List (List ℕ))) → local_of self.new ≡ moved (guests_of images inputs) (local_of self.old) (answer_of answer.now) }
         ensures shown { result ≡ body_of (coming self.old.guest) }
         ensures count { self.new.guest.count ≡ self.old.guest.count }
     {
-        let (_, effect) = self.guest.turn(answer);
+        let effect = self.guest.turn(answer);
         count_taken(&mut self.place, answer);
-        count_received(&mut self.got, answer);
+        count_received(&mut self.received, answer);
         match effect {
             Effect::Nothing => None,
             Effect::Shows(body) => {
-                self.said += 1;
+                self.visible += 1;
                 Some(body)
             }
             Effect::Sends(to, message) => {

@@ -1,5 +1,5 @@
 -- How what a command was answered follows from what its work was.
-use Rattle.std.proofs.Common.{◌≡◌, ◌⊎◌, inl, inr, ℕ, List, Option, None, Some, IfSome, Err, String, ap, sym, subst}
+use Rattle.std.proofs.Common.{◌≡◌, ◌⊎◌, inl, inr, ℕ, List, Option, None, Some, IfSome, IsSome, Err, String, ap, sym, subst}
 use Rattle.std.specs.declared.alloc.Global.{Global}
 use Rattle.dc_run.specs.Assembling.{program_in}
 use Rattle.dc_run.specs.Command.{asked_of}
@@ -11,6 +11,7 @@ use Rattle.dc_run.specs.Settings.{is_free, was_opened}
 use Rattle.dc_run.specs.declared.verdict.Verdict.{Verdict}
 use Rattle.dc_run.specs.declared.verdict.Verdict.TheVariants.{LibraryFault, Usage, WantOfMemory}
 use Rattle.dc_run.specs.declared.verdict.Which.{Which}
+use Rattle.dc_run.specs.declared.verdict.Which.TheVariants.{Source}
 use Rattle.dc_run.proofs.Works.{exact_named, for_known, refused_work}
 
 pub run_exact : (known : Option Files) (words : List (String Global)) (plan : List ℕ) → asked_of words ≡ Some (ToRun plan) → (v refusal : Verdict)
@@ -27,6 +28,11 @@ pub run_asks : (known : Option Files) (words : List (String Global)) (plan : Lis
     → IfSome known (λ files. v ≡ LibraryFault which → AsksToRun files plan which) → IfSome known (λ files. v ≡ LibraryFault which → Asks files words which)
 run_asks None words plan asked v which asks = tt
 run_asks (Some files) words plan asked v which asks = λ is. rw asked (asks is)
+
+pub assembly_asks : (known : Option Files) (words : List (String Global)) (source : List ℕ) → asked_of words ≡ Some (ToAssemble source) → (v : Verdict) (which : Which)
+    → (v ≡ LibraryFault which → which ≡ Source) → IfSome known (λ files. v ≡ LibraryFault which → IsSome (files source)) → IfSome known (λ files. v ≡ LibraryFault which → Asks files words which)
+assembly_asks None words source asked v which named there = tt
+assembly_asks (Some files) words source asked v which named there = λ is. rw asked (named is, there is)
 
 -- words that ask for nothing, or no memory to read them
 pub unasked_opened : (known : Option Files) (words : List (String Global)) (v answered : Verdict) → answered ≡ v → (v ≡ Usage → asked_of words ≡ None)

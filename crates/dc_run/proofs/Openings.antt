@@ -1,9 +1,9 @@
 -- How a run's opening follows the told files.
-use Rattle.std.proofs.Common.{◌≡◌, ◌∙◌, ◌⊎◌, ◌↔◌, ℕ, true, false, ◌≤◌, List, [], ◌∷◌, String, string_bytes, map, slice_index_or, arith, length, Option, None, Some, IfSome, Result, Ok, Err, ap, refl, subst, sym}
+use Rattle.std.proofs.Common.{IsErrOf, IsSome, ◌≡◌, ◌∙◌, ◌⊎◌, ◌↔◌, ℕ, true, false, ◌≤◌, List, [], ◌∷◌, String, string_bytes, map, slice_index_or, arith, length, Option, None, Some, IfSome, Result, Ok, Err, ap, refl, subst, sym}
 use Rattle.std.specs.Result.{result_ok}
 use Rattle.std.specs.declared.alloc.Global.{Global}
 use Rattle.std.proofs.lemmas.List.FromFn.{length-map-range_with_len}
-use Rattle.dc_elf.specs.Files.{parts_of}
+use Rattle.dc_elf.specs.Files.{file_fault, parts_of}
 use Rattle.dc_elf.specs.Images.{Image, byte_of, image_of}
 use Rattle.dc_elf.specs.declared.faults.ElfFault.{ElfFault}
 use Rattle.dc_elf.specs.declared.faults.LoadFault.{LoadFault}
@@ -60,7 +60,7 @@ planned (Ok x) plan e = let same : x ≡ plan = cc in ap Ok same
 planned (Err fault) plan e = cc
 
 pub asked_by_plan : (files : Files) (text file : List ℕ) (plan : Plan) (w : Which) → plan_of text ≡ Ok plan → files (guest_name plan) ≡ Some file
-    → AsksAtGuest plan file w → AsksAtPlan files text w
+    → AsksAtGuest files plan file w → AsksAtPlan files text w
 asked_by_plan files text file plan ThePlan e f asks = absurd asks
 asked_by_plan files text file plan Source e f asks = absurd asks
 asked_by_plan files text file plan (Guest p) e f asks = absurd asks
@@ -71,3 +71,12 @@ asked_by_name files name text ThePlan e asks = absurd asks
 asked_by_name files name text Source e asks = absurd asks
 asked_by_name files name text (Guest p) e asks = rw e asks
 asked_by_name files name text Schedule e asks = rw e asks
+
+-- the schedule's file, with the plan and the guest's file
+pub asked_schedule : (files : Files) (plan : Plan) (file : List ℕ) (w : Which) → w ≡ Schedule → file_fault file plan.memory ≡ None → IsSome (files plan.schedule)
+    → AsksAtGuest files plan file w
+asked_schedule files plan file w is none there = subst (AsksAtGuest files plan file) (sym is) (none, there)
+
+-- a refusal in place of another value is the same refusal
+pub same_refusal : {A B : Type 0} (x y : Verdict) → IsErrOf {T = A} (Err x) y → IsErrOf {T = B} (Err x) y
+same_refusal x y is = let same : x ≡ y = cc in ap (λ (v : Verdict). Err v) same

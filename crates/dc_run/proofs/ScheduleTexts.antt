@@ -1,12 +1,13 @@
 -- Lines, fields and numbers of a schedule's text.
 use Rattle.std.proofs.Common.{◌≡◌, ◌∙◌, ◌+◌, ◌-◌, ◌^◌, ◌<◌, ◌≤◌, ◌&&◌, ℕ, suc, Bool, true, false, List, [], ◌∷◌, ◌++◌, length, Result, Ok, Err, ap, sym, subst, refl, arith, if◌then◌else◌, nat_lt, nat_le, ⊎_elim, add-one}
+use Rattle.std.proofs.Math.Bool.{and-false}
 use Rattle.std.proofs.lemmas.Bool.{leb-true, lt-ltb, le-leb, le-ltb, ltb-true, true≢false, cases_lt}
 use Rattle.std.proofs.lemmas.List.{append_assoc}
 use Rattle.dc_words.specs.Numbers.{is_number, number_of}
 use Rattle.dc_words.specs.declared.numbers.NumberFault.{NumberFault}
 use Rattle.dc_words.specs.declared.numbers.NumberFault.TheVariants.{NotNumber, Range}
-use Rattle.dc_plain.specs.declared.entry.Entry.{Entry}
-use Rattle.dc_plain.specs.declared.entry.Entry.TheVariants.{Turn}
+use Rattle.dc_model.specs.declared.entry.Entry.{Entry}
+use Rattle.dc_model.specs.declared.entry.Entry.TheVariants.{Turn}
 use Rattle.dc_words.specs.Texts.{fields_of, lines_of}
 use Rattle.dc_words.proofs.Splitting.{fields_some, lines_some}
 use Rattle.dc_run.specs.Schedules.{value, is_below, turn_of, entry_by, entry_of, schedule_from, prefixed, with_front, clock_of, process_of}
@@ -52,17 +53,13 @@ below_not text max bound NotNumber e found = rw (not_number (is_number text) (na
 below_not text max bound Range e found = let parts = over_range (is_number text) (nat_le (value text) max) (value text) found in
     rw (parts.0, below_false (value text) max bound e parts.1) refl
 
-and_off : (b : Bool) → (b && false) ≡ false
-and_off true = refl
-and_off false = refl
-
 -- the turn of three fields, by what was read of each
 module _ (n last : ℕ) (p word clock : List ℕ) where
   pub bad_word : (fault : NumberFault) → Err fault ≡ number_of (2 ^ 32 - 1) word → Err Form ≡ turn_of n last p word clock
-  bad_word fault e = rw (below_not word (2 ^ 32 - 1) (2 ^ 32) fault refl e, and_off (is_number p)) refl
+  bad_word fault e = rw (below_not word (2 ^ 32 - 1) (2 ^ 32) fault refl e, and-false (is_number p)) refl
 
   pub bad_clock : (fault : NumberFault) → Err fault ≡ number_of (2 ^ 64 - 1) clock → Err Form ≡ turn_of n last p word clock
-  bad_clock fault e = rw (below_not clock (2 ^ 64 - 1) (2 ^ 64) fault refl e, and_off (is_below (2 ^ 32) word), and_off (is_number p)) refl
+  bad_clock fault e = rw (below_not clock (2 ^ 64 - 1) (2 ^ 64) fault refl e, and-false (is_below (2 ^ 32) word), and-false (is_number p)) refl
 
   pub bad_number : Err NotNumber ≡ number_of (n - 1) p → Err Form ≡ turn_of n last p word clock
   bad_number e = rw (not_number (is_number p) (nat_le (value p) (n - 1)) (value p) e) refl

@@ -1,30 +1,31 @@
 -- How a run goes on by one entry.
-use Rattle.std.proofs.Common.{⊎_elim, ◌⊎◌, ◌≢◌, ◌==◌, ◌||◌, ◌%◌, Bool, false, if◌then◌else◌, ◌≡◌, ◌∙◌, ◌+◌, ◌≤◌, ℕ, true, List, [], ◌∷◌, ◌++◌, length, reverse, take, Option, None, Some, ap, sym, subst, refl, arith, slice_get, append_assoc}
+use Rattle.std.proofs.Common.{⊎_elim, ◌⊎◌, ◌≢◌, ◌==◌, ◌||◌, ◌%◌, Bool, false, if◌then◌else◌, ◌≡◌, ◌∙◌, ◌+◌, ◌<◌, ℕ, true, List, [], ◌∷◌, ◌++◌, length, reverse, take, Option, None, Some, ap, sym, subst, refl, arith, slice_get, append_assoc}
 use Rattle.std.proofs.lemmas.List.{append-nil, reverse-append, length-reverse}
 use Rattle.std.proofs.lemmas.Option.{slice_get_within}
 use Rattle.dc_media.specs.Told.{Becomes}
 use Rattle.dc_media.proofs.Becoming.{Becomes-then}
-use Rattle.dc_plain.specs.Core.{Core, opened_core, LeadsTo, Turned, stands, coming_at, drawn, drawn_answer, after_event, after_turn, mark_of, receive_answer}
-use Rattle.dc_plain.specs.Answers.{effect_of}
-use Rattle.dc_plain.specs.declared.effect.Effect.{Effect}
-use Rattle.dc_plain.specs.declared.effect.Effect.TheVariants.{Nothing, Shows, Sends}
-use Rattle.dc_plain.specs.Guest.{Guest, guests_of, started, coming, after_answer, event_of, next_of}
+use Rattle.dc_model.specs.Core.{Core, opened_core, LeadsTo, Turned, stands, coming_at, drawn, drawn_answer, after_event, after_turn, mark_of, receive_answer}
+use Rattle.dc_guest.specs.Answers.{effect_of}
+use Rattle.dc_guest.specs.declared.effect.Effect.{Effect}
+use Rattle.dc_guest.specs.declared.effect.Effect.TheVariants.{Nothing, Shows, Sends}
+use Rattle.dc_guest.specs.Guest.{Guest, guests_of, started, coming, after_answer, event_of, next_of}
 use Rattle.dc_elf.specs.Images.{Image}
-use Rattle.dc_plain.specs.Lines.{text_of, visible_line}
-use Rattle.dc_plain.specs.Plain.{act_of, reported}
-use Rattle.dc_plain.specs.World.{Answer, Event, Guests, took_input, Local, moved, shown, shows, record_of}
-use Rattle.dc_plain.specs.World.Event.{AtEnd, AtInternal, AtClock, AtRandom, AtInput, AtReceive, AtVisible, AtSend}
-use Rattle.dc_plain.specs.World.{Answer as answer}
-use Rattle.dc_plain.specs.declared.act.Taken.{Taken}
-use Rattle.dc_plain.specs.declared.entry.Entry.{Entry}
-use Rattle.dc_plain.specs.declared.entry.Entry.TheVariants.{Turn}
-use Rattle.dc_plain.specs.declared.mark.Idle.TheVariants.{Ended}
-use Rattle.dc_plain.specs.declared.mark.Mark.{Mark}
-use Rattle.dc_plain.specs.declared.mark.Mark.TheVariants as mark
-use Rattle.dc_plain.specs.declared.visible.Body.{Body}
-use Rattle.dc_plain.specs.declared.visible.Visible.{Visible}
-use Rattle.dc_plain.proofs.Fitting.{live_coming, not_ended}
-use Rattle.dc_plain.proofs.Leading.{leads_follow, stands_event}
+use Rattle.dc_acts.specs.Lines.{text_of, visible_line}
+use Rattle.dc_model.specs.World.{act_of, reported}
+use Rattle.dc_model.specs.Guests.{Answer, Event, Guests}
+use Rattle.dc_model.specs.Process.{took_input, Local, moved, shown, shows, visible_of}
+use Rattle.dc_model.specs.Guests.Event.{AtEnd, AtInternal, AtClock, AtRandom, AtInput, AtReceive, AtVisible, AtSend}
+use Rattle.dc_model.specs.Guests.{Answer as answer}
+use Rattle.dc_model.specs.declared.act.Taken.{Taken}
+use Rattle.dc_model.specs.declared.entry.Entry.{Entry}
+use Rattle.dc_model.specs.declared.entry.Entry.TheVariants.{Turn}
+use Rattle.dc_model.specs.declared.mark.Idle.TheVariants.{Ended}
+use Rattle.dc_model.specs.declared.mark.Mark.{Mark}
+use Rattle.dc_model.specs.declared.mark.Mark.TheVariants as mark
+use Rattle.dc_model.specs.declared.visible.Body.{Body}
+use Rattle.dc_model.specs.declared.visible.Visible.{Visible}
+use Rattle.dc_guest.proofs.Coming.{live_coming, not_ended}
+use Rattle.dc_model.proofs.Leading.{leads_follow, stands_event}
 use Rattle.dc_calls.specs.declared.call.Call.TheVariants as calls
 use Rattle.dc_events.specs.Kinds.{kind_of}
 use Rattle.dc_events.specs.declared.event.Next.{Next}
@@ -32,9 +33,13 @@ use Rattle.dc_events.specs.declared.event.Next.TheVariants as next
 use Rattle.dc_rv32.specs.Machine.{Machine}
 use Rattle.std.proofs.lemmas.Bool.Decides.{nat_tests}
 use Rattle.dc_run.specs.Answers.{Draw, alone}
-use Rattle.dc_run.specs.Running.{IsRunning, RunsAs, Takes, TornAs, answer_at}
+use Rattle.dc_run.specs.Running.{IsRunning, Progress, RunsAs, Takes, TornAs, answer_at}
 use Rattle.dc_run.specs.declared.world.World.{World}
 use Rattle.dc_run.specs.Schedules.{process_of}
+
+-- how far a run has come
+abbrev pub progress : Guest → List (List ℕ) → ℕ → ℕ → List Taken → List Mark → ℕ → Progress
+progress guest inputs place visible acts marks lines = record { guest = guest; inputs = inputs; place = place; visible = visible; acts = acts; marks = marks; lines = lines }
 
 reverse_end : {A : Type 0} (m : A) (ms : List A) → reverse (ms ++ m ∷ []) ≡ m ∷ reverse ms
 reverse_end m ms = reverse-append ms (m ∷ [])
@@ -83,7 +88,7 @@ visible_by (AtVisible shown) body is = let same : shown ≡ body = cc in ap AtVi
 visible_by (AtSend to message) body is = absurd cc
 
 -- an event that shows nothing is marked as stepped
-quiet_is : (p k : ℕ) (e : Event) → IsQuiet e → (mark_of e k ≡ mark.Stepped) × (shows e ≡ 0) × (record_of p k e ≡ []) × (e ≢ AtEnd)
+quiet_is : (p k : ℕ) (e : Event) → IsQuiet e → (mark_of e k ≡ mark.Stepped) × (shows e ≡ 0) × (visible_of p k e ≡ []) × (e ≢ AtEnd)
 quiet_is p k AtEnd quiet = absurd quiet
 quiet_is p k AtInternal quiet = (refl, refl, refl, λ e. cc)
 quiet_is p k AtClock quiet = (refl, refl, refl, λ e. cc)
@@ -125,9 +130,9 @@ module _ (images : List Image) (inputs : List (List (List ℕ))) (schedule : Lis
   after_at e at = sym (ap (λ x. after_turn G c turn 0 (drawn_answer G c 0 word clock x) x) at)
 
   leads_event : (e : Event) → e ≢ AtEnd → coming_at G c 0 ≡ e
-      → LeadsTo G schedule (mark_of e (stands G c 0).said ∷ reverse marks) (after_event G c turn 0 (drawn_answer G c 0 word clock e))
-  leads_event e live at = leads_on (mark_of e (stands G c 0).said) (after_event G c turn 0 (drawn_answer G c 0 word clock e))
-      (sym (ap (λ x. mark_of x (stands G c 0).said) at), sym (after_live G c turn 0 (drawn_answer G c 0 word clock e) e live) ∙ after_at e at)
+      → LeadsTo G schedule (mark_of e (stands G c 0).visible ∷ reverse marks) (after_event G c turn 0 (drawn_answer G c 0 word clock e))
+  leads_event e live at = leads_on (mark_of e (stands G c 0).visible) (after_event G c turn 0 (drawn_answer G c 0 word clock e))
+      (sym (ap (λ x. mark_of x (stands G c 0).visible) at), sym (after_live G c turn 0 (drawn_answer G c 0 word clock e) e live) ∙ after_at e at)
 
   stands_on : (a : Answer) → stands G (after_event G c turn 0 a) 0 ≡ moved G (stands G c 0) a
   stands_on a = stands_event G c turn 0 a ((leads_follow G schedule (reverse marks) c led).at_end 0)
@@ -143,8 +148,8 @@ module _ (images : List Image) (inputs : List (List (List ℕ))) (c : Core) (wor
 
   receives : drawn_answer G₁ c 0 word clock AtReceive ≡ answer.ReceiveNone
   receives = ap (λ n. if (word % (n + 1) == n || word % (n + 1) == 0) then answer.ReceiveNone
-      else receive_answer (word % (n + 1)) (slice_get ((stands G₁ c (word % (n + 1))).sent 0) ((stands G₁ c 0).got (word % (n + 1))))) one
-      ∙ ap (λ (b : Bool). if b then answer.ReceiveNone else receive_answer (word % 2) (slice_get ((stands G₁ c (word % 2)).sent 0) ((stands G₁ c 0).got (word % 2)))) (nobody word)
+      else receive_answer (word % (n + 1)) (slice_get ((stands G₁ c (word % (n + 1))).sent 0) ((stands G₁ c 0).received (word % (n + 1))))) one
+      ∙ ap (λ (b : Bool). if b then answer.ReceiveNone else receive_answer (word % 2) (slice_get ((stands G₁ c (word % 2)).sent 0) ((stands G₁ c 0).received (word % 2)))) (nobody word)
 
   drawn_alone : (n : Next) (m : Machine) → drawn_answer G₁ c 0 word clock (event_of n m)
       ≡ alone (record { word = word; clock = clock; next = slice_get (G₁.inputs 0) (stands G₁ c 0).place }) (kind_of n)
@@ -164,7 +169,7 @@ module _ (images : List Image) (inputs : List (List (List ℕ))) (c : Core) (wor
 -- what a run has come to, and where its next entry leads
 module _ (images : List Image) (rest : List (List (List ℕ))) (schedule : List Entry) (guest : Guest) (inputs : List (List ℕ)) (place shown : ℕ) (acts : List Taken) (marks : List Mark) (lines : ℕ)
     (first held : Option (List ℕ)) (word clock : ℕ) (is : slice_get schedule (length marks) ≡ Some (Turn 0 word clock))
-    (run : RunsAs (guests_of images rest) schedule guest inputs place shown acts marks lines first held) where
+    (run : RunsAs (guests_of images rest) schedule (progress guest inputs place shown acts marks lines) first held) where
   abbrev G' : Guests Guest
   G' = guests_of images rest
 
@@ -178,7 +183,7 @@ module _ (images : List Image) (rest : List (List (List ℕ))) (schedule : List 
   comes_at : (e : Event) → coming guest ≡ e → coming_at G' now 0 ≡ e
   comes_at e at = ap coming run.guest_is ∙ at
 
-  pub idle_runs : guest.ended ≡ true → RunsAs G' schedule guest inputs place shown acts (marks ++ mark.Idle Ended ∷ []) lines first held
+  pub idle_runs : guest.ended ≡ true → RunsAs G' schedule (progress guest inputs place shown acts (marks ++ mark.Idle Ended ∷ []) lines) first held
   idle_runs ended = record {
     core = now;
     one = run.one;
@@ -186,7 +191,7 @@ module _ (images : List Image) (rest : List (List (List ℕ))) (schedule : List 
     led = leads_idle images rest schedule marks now run.led word clock is (comes_at AtEnd (rw ended refl));
     guest_is = run.guest_is;
     place_is = run.place_is;
-    said = run.said;
+    visible_is = run.visible_is;
     acts_are = run.acts_are;
     count = run.count;
     shows = run.shows;
@@ -210,7 +215,7 @@ module _ (images : List Image) (rest : List (List (List ℕ))) (schedule : List 
 
     led_later : coming guest ≢ AtEnd → LeadsTo G' schedule (mark_of (coming guest) shown ∷ reverse marks) later
     led_later going = subst (λ (x : Answer). LeadsTo G' schedule (mark_of (coming guest) shown ∷ reverse marks) (after_event G' now (length (reverse marks)) 0 x)) answer_is
-        (subst (λ k. LeadsTo G' schedule (mark_of (coming guest) k ∷ reverse marks) (after_event G' now (length (reverse marks)) 0 (drawn_answer G' now 0 word clock (coming guest)))) run.said
+        (subst (λ k. LeadsTo G' schedule (mark_of (coming guest) k ∷ reverse marks) (after_event G' now (length (reverse marks)) 0 (drawn_answer G' now 0 word clock (coming guest)))) run.visible_is
         (leads_event images rest schedule marks now run.led word clock is (coming guest) going (comes_at (coming guest) refl)))
 
     stands_later : stands G' later 0 ≡ moved G' (stands G' now 0) a
@@ -222,17 +227,17 @@ module _ (images : List Image) (rest : List (List (List ℕ))) (schedule : List 
     place_later : (stands G' later 0).place ≡ place + took_input a
     place_later = ap (λ (l : Local Guest). l.place) stands_later ∙ ap (λ n. n + took_input a) run.place_is
 
-    said_later : (stands G' later 0).said ≡ shown + shows (coming guest)
-    said_later = ap (λ (l : Local Guest). l.said) stands_later ∙ ap (λ (g : Guest). (stands G' now 0).said + shows (coming g)) run.guest_is ∙ ap (λ n. n + shows (coming guest)) run.said
+    visible_later : (stands G' later 0).visible ≡ shown + shows (coming guest)
+    visible_later = ap (λ (l : Local Guest). l.visible) stands_later ∙ ap (λ (g : Guest). (stands G' now 0).visible + shows (coming g)) run.guest_is ∙ ap (λ n. n + shows (coming guest)) run.visible_is
 
     acts_later : reported later.acts ≡ acts ++ record { t = length marks; p = 0; act = act_of a } ∷ []
     acts_later = rw (run.acts_are, length-reverse marks) refl
 
-    lines_later : later.lines ≡ record_of 0 shown (coming guest) ++ now.lines
-    lines_later = ap (λ (g : Guest). record_of 0 (stands G' now 0).said (coming g) ++ now.lines) run.guest_is ∙ ap (λ n. record_of 0 n (coming guest) ++ now.lines) run.said
+    lines_later : later.lines ≡ visible_of 0 shown (coming guest) ++ now.lines
+    lines_later = ap (λ (g : Guest). visible_of 0 (stands G' now 0).visible (coming g) ++ now.lines) run.guest_is ∙ ap (λ n. visible_of 0 n (coming guest) ++ now.lines) run.visible_is
 
     pub stepped_runs : IsQuiet (coming guest)
-        → RunsAs G' schedule (after_answer guest a) inputs (place + took_input a) shown (acts ++ record { t = length marks; p = 0; act = act_of a } ∷ []) (marks ++ mark.Stepped ∷ []) lines first held
+        → RunsAs G' schedule (progress (after_answer guest a) inputs (place + took_input a) shown (acts ++ record { t = length marks; p = 0; act = act_of a } ∷ []) (marks ++ mark.Stepped ∷ []) lines) first held
     stepped_runs quiet = let facts = quiet_is 0 shown (coming guest) quiet in
         let same : later.lines ≡ now.lines = lines_later ∙ ap (λ xs. xs ++ now.lines) facts.2 in record {
           core = later;
@@ -241,7 +246,7 @@ module _ (images : List Image) (rest : List (List (List ℕ))) (schedule : List 
           led = rw (reverse_end {A = Mark} mark.Stepped marks) (subst (λ (m : Mark). LeadsTo G' schedule (m ∷ reverse marks) later) facts.0 (led_later facts.3));
           guest_is = guest_later;
           place_is = place_later;
-          said = said_later ∙ ap (λ n. shown + n) facts.1 ∙ omega arith;
+          visible_is = visible_later ∙ ap (λ n. shown + n) facts.1 ∙ omega arith;
           acts_are = acts_later;
           count = ap length same ∙ run.count;
           shows = rw same run.shows;
@@ -255,13 +260,13 @@ module _ (images : List Image) (rest : List (List (List ℕ))) (schedule : List 
       led_showed = subst (λ (e : Event). LeadsTo G' schedule (mark_of e shown ∷ reverse marks) later) at (led_later (λ ended. let never : AtVisible body ≡ AtEnd = sym at ∙ ended in cc))
 
       lines_showed : later.lines ≡ record_now ∷ now.lines
-      lines_showed = lines_later ∙ ap (λ (e : Event). record_of 0 shown e ++ now.lines) at
+      lines_showed = lines_later ∙ ap (λ (e : Event). visible_of 0 shown e ++ now.lines) at
 
       text_showed : text_of (reverse now.lines) ++ visible_line record_now ≡ text_of (reverse later.lines)
       text_showed = sym (ap (λ xs. text_of (reverse xs)) lines_showed ∙ ap text_of (reverse_more record_now now.lines) ∙ text_end (reverse now.lines) record_now)
 
       pub showed_runs : Becomes held held' (λ x y. y ≡ x ++ visible_line record_now)
-          → RunsAs G' schedule (after_answer guest a) inputs (place + took_input a) (shown + 1) (acts ++ record { t = length marks; p = 0; act = act_of a } ∷ []) (marks ++ mark.Showed shown ∷ []) (lines + 1) first held'
+          → RunsAs G' schedule (progress (after_answer guest a) inputs (place + took_input a) (shown + 1) (acts ++ record { t = length marks; p = 0; act = act_of a } ∷ []) (marks ++ mark.Showed shown ∷ []) (lines + 1)) first held'
       showed_runs writes = record {
         core = later;
         one = run.one;
@@ -269,13 +274,13 @@ module _ (images : List Image) (rest : List (List (List ℕ))) (schedule : List 
         led = rw (reverse_end {A = Mark} (mark.Showed shown) marks) led_showed;
         guest_is = guest_later;
         place_is = place_later;
-        said = said_later ∙ ap (λ (e : Event). shown + shows e) at;
+        visible_is = visible_later ∙ ap (λ (e : Event). shown + shows e) at;
         acts_are = acts_later;
         count = ap length lines_showed ∙ omega (arith, run.count);
         shows = Becomes-then first held held' _ _ _ (λ x y z old new. new ∙ ap (λ w. w ++ visible_line record_now) old ∙ append_assoc x (text_of (reverse now.lines)) (visible_line record_now) ∙ ap (λ w. x ++ w) text_showed) run.shows writes;
       }
 
-      pub showing_breaks : (n : ℕ) × (n ≤ length (visible_line record_now)) × Becomes held held' (λ x y. y ≡ x ++ take n (visible_line record_now))
+      pub showing_breaks : (n : ℕ) × (n < length (visible_line record_now)) × Becomes held held' (λ x y. y ≡ x ++ take n (visible_line record_now))
           → TornAs G' schedule (acts ++ record { t = length marks; p = 0; act = act_of a } ∷ []) marks lines first held'
       showing_breaks writes = record {
         core = later;
@@ -303,39 +308,39 @@ module _ (images : List Image) (rest : List (List (List ℕ))) (schedule : List 
   acts_at = takes.acts ∙ ap (λ n. old.acts.items ++ record { t = length old.marks.items; p = n; act = act_of (answer_now entry) } ∷ []) zero
 
   pub stepped_on : (marks : List Mark) → IsQuiet (coming old.guest) → marks ≡ w.marks.items ++ mark.Stepped ∷ []
-      → RunsAs (guests_of images rest) schedule w.guest w.inputs.items w.place w.shown w.acts.items marks w.lines first held
+      → RunsAs (guests_of images rest) schedule (progress w.guest w.inputs.items w.place w.visible w.acts.items marks w.lines) first held
   stepped_on marks quiet marks_are =
-      rw (takes.guest, takes.place, acts_at, takes.inputs, takes.shown, takes.lines, marks_are, takes.marks) (by entry zero is)
+      rw (takes.guest, takes.place, acts_at, takes.inputs, takes.visible, takes.lines, marks_are, takes.marks) (by entry zero is)
     where
       by : (e : Entry) → process_of e ≡ 0 → slice_get schedule (length old.marks.items) ≡ Some e
-          → RunsAs (guests_of images rest) schedule (after_answer old.guest (answer_now e)) old.inputs.items (old.place + took_input (answer_now e)) old.shown (acts_now e) (old.marks.items ++ mark.Stepped ∷ []) old.lines first held
-      by (Turn q word clock) none there = stepped_runs images rest schedule old.guest old.inputs.items old.place old.shown old.acts.items old.marks.items old.lines first held word clock
+          → RunsAs (guests_of images rest) schedule (progress (after_answer old.guest (answer_now e)) old.inputs.items (old.place + took_input (answer_now e)) old.visible (acts_now e) (old.marks.items ++ mark.Stepped ∷ []) old.lines) first held
+      by (Turn q word clock) none there = stepped_runs images rest schedule old.guest old.inputs.items old.place old.visible old.acts.items old.marks.items old.lines first held word clock
           (there ∙ ap (λ n. Some (Turn n word clock)) none) run live quiet
 
-  module _ (body : Body) (at : coming old.guest ≡ AtVisible body) (visible : Visible) (visible_is : visible ≡ record { p = 0; k = old.shown; body = body }) where
-    pub showed_on : (marks : List Mark) → marks ≡ w.marks.items ++ mark.Showed old.shown ∷ [] → Becomes held held' (λ x y. y ≡ x ++ visible_line visible)
-        → RunsAs (guests_of images rest) schedule w.guest w.inputs.items w.place (w.shown + 1) w.acts.items marks (w.lines + 1) first held'
+  module _ (body : Body) (at : coming old.guest ≡ AtVisible body) (visible : Visible) (visible_is : visible ≡ record { p = 0; k = old.visible; body = body }) where
+    pub showed_on : (marks : List Mark) → marks ≡ w.marks.items ++ mark.Showed old.visible ∷ [] → Becomes held held' (λ x y. y ≡ x ++ visible_line visible)
+        → RunsAs (guests_of images rest) schedule (progress w.guest w.inputs.items w.place (w.visible + 1) w.acts.items marks (w.lines + 1)) first held'
     showed_on marks marks_are writes =
-        rw (takes.guest, takes.place, acts_at, takes.inputs, takes.shown, takes.lines, marks_are, takes.marks) (by entry zero is)
+        rw (takes.guest, takes.place, acts_at, takes.inputs, takes.visible, takes.lines, marks_are, takes.marks) (by entry zero is)
       where
         by : (e : Entry) → process_of e ≡ 0 → slice_get schedule (length old.marks.items) ≡ Some e
-            → RunsAs (guests_of images rest) schedule (after_answer old.guest (answer_now e)) old.inputs.items (old.place + took_input (answer_now e)) (old.shown + 1) (acts_now e) (old.marks.items ++ mark.Showed old.shown ∷ []) (old.lines + 1) first held'
-        by (Turn q word clock) none there = showed_runs images rest schedule old.guest old.inputs.items old.place old.shown old.acts.items old.marks.items old.lines first held word clock
+            → RunsAs (guests_of images rest) schedule (progress (after_answer old.guest (answer_now e)) old.inputs.items (old.place + took_input (answer_now e)) (old.visible + 1) (acts_now e) (old.marks.items ++ mark.Showed old.visible ∷ []) (old.lines + 1)) first held'
+        by (Turn q word clock) none there = showed_runs images rest schedule old.guest old.inputs.items old.place old.visible old.acts.items old.marks.items old.lines first held word clock
             (there ∙ ap (λ n. Some (Turn n word clock)) none) run live body at held' (subst (λ (v : Visible). Becomes held held' (λ x y. y ≡ x ++ visible_line v)) visible_is writes)
 
-    pub breaks_on : (n : ℕ) × (n ≤ length (visible_line visible)) × Becomes held held' (λ x y. y ≡ x ++ take n (visible_line visible))
+    pub breaks_on : (n : ℕ) × (n < length (visible_line visible)) × Becomes held held' (λ x y. y ≡ x ++ take n (visible_line visible))
         → TornAs (guests_of images rest) schedule w.acts.items w.marks.items w.lines first held'
     breaks_on writes = rw (acts_at, takes.lines, takes.marks) (by entry zero is)
       where
         by : (e : Entry) → process_of e ≡ 0 → slice_get schedule (length old.marks.items) ≡ Some e
             → TornAs (guests_of images rest) schedule (acts_now e) old.marks.items old.lines first held'
-        by (Turn q word clock) none there = showing_breaks images rest schedule old.guest old.inputs.items old.place old.shown old.acts.items old.marks.items old.lines first held word clock
+        by (Turn q word clock) none there = showing_breaks images rest schedule old.guest old.inputs.items old.place old.visible old.acts.items old.marks.items old.lines first held word clock
             (there ∙ ap (λ n. Some (Turn n word clock)) none) run live body at held'
-            (subst (λ (v : Visible). (n : ℕ) × (n ≤ length (visible_line v)) × Becomes held held' (λ x y. y ≡ x ++ take n (visible_line v))) visible_is writes)
+            (subst (λ (v : Visible). (n : ℕ) × (n < length (visible_line v)) × Becomes held held' (λ x y. y ≡ x ++ take n (visible_line v))) visible_is writes)
 
 pub idle_on : (images : List Image) (rest : List (List (List ℕ))) (schedule : List Entry) (guest : Guest) (inputs : List (List ℕ)) (place shown : ℕ) (acts : List Taken) (marks marks' : List Mark) (lines : ℕ) (first held : Option (List ℕ)) (entry : Entry)
     → process_of entry ≡ 0 → guest.ended ≡ true → marks' ≡ marks ++ mark.Idle Ended ∷ []
-    → slice_get schedule (length marks) ≡ Some entry → RunsAs (guests_of images rest) schedule guest inputs place shown acts marks lines first held → RunsAs (guests_of images rest) schedule guest inputs place shown acts marks' lines first held
+    → slice_get schedule (length marks) ≡ Some entry → RunsAs (guests_of images rest) schedule (progress guest inputs place shown acts marks lines) first held → RunsAs (guests_of images rest) schedule (progress guest inputs place shown acts marks' lines) first held
 idle_on images rest schedule guest inputs place shown acts marks marks' lines first held (Turn q word clock) zero ended marks_are is run =
     rw marks_are (idle_runs images rest schedule guest inputs place shown acts marks lines first held word clock (is ∙ ap (λ n. Some (Turn n word clock)) zero) run ended)
 
@@ -347,7 +352,7 @@ nothing_written (Some x) = sym (append-nil x)
 pub begins : (memory : List ℕ) (entry : ℕ) (inputs : List (List ℕ)) (all : List (List (List ℕ))) (schedule : List Entry) (held : Option (List ℕ)) (guest : Guest) (acts : List Taken) (marks : List Mark)
     → guest ≡ started 0 1 (Some (record { memory = memory; entry = entry })) → acts ≡ [] → marks ≡ []
     → (guests_of (record { memory = memory; entry = entry } ∷ []) all).inputs 0 ≡ inputs
-    → RunsAs (guests_of (record { memory = memory; entry = entry } ∷ []) all) schedule guest inputs 0 0 acts marks 0 held held
+    → RunsAs (guests_of (record { memory = memory; entry = entry } ∷ []) all) schedule (progress guest inputs 0 0 acts marks 0) held held
 begins memory entry inputs all schedule held guest acts marks guest_is acts_are marks_are inputs_are = rw (guest_is, acts_are, marks_are) (record {
   core = opened_core;
   one = refl;
@@ -355,7 +360,7 @@ begins memory entry inputs all schedule held guest acts marks guest_is acts_are 
   led = refl;
   guest_is = refl;
   place_is = refl;
-  said = refl;
+  visible_is = refl;
   acts_are = refl;
   count = refl;
   shows = nothing_written held;

@@ -2,11 +2,11 @@
 use Rattle.std.specs.Prelude.{ℕ, ◌%◌, ◌==◌, List, Option, if◌then◌else◌, slice_get}
 use Rattle.dc_events.specs.declared.event.Kind.{Kind}
 use Rattle.dc_events.specs.declared.event.Kind.TheVariants as kind
-use Rattle.dc_plain.specs.Core.{input_answer}
-use Rattle.dc_plain.specs.declared.entry.Entry.{Entry}
-use Rattle.dc_plain.specs.declared.entry.Entry.TheVariants.{Turn}
-use Rattle.dc_plain.specs.World.{Answer}
-use Rattle.dc_plain.specs.World.Answer.{Plain, Clock, Random, InputNone, ReceiveNone}
+use Rattle.dc_model.specs.Core.{input_answer}
+use Rattle.dc_model.specs.declared.entry.Entry.{Entry}
+use Rattle.dc_model.specs.declared.entry.Entry.TheVariants.{Turn}
+use Rattle.dc_model.specs.Guests.{Answer}
+use Rattle.dc_model.specs.Guests.Answer.{Plain, Clock, Random, InputNone, ReceiveNone}
 use Rattle.dc_run.specs.declared.draw.Draw as declared
 
 -- a turn's word and clock, and the next record of the input
@@ -15,6 +15,7 @@ pub record Draw : Type 0 where
   pub clock : ℕ
   pub next : Option (List ℕ)
 
+-- as the code has it
 abbrev pub draw_of : declared.Draw → Draw
 draw_of d = record { word = d.word; clock = d.clock; next = slice_get d.records.now d.place }
 

@@ -1,5 +1,5 @@
 -- What assembling a source comes to, by the told files.
-use Rattle.std.specs.Prelude.{◌≡◌, ◌≤◌, ◌⊎◌, ℕ, true, List, [], ◌++◌, length, take, Option, Result, Ok, Err, Vec}
+use Rattle.std.specs.Prelude.{◌≡◌, ◌<◌, ◌⊎◌, ℕ, true, List, [], ◌++◌, length, take, Option, Result, Ok, Err, Vec}
 use Rattle.std.specs.declared.alloc.Global.{Global}
 use Rattle.dc_asm.specs.Program.{IsFileOf, program_of}
 use Rattle.dc_asm.specs.declared.faults.AsmFault.{AsmFault}
@@ -30,14 +30,14 @@ IsMade (Ok file) (Ok program) = IsFileOf program file.items
 IsMade (Ok file) (Err refusal) = ⊥
 IsMade (Err v) told = (is_free v ≡ true) ⊎ (told ≡ Err v)
 
--- a file's bytes went to the sink: all of them, or a front after a fault; it has no acts, marks or lines
+-- a file's bytes went to the sink: all of them, or after a fault a part of their front; it has no acts, marks or lines
 pub record IsWritten (file : List ℕ) (o : Outcome) (before after : Option (List ℕ)) : Type 0 where
   pub did : o.did ≡ Assembled (length file)
   pub acts : o.acts.items ≡ []
   pub marks : o.marks.items ≡ []
   pub lines : o.lines ≡ 0
   pub written : ((o.verdict ≡ Done) × Becomes before after (λ x y. y ≡ x ++ file))
-      ⊎ ((o.verdict ≡ SinkFault Out) × ((n : ℕ) × (n ≤ length file) × Becomes before after (λ x y. y ≡ x ++ take n file)))
+      ⊎ ((o.verdict ≡ SinkFault Out) × ((n : ℕ) × (n < length file) × Becomes before after (λ x y. y ≡ x ++ take n file)))
 
 -- a program was assembled: its ELF file went to the sink
 pub record IsAssembled (program : List Meant) (o : Outcome) (before after : Option (List ℕ)) : Type 0 where

@@ -31,6 +31,7 @@ met rows = option_and_then (λ command. if bytes_eq command.0 (codes "asm")
     then option_map ToAssemble (first_of (codes "source") command.1)
     else option_map ToRun (first_of (codes "plan") command.1)) rows
 
+-- what texts of words ask for
 abbrev pub asked_by : List (List ℕ) → Option Asked
 asked_by words = if is_empty (fault_of command_line words) then met (subcommand_of command_line words) else None
 

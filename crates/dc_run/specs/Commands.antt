@@ -1,5 +1,5 @@
 -- What a command comes to, by the words and the told files.
-use Rattle.std.specs.Prelude.{◌≡◌, ◌≢◌, ◌⊎◌, true, List, IsSomeAnd, Result, Ok, Err, String}
+use Rattle.std.specs.Prelude.{◌≡◌, ◌≢◌, ◌⊎◌, true, List, IsSome, IsSomeAnd, Result, Ok, Err, String}
 use Rattle.std.specs.declared.alloc.Global.{Global}
 use Rattle.dc_asm.specs.declared.forms.Meant.{Meant}
 use Rattle.dc_run.specs.Assembling.{program_in}
@@ -18,6 +18,7 @@ pub data Work : Type 0 where
   Run : (setting : Setting) → Work
   Assembly : (program : List Meant) → Work
 
+-- what there is to carry out, by what is asked for
 abbrev pub work_by : Files → Asked → Result Work Verdict
 work_by files (ToRun plan) = opening_of files plan >>= (λ setting. Ok (Run setting))
 work_by files (ToAssemble source) = program_in files source >>= (λ program. Ok (Assembly program))
@@ -36,11 +37,12 @@ abbrev pub IfAssembly : Work → (List Meant → Type 0) → Type 0
 IfAssembly (Run setting) P = Unit {0}
 IfAssembly (Assembly program) P = P program
 
--- which files a command asks for
+-- which files a command asks for and finds
 abbrev pub AsksFor : Files → Asked → Which → Type 0
 AsksFor files (ToRun plan) which = AsksToRun files plan which
-AsksFor files (ToAssemble source) which = which ≡ Source
+AsksFor files (ToAssemble source) which = (which ≡ Source) × IsSome (files source)
 
+-- by its words
 abbrev pub Asks : Files → List (String Global) → Which → Type 0
 Asks files words which = IsSomeAnd (asked_of words) (λ asked. AsksFor files asked which)
 

@@ -1,12 +1,12 @@
 -- What a run is opened with, by the told files, or the refusal that comes first.
-use Rattle.std.specs.Prelude.{◌≡◌, ℕ, List, [], Option, None, Some, IsOk, IsOkAnd, IsSomeAnd, Result, Ok, Err, slice_index_or}
-use Rattle.dc_elf.specs.Files.{fault_of}
+use Rattle.std.specs.Prelude.{◌≡◌, ℕ, List, [], Option, None, Some, IsOkAnd, IsSome, IsSomeAnd, Result, Ok, Err, slice_index_or}
+use Rattle.dc_elf.specs.Files.{file_fault}
 use Rattle.dc_elf.specs.Images.{Image, image_of}
 use Rattle.dc_elf.specs.declared.faults.ElfFault.{ElfFault}
 use Rattle.dc_words.specs.Results.{◌>>=◌, or_fault}
 use Rattle.dc_plan.specs.Plans.{Plan, plan_of}
 use Rattle.dc_plan.specs.declared.fault.PlanFault.{PlanFault}
-use Rattle.dc_plain.specs.declared.entry.Entry.{Entry}
+use Rattle.dc_model.specs.declared.entry.Entry.{Entry}
 use Rattle.dc_run.specs.Schedules.{schedule_of}
 use Rattle.dc_run.specs.declared.verdict.ScheduleFault.{ScheduleFault}
 use Rattle.dc_run.specs.declared.verdict.Verdict.{Verdict}
@@ -35,7 +35,7 @@ image_or_fault (Some fault) image = Err (GuestRefused 0 fault)
 
 -- the image of the guest's file in a memory of this size
 abbrev pub guest_in : ℕ → List ℕ → Result Image Verdict
-guest_in size file = image_or_fault (fault_of file size) (image_of size file)
+guest_in size file = image_or_fault (file_fault file size) (image_of size file)
 
 -- the plan, or the rule that it breaks first
 abbrev pub plan_in : Result Plan PlanFault → Result Plan Verdict
@@ -67,20 +67,20 @@ opening_at_plan files text = plan_in (plan_of text) >>= (λ plan. file_in files 
 abbrev pub opening_of : Files → List ℕ → Result Setting Verdict
 opening_of files name = file_in files ThePlan name >>= opening_at_plan files
 
--- Which files a run asks for: one only after those before it were there and were not refused.
+-- Which files a run asks for and finds: one only after those before it were there and were not refused.
 
 -- with the plan, from the bytes of the guest
-abbrev pub AsksAtGuest : Plan → List ℕ → Which → Type 0
-AsksAtGuest plan file Schedule = fault_of file plan.memory ≡ None
-AsksAtGuest plan file _ = ⊥
+abbrev pub AsksAtGuest : Files → Plan → List ℕ → Which → Type 0
+AsksAtGuest files plan file Schedule = (file_fault file plan.memory ≡ None) × IsSome (files plan.schedule)
+AsksAtGuest files plan file _ = ⊥
 
 -- from the bytes of the plan
 abbrev pub AsksAtPlan : Files → List ℕ → Which → Type 0
-AsksAtPlan files text (Guest p) = (p ≡ 0) × IsOk (plan_of text)
-AsksAtPlan files text Schedule = IsOkAnd (plan_of text) (λ plan. IsSomeAnd (files (guest_name plan)) (λ file. AsksAtGuest plan file Schedule))
+AsksAtPlan files text (Guest p) = (p ≡ 0) × IsOkAnd (plan_of text) (λ plan. IsSome (files (guest_name plan)))
+AsksAtPlan files text Schedule = IsOkAnd (plan_of text) (λ plan. IsSomeAnd (files (guest_name plan)) (λ file. AsksAtGuest files plan file Schedule))
 AsksAtPlan files text _ = ⊥
 
 -- by the plan's name
 abbrev pub AsksToRun : Files → List ℕ → Which → Type 0
-AsksToRun files name ThePlan = Unit {0}
+AsksToRun files name ThePlan = IsSome (files name)
 AsksToRun files name which = IsSomeAnd (files name) (λ text. AsksAtPlan files text which)

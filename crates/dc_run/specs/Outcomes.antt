@@ -21,6 +21,7 @@ use Rattle.dc_run.specs.declared.verdict.Verdict.TheVariants.{Done, Unfinished, 
 use Rattle.dc_run.specs.declared.verdict.Which.{Which}
 use Rattle.dc_run.specs.declared.verdict.Which.TheVariants.{Plan, Guest, Schedule, Source}
 
+-- the status with which the program ends
 abbrev pub status_of : Verdict → ℕ
 status_of Done = 0
 status_of Unfinished = 1
@@ -34,6 +35,7 @@ status_of WantOfMemory = 10
 status_of (ScheduleRefused fault) = 11
 status_of (AsmRefused fault) = 14
 
+-- the name of a file of a command
 abbrev pub which_text : Which → List ℕ
 which_text Plan = codes "plan"
 which_text (Guest p) = codes "guest " ++ decimal p
@@ -49,6 +51,7 @@ plan_fault_text (plan.Kind key) = codes "kind " ++ key_text key
 plan_fault_text (plan.TooMany key) = codes "too many " ++ key_text key
 plan_fault_text (plan.Range key) = codes "range " ++ key_text key
 
+-- what is wrong with a guest's file, in words
 abbrev pub elf_fault_text : ElfFault → List ℕ
 elf_fault_text elf.Short = codes "short"
 elf_fault_text elf.Magic = codes "magic"
@@ -61,18 +64,22 @@ elf_fault_text elf.Headers = codes "headers"
 elf_fault_text (elf.Segment i) = codes "segment " ++ decimal i
 elf_fault_text elf.Entry = codes "entry"
 
+-- a refused guest
 abbrev pub guest_fault_text : ℕ → ElfFault → List ℕ
 guest_fault_text p fault = codes "guest " ++ decimal p ++ codes " refused: " ++ elf_fault_text fault
 
+-- what is wrong with a line of a schedule, in words
 abbrev pub line_fault_text : LineFault → List ℕ
 line_fault_text Form = codes "form"
 line_fault_text Process = codes "process"
 line_fault_text ClockFell = codes "clock fell"
 line_fault_text TooMany = codes "too many"
 
+-- a refused schedule
 abbrev pub schedule_fault_text : ScheduleFault → List ℕ
 schedule_fault_text fault = codes "schedule line " ++ decimal fault.line ++ codes " refused: " ++ line_fault_text fault.kind
 
+-- what is wrong with a line of a source, in words
 abbrev pub asm_kind_text : AsmKind → List ℕ
 asm_kind_text asm.Word = codes "word"
 asm_kind_text asm.Register = codes "register"
@@ -81,20 +88,25 @@ asm_kind_text asm.Label = codes "label"
 asm_kind_text asm.Twice = codes "twice"
 asm_kind_text asm.TooLong = codes "too long"
 
+-- a refused source
 abbrev pub asm_fault_text : AsmFault → List ℕ
 asm_fault_text fault = codes "source line " ++ decimal fault.line ++ codes " refused: " ++ asm_kind_text fault.kind
 
+-- the name of a sink
 abbrev pub outlet_text : Outlet → List ℕ
 outlet_text Out = codes "out"
 outlet_text Report = codes "report"
 
+-- how many acts and lines there were
 abbrev pub counts_text : List ℕ → ℕ → ℕ → List ℕ
 counts_text name acts lines = name ++ decimal acts ++ codes " acts " ++ decimal lines ++ codes " lines"
 
+-- what a call did that is done
 abbrev pub done_text : Did → ℕ → ℕ → List ℕ
 done_text Run acts lines = counts_text (codes "done ") acts lines
 done_text (Assembled bytes) acts lines = codes "done " ++ decimal bytes ++ codes " bytes"
 
+-- the verdict in words
 abbrev pub verdict_text : Verdict → Did → ℕ → ℕ → List ℕ
 verdict_text Done did acts lines = done_text did acts lines
 verdict_text Unfinished did acts lines = counts_text (codes "unfinished ") acts lines

@@ -2,8 +2,8 @@
 use Rattle.std.specs.Prelude.{◌≡◌, ℕ, suc, ◌^◌, ◌&&◌, Bool, List, [], ◌∷◌, ◌++◌, Result, Ok, Err, if◌then◌else◌, nat_lt, Vec}
 use Rattle.std.specs.declared.alloc.Global.{Global}
 use Rattle.std.specs.Str.Parse.{digits_value}
-use Rattle.dc_plain.specs.declared.entry.Entry.{Entry}
-use Rattle.dc_plain.specs.declared.entry.Entry.TheVariants.{Turn}
+use Rattle.dc_model.specs.declared.entry.Entry.{Entry}
+use Rattle.dc_model.specs.declared.entry.Entry.TheVariants.{Turn}
 use Rattle.dc_words.specs.Numbers.{is_number}
 use Rattle.dc_words.specs.Texts.{fields_of, lines_of}
 use Rattle.dc_run.specs.declared.verdict.LineFault.{LineFault}
@@ -27,6 +27,7 @@ turn_of n last p word clock =
     (if nat_lt (value p) n then (if nat_lt (value clock) last then Err ClockFell else Ok (Turn (value p) (value word) (value clock))) else Err Process)
     else Err Form
 
+-- the entry of three fields; another count of fields is a fault of form
 abbrev pub entry_by : ℕ → ℕ → List (List ℕ) → Result Entry LineFault
 entry_by n last (p ∷ word ∷ clock ∷ []) = turn_of n last p word clock
 entry_by n last _ = Err Form
@@ -35,6 +36,7 @@ entry_by n last _ = Err Form
 abbrev pub entry_of : ℕ → ℕ → List ℕ → Result Entry LineFault
 entry_of n last line = entry_by n last (fields_of 32 line)
 
+-- the clock of an entry
 abbrev pub clock_of : Entry → ℕ
 clock_of (Turn p word clock) = clock
 
@@ -43,6 +45,7 @@ abbrev pub entry_then : ℕ → Result Entry LineFault → (Entry → Result (Li
 entry_then number (Err kind) rest = Err (record { line = number; kind = kind })
 entry_then number (Ok entry) rest = rest entry
 
+-- a schedule with one entry in front, or its fault
 abbrev pub with_front : Entry → Result (List Entry) ScheduleFault → Result (List Entry) ScheduleFault
 with_front entry (Ok entries) = Ok (entry ∷ entries)
 with_front entry (Err fault) = Err fault

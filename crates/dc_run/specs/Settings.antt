@@ -1,7 +1,8 @@
 -- How the code's opening stands to the told files.
-use Rattle.std.specs.Prelude.{◌≡◌, ◌⊎◌, Bool, true, false, not, ◌&&◌, Result, Ok, Err}
+use Rattle.std.specs.Prelude.{◌≡◌, ◌≤◌, ◌⊎◌, ℕ, Option, Bool, true, false, not, ◌&&◌, Result, Ok, Err}
 use Rattle.dc_plain.specs.Playing.{lists_of}
-use Rattle.dc_run.specs.Opening.{Setting}
+use Rattle.dc_media.specs.Told.{Becomes, TellsOn}
+use Rattle.dc_run.specs.Opening.{Files, Setting}
 use Rattle.dc_run.specs.declared.setting.Setting as code
 use Rattle.dc_run.specs.declared.verdict.Verdict.{Verdict}
 use Rattle.dc_run.specs.declared.verdict.Verdict.TheVariants.{Done, Unfinished, LibraryFault, SinkFault, WantOfMemory}
@@ -23,10 +24,17 @@ was_opened _ = false
 abbrev pub is_refusal : Verdict → Bool
 is_refusal v = not (is_free v) && not (was_opened v)
 
+-- what became of a library: its files stay, they are told on, and its count of faults did not fall
+pub record LibraryKept (old new : Option Files) (faults_before faults_after : ℕ) : Type 0 where
+  pub stay : Becomes old new (λ before after. after ≡ before)
+  pub tells : TellsOn 0 faults_after old new
+  pub later : faults_before ≤ faults_after
+
 -- the same value or refusal as the told files give, where no free verdict takes its place
 abbrev pub Agrees : {A X : Type 0} → (X → A) → Result X Verdict → Result A Verdict → Type 0
 Agrees view (Ok x) told = told ≡ Ok (view x)
 Agrees view (Err v) told = (is_free v ≡ true) ⊎ (told ≡ Err v)
 
+-- a setting by the fields that the code has of it
 abbrev pub setting_of : code.Setting → Setting
 setting_of s = record { image = record { memory = s.memory.items; entry = s.entry }; inputs = lists_of s.inputs.items; schedule = s.schedule.items }

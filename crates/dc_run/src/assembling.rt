@@ -1,11 +1,11 @@
-ghost use Rattle.std.specs.Prelude.{◌≡◌, ◌≤◌, ◌⊎◌, Err, Some, false, true, IfErr, IfSome, IsErrOf, IsOkAnd, OnOk};
+ghost use Rattle.std.specs.Prelude.{◌≡◌, ◌≤◌, ◌⊎◌, Err, Some, false, true, IfErr, IfSome, IsErrOf, IsSome, IsOkAnd, OnOk};
 ghost use Rattle.dc_media.specs.Causes.{Rose};
 ghost use Rattle.dc_media.specs.Told.{TellsOn};
 ghost use Rattle.dc_run.specs.Assembling.{IsAssembled, IsMade, IsWritten, program_in};
 ghost use Rattle.dc_run.specs.Commands.{IsExact, IsOpenedFor};
 ghost use Rattle.dc_run.specs.Opening.{Files};
 ghost use Rattle.dc_run.specs.Outcomes.{IsNothing};
-ghost use Rattle.dc_run.specs.Settings.{is_refusal, was_opened};
+ghost use Rattle.dc_run.specs.Settings.{LibraryKept, is_refusal, was_opened};
 ghost use Rattle.dc_run.specs.declared.verdict.Verdict.{Verdict as Verdicts};
 ghost use Rattle.dc_run.specs.declared.verdict.Which.{Which as Whose};
 
@@ -20,8 +20,10 @@ fn file_of<L: Library>(alloc: Global, source: &str, lib: &mut L) -> Result<Vec<u
     ensures told { (files : Files) → L.files lib.old ≡ Some files → IsMade result (program_in files source.now) }
     ensures closed { IfErr result (λ v. was_opened v ≡ false) }
     ensures which { (w : Whose) → IsErrOf result (Verdict.LibraryFault w) → w ≡ Which.Source }
+    ensures there { (files : Files) (w : Whose) → L.files lib.old ≡ Some files → IsErrOf result (Verdict.LibraryFault w) → IsSome (files source.now) }
     ensures fault { (w : Whose) → IsErrOf result (Verdict.LibraryFault w) → Rose (L.faults lib.old) (L.faults lib.new) }
     ensures asked { ¬ (result ≡ Err Verdict.Usage) }
+    ensures library { LibraryKept (L.files lib.old) (L.files lib.new) (L.faults lib.old) (L.faults lib.new) }
 {
     let text = fetch(alloc, lib, Which::Source, source)?;
     match assemble(alloc, &text) {
@@ -37,6 +39,8 @@ fn write_file<O: Sink>(alloc: Global, file: &[u8], out: &mut O) -> Outcome
     ensures opened { was_opened result.verdict ≡ true }
     ensures own { ¬ (result.verdict ≡ Verdict.SinkFault Outlet.Report) }
     ensures fault { result.verdict ≡ Verdict.SinkFault Outlet.Out → Rose (O.faults out.old) (O.faults out.new) }
+    ensures did { ¬ (result.did ≡ Did.Run) }
+    ensures later { O.faults out.old ≤ O.faults out.new }
     ensures tells { TellsOn 0 (O.faults out.new) (O.held out.old) (O.held out.new) }
 {
     let verdict = match write_whole(out, file) {
@@ -62,10 +66,14 @@ pub fn assemble_source<L: Library, O: Sink>(
         IsAssembled program result (O.held out.old) (O.held out.new))) }
     ensures asked { ¬ (result.verdict ≡ Verdict.Usage) }
     ensures which { (w : Whose) → result.verdict ≡ Verdict.LibraryFault w → w ≡ Which.Source }
+    ensures there { (w : Whose) → IfSome (L.files lib.old) (λ files. result.verdict ≡ Verdict.LibraryFault w → IsSome (files source.now)) }
     ensures library_fault { (w : Whose) → result.verdict ≡ Verdict.LibraryFault w → Rose (L.faults lib.old) (L.faults lib.new) }
     ensures output_fault { result.verdict ≡ Verdict.SinkFault Outlet.Out → Rose (O.faults out.old) (O.faults out.new) }
     ensures own { ¬ (result.verdict ≡ Verdict.SinkFault Outlet.Report) }
     ensures unopened { was_opened result.verdict ≡ false → IsNothing result × (out.new ≡ out.old) }
+    ensures did { was_opened result.verdict ≡ true → ¬ (result.did ≡ Did.Run) }
+    ensures library { LibraryKept (L.files lib.old) (L.files lib.new) (L.faults lib.old) (L.faults lib.new) }
+    ensures later { O.faults out.old ≤ O.faults out.new }
     ensures tells { TellsOn 0 (O.faults out.new) (O.held out.old) (O.held out.new) }
 {
     match file_of(alloc, source, lib) {

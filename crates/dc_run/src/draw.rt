@@ -1,14 +1,13 @@
 ghost use Rattle.std.specs.Prelude.{◌≡◌};
 ghost use Rattle.dc_events.specs.declared.event.Kind.TheVariants as kinds;
-ghost use Rattle.dc_plain.specs.Answers.{answer_of};
+ghost use Rattle.dc_guest.specs.Answers.{answer_of};
 ghost use Rattle.dc_run.specs.Answers.{alone, draw_of};
 
 use dc_events::Kind;
+use dc_guest::Answer;
 use dc_links::Message;
-use dc_plain::{Answer, Environment};
 
-/// What a turn of a guest that runs alone is answered from: its word, its clock, and the records of the input with the place of
-/// the next one.
+/// What a turn of a guest that runs alone is answered from: its word, its clock, and the inputs with the place of the next one.
 #[derive(Clone, Copy)]
 pub struct Draw<'a> {
     pub word: u32,
@@ -17,10 +16,11 @@ pub struct Draw<'a> {
     pub place: u32,
 }
 
-impl Environment for Draw<'_> {
-    ghost gives = { λ d kind. alone (draw_of d) kind };
-
-    fn answer(&self, kind: Kind) -> Answer {
+impl Draw<'_> {
+    /// What an event of that kind is answered.
+    pub fn answer(&self, kind: Kind) -> Answer
+        ensures { answer_of result ≡ alone (draw_of self.now) kind }
+    {
         match kind {
             Kind::Clock => Answer::Clock(self.clock),
             Kind::Random => Answer::Random(self.word),
@@ -31,10 +31,8 @@ impl Environment for Draw<'_> {
             Kind::Send => Answer::Plain,
         }
     }
-}
 
-impl Draw<'_> {
-    /// An odd word takes the next record, or says that there is none.
+    /// An odd word takes the next input, or says that there is none.
     fn input(&self) -> Answer
         ensures { answer_of result ≡ alone (draw_of self.now) kinds.Input }
     {

@@ -10,15 +10,13 @@ mod program;
 mod reserved;
 mod schedule;
 mod setting;
-#[cfg(test)]
-mod tests;
 mod verdict;
 mod world;
 
 pub use dc_asm::{AsmFault, AsmKind};
 pub use dc_elf::ElfFault;
 pub use dc_plan::{Key, PlanFault};
-pub use outcome::Outcome;
+pub use outcome::{Outcome, conclude};
 pub use program::dc;
 pub use reserved::Reserved;
 pub use verdict::{Did, LineFault, Outlet, ScheduleFault, Unread, Verdict, Which};

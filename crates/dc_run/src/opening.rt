@@ -1,11 +1,11 @@
-ghost use Rattle.std.specs.Prelude.{◌≡◌, ◌≤◌, ◌⊎◌, ◌%◌, false, None, Some, Err, All, IfErr, IfOk, IsErrOf, OnOk, length};
+ghost use Rattle.std.specs.Prelude.{◌≡◌, ◌≤◌, ◌⊎◌, ◌%◌, false, None, Some, Err, All, IfErr, IfOk, IsErrOf, IsSome, OnOk, length};
 ghost use Rattle.dc_media.specs.Causes.{Rose};
-ghost use Rattle.dc_elf.specs.Files.{fault_of};
+ghost use Rattle.dc_elf.specs.Files.{file_fault};
 ghost use Rattle.dc_run.specs.Opening.{AsksAtGuest, AsksAtPlan, AsksToRun, Files, file_in, opening_of, opening_at_plan, opening_at_guest, opening_at_end, guest_in, plan_in};
 ghost use Rattle.dc_plan.specs.Allowed.{IsAllowed};
 ghost use Rattle.dc_plan.specs.Plans.{plan_of, plan_view};
 ghost use Rattle.dc_run.specs.Schedules.{process_of};
-ghost use Rattle.dc_run.specs.Settings.{Agrees, setting_of, was_opened};
+ghost use Rattle.dc_run.specs.Settings.{Agrees, LibraryKept, setting_of, was_opened};
 ghost use Rattle.dc_plain.specs.Playing.{seen_image};
 ghost use Rattle.dc_run.specs.declared.verdict.Which.{Which as Whose};
 
@@ -29,8 +29,9 @@ pub fn fetch<L: Library>(
     ensures closed { IfErr result (λ v. was_opened v ≡ false) }
     ensures asked { ¬ (result ≡ Err Verdict.Usage) }
     ensures which { (w : Whose) → IsErrOf result (Verdict.LibraryFault w) → w ≡ which }
+    ensures there { (files : Files) (w : Whose) → L.files lib.old ≡ Some files → IsErrOf result (Verdict.LibraryFault w) → IsSome (files name.now) }
     ensures fault { (w : Whose) → IsErrOf result (Verdict.LibraryFault w) → Rose (L.faults lib.old) (L.faults lib.new) }
-    ensures later { L.faults lib.old ≤ L.faults lib.new }
+    ensures library { LibraryKept (L.files lib.old) (L.files lib.new) (L.faults lib.old) (L.faults lib.new) }
 {
     match lib.fetch(alloc, name) {
         Ok(bytes) => Ok(bytes),
@@ -45,7 +46,7 @@ fn image_in(alloc: Global, file: &[u8], size: u32) -> Result<Image, Verdict>
     ensures told { Agrees seen_image result (guest_in size file.now) }
     ensures long { IfOk result (λ image. length image.memory.items ≡ size) }
     ensures aligned { IfOk result (λ image. image.entry % 4 ≡ 0) }
-    ensures right { OnOk result (fault_of file.now size ≡ None) }
+    ensures right { OnOk result (file_fault file.now size ≡ None) }
     ensures closed { IfErr result (λ v. was_opened v ≡ false) }
     ensures asked { ¬ (result ≡ Err Verdict.Usage) }
     ensures sound { (w : Whose) → IsErrOf result (Verdict.LibraryFault w) → ⊥ }
@@ -105,9 +106,10 @@ fn open_guest<L: Library>(
     ensures told { (files : Files) → L.files lib.old ≡ Some files → Agrees setting_of result (opening_at_guest files (plan_view plan) file.now) }
     ensures closed { IfErr result (λ v. was_opened v ≡ false) }
     ensures asked { ¬ (result ≡ Err Verdict.Usage) }
-    ensures reached { (w : Whose) → IsErrOf result (Verdict.LibraryFault w) → AsksAtGuest (plan_view plan) file.now w }
+    ensures reached { (files : Files) (w : Whose) → L.files lib.old ≡ Some files → IsErrOf result (Verdict.LibraryFault w) →
+        AsksAtGuest files (plan_view plan) file.now w }
     ensures fault { (w : Whose) → IsErrOf result (Verdict.LibraryFault w) → Rose (L.faults lib.old) (L.faults lib.new) }
-    ensures later { L.faults lib.old ≤ L.faults lib.new }
+    ensures library { LibraryKept (L.files lib.old) (L.files lib.new) (L.faults lib.old) (L.faults lib.new) }
 {
     let image = image_in(alloc, file, plan.memory)?;
     let text = fetch(alloc, lib, Which::Schedule, &plan.schedule)?;
@@ -122,7 +124,7 @@ fn open_plan<L: Library>(alloc: Global, lib: &mut L, text: &[u8]) -> Result<Sett
     ensures reached { (files : Files) (w : Whose) → L.files lib.old ≡ Some files → IsErrOf result (Verdict.LibraryFault w) →
         AsksAtPlan files text.now w }
     ensures fault { (w : Whose) → IsErrOf result (Verdict.LibraryFault w) → Rose (L.faults lib.old) (L.faults lib.new) }
-    ensures later { L.faults lib.old ≤ L.faults lib.new }
+    ensures library { LibraryKept (L.files lib.old) (L.files lib.new) (L.faults lib.old) (L.faults lib.new) }
 {
     let plan = plan_in(alloc, text)?;
     let file = fetch(alloc, lib, Which::Guest(0), &plan.guests[0])?;
@@ -137,7 +139,7 @@ pub fn open<L: Library>(alloc: Global, plan: &str, lib: &mut L) -> Result<Settin
     ensures reached { (files : Files) (w : Whose) → L.files lib.old ≡ Some files → IsErrOf result (Verdict.LibraryFault w) →
         AsksToRun files plan.now w }
     ensures fault { (w : Whose) → IsErrOf result (Verdict.LibraryFault w) → Rose (L.faults lib.old) (L.faults lib.new) }
-    ensures later { L.faults lib.old ≤ L.faults lib.new }
+    ensures library { LibraryKept (L.files lib.old) (L.files lib.new) (L.faults lib.old) (L.faults lib.new) }
 {
     let text = fetch(alloc, lib, Which::Plan, plan)?;
     open_plan(alloc, lib, &text)

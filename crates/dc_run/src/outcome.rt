@@ -3,6 +3,7 @@ ghost use Rattle.dc_media.specs.Causes.{HasCause};
 ghost use Rattle.dc_media.specs.Sinks.{TakesWhole};
 ghost use Rattle.dc_media.specs.Told.{TellsOn};
 ghost use Rattle.dc_plan.specs.Keys.{key_text};
+ghost use Rattle.dc_run.specs.Headline.{Concludes, course};
 ghost use Rattle.dc_run.specs.Outcomes.{IsNothing, asm_fault_text, asm_kind_text, counts_text, done_text, elf_fault_text, guest_fault_text, line_fault_text, outcome_line, outlet_text, plan_fault_text, schedule_fault_text, status_of, verdict_text, which_text};
 
 use crate::reserved::Reserved;
@@ -10,8 +11,9 @@ use crate::{
     AsmFault, AsmKind, Did, ElfFault, Key, LineFault, Outlet, PlanFault, ScheduleFault, Verdict,
     Which,
 };
+use dc_acts::Line;
 use dc_media::{Sink, SinkFailed, write_whole};
-use dc_plain::{Line, Mark, Taken};
+use dc_model::{Mark, Taken};
 use std::alloc::Global;
 
 /// What a call of the program came to, and what the run did up to then.
@@ -281,4 +283,15 @@ fn outlet_name(outlet: Outlet) -> &'static [u8]
         Outlet::Out => b"out",
         Outlet::Report => b"report",
     }
+}
+
+/// The end of a call: writes the line of its outcome to standard error, and gives the status.
+pub fn conclude<E: Sink>(outcome: &Outcome, error: &mut E) -> u8
+    ensures status { result ≡ status_of outcome.now.verdict }
+    ensures line { Concludes (outcome_line outcome.now) (course (E.held error.old) (E.held error.new) (E.faults error.old) (E.faults error.new)) }
+    ensures tells { TellsOn 0 (E.faults error.new) (E.held error.old) (E.held error.new) }
+    ensures later { E.faults error.old ≤ E.faults error.new }
+{
+    let _ = outcome.write_line(error);
+    outcome.status()
 }

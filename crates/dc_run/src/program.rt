@@ -5,11 +5,13 @@ ghost use Rattle.dc_media.specs.Causes.{Rose};
 ghost use Rattle.dc_media.specs.Told.{TellsOn};
 ghost use Rattle.dc_run.specs.Assembling.{IsAssembled};
 ghost use Rattle.dc_run.specs.Command.{asked_of};
+ghost use Rattle.dc_run.specs.Command.Asked.{ToRun};
 ghost use Rattle.dc_run.specs.Commands.{Asks, IfAssembly, IfRun, IsExact, IsOpenedFor, work_of};
-ghost use Rattle.dc_run.specs.Headline.{IsHeadline, IsReported, Reports, unreported};
+ghost use Rattle.dc_run.specs.Headline.{IsHeadline, IsReported, Reports, account_of, course, unreported};
 ghost use Rattle.dc_run.specs.Opening.{AsksToRun, opening_of};
+ghost use Rattle.dc_run.specs.Opening.{Setting as Settings};
 ghost use Rattle.dc_run.specs.Outcomes.{IsNothing, status_of};
-ghost use Rattle.dc_run.specs.Settings.{is_refusal, setting_of, was_opened};
+ghost use Rattle.dc_run.specs.Settings.{LibraryKept, is_refusal, setting_of, was_opened};
 ghost use Rattle.dc_run.specs.declared.verdict.Verdict.{Verdict as Verdicts};
 ghost use Rattle.dc_run.specs.declared.verdict.Which.{Which as Whose};
 
@@ -19,7 +21,7 @@ use crate::opening::open;
 use crate::outcome::Outcome;
 use crate::setting::Setting;
 use crate::world::World;
-use crate::{Outlet, Verdict};
+use crate::{Did, Outlet, Verdict};
 use dc_acts::write_report;
 use dc_links::Message;
 use dc_media::{Disks, Keeps, Library, Sink};
@@ -54,8 +56,14 @@ pub fn dc<L: Library, K: Keeps, D: Disks, O: Sink, R: Sink>(
 
     // What users see of a run that was opened, and its report.
     ensures headline { was_opened result.verdict ≡ true → IfSome (L.files lib.old) (λ files. IsOkAnd (work_of files words.now) (λ work. IfRun work (λ setting.
-        IsReported setting result.verdict result.acts.items result.marks.items result.lines (O.held out.old) (O.held out.new)
-        (R.faults report.old) (R.faults report.new) (R.held report.old) (R.held report.new)))) }
+        IsReported setting (account_of result) (course (O.held out.old) (O.held out.new) (O.faults out.old) (O.faults out.new))
+        (course (R.held report.old) (R.held report.new) (R.faults report.old) (R.faults report.new))))) }
+
+    // The same where the files are not told: there is a setting of which it holds. A call that runs a plan says that it ran.
+    ensures ran { was_opened result.verdict ≡ true → result.did ≡ Did.Run → (setting : Settings) ×
+        IsReported setting (account_of result) (course (O.held out.old) (O.held out.new) (O.faults out.old) (O.faults out.new))
+        (course (R.held report.old) (R.held report.new) (R.faults report.old) (R.faults report.new)) }
+    ensures did { (plan : List ℕ) → asked_of words.now ≡ Some (ToRun plan) → result.did ≡ Did.Run }
 
     // The file of a source that was assembled; its report stays.
     ensures assembled { was_opened result.verdict ≡ true → IfSome (L.files lib.old) (λ files. IsOkAnd (work_of files words.now) (λ work. IfAssembly work (λ program.
@@ -63,8 +71,11 @@ pub fn dc<L: Library, K: Keeps, D: Disks, O: Sink, R: Sink>(
 
     // What stays.
     ensures unopened { was_opened result.verdict ≡ false → IsNothing result × (out.new ≡ out.old) × (report.new ≡ report.old) }
+    ensures library { LibraryKept (L.files lib.old) (L.files lib.new) (L.faults lib.old) (L.faults lib.new) }
     ensures tells { TellsOn 0 (O.faults out.new) (O.held out.old) (O.held out.new) }
     ensures report_tells { TellsOn 0 (R.faults report.new) (R.held report.old) (R.held report.new) }
+    ensures output_later { O.faults out.old ≤ O.faults out.new }
+    ensures report_later { R.faults report.old ≤ R.faults report.new }
     ensures keeps { keeps.new ≡ keeps.old }
     ensures disks { disks.new ≡ disks.old }
 {
@@ -91,11 +102,18 @@ fn run_plan<L: Library, O: Sink, R: Sink>(
     ensures output_fault { result.verdict ≡ Verdict.SinkFault Outlet.Out → Rose (O.faults out.old) (O.faults out.new) }
     ensures report_fault { result.verdict ≡ Verdict.SinkFault Outlet.Report → Rose (R.faults report.old) (R.faults report.new) }
     ensures headline { was_opened result.verdict ≡ true → IfSome (L.files lib.old) (λ files. IsOkAnd (opening_of files plan.now) (λ setting.
-        IsReported setting result.verdict result.acts.items result.marks.items result.lines (O.held out.old) (O.held out.new)
-        (R.faults report.old) (R.faults report.new) (R.held report.old) (R.held report.new))) }
+        IsReported setting (account_of result) (course (O.held out.old) (O.held out.new) (O.faults out.old) (O.faults out.new))
+        (course (R.held report.old) (R.held report.new) (R.faults report.old) (R.faults report.new)))) }
+    ensures ran { was_opened result.verdict ≡ true → (setting : Settings) ×
+        IsReported setting (account_of result) (course (O.held out.old) (O.held out.new) (O.faults out.old) (O.faults out.new))
+        (course (R.held report.old) (R.held report.new) (R.faults report.old) (R.faults report.new)) }
+    ensures did { result.did ≡ Did.Run }
     ensures unopened { was_opened result.verdict ≡ false → IsNothing result × (out.new ≡ out.old) × (report.new ≡ report.old) }
+    ensures library { LibraryKept (L.files lib.old) (L.files lib.new) (L.faults lib.old) (L.faults lib.new) }
     ensures tells { TellsOn 0 (O.faults out.new) (O.held out.old) (O.held out.new) }
     ensures report_tells { TellsOn 0 (R.faults report.new) (R.held report.old) (R.held report.new) }
+    ensures output_later { O.faults out.old ≤ O.faults out.new }
+    ensures report_later { R.faults report.old ≤ R.faults report.new }
 {
     let setting = match open(alloc, plan, lib) {
         Ok(setting) => setting,
@@ -107,24 +125,26 @@ fn run_plan<L: Library, O: Sink, R: Sink>(
     }
 }
 
-/// The records of the first guest's input.
+/// The inputs of the first guest.
 fn first_of(alloc: Global, inputs: Vec<Vec<Message>>) -> Vec<Message>
     ensures { result.items ≡ unwrap_or (slice_get (lists_of inputs.items) 0) [] }
 {
     match inputs.into_iter().next() {
-        Some(records) => records,
+        Some(first) => first,
         None => Vec::new(alloc),
     }
 }
 
 /// Runs an opened guest through its schedule.
 fn carry_out<O: Sink>(alloc: Global, setting: Setting, out: &mut O) -> Result<Outcome, AllocError>
-    ensures headline { IfOk result (λ o. IsHeadline (setting_of setting) o.verdict o.acts.items o.marks.items o.lines (O.held out.old) (O.held out.new)) }
+    ensures headline { IfOk result (λ o. IsHeadline (setting_of setting) (account_of o) (O.held out.old) (O.held out.new)) }
     ensures opened { IfOk result (λ o. was_opened o.verdict ≡ true) }
     ensures own { IfOk result (λ o. ¬ (o.verdict ≡ Verdict.SinkFault Outlet.Report)) }
     ensures few { IfOk result (λ o. length o.marks.items < 2 ^ 32) }
     ensures output_fault { IfOk result (λ o. o.verdict ≡ Verdict.SinkFault Outlet.Out → Rose (O.faults out.old) (O.faults out.new)) }
     ensures unopened { OnErr result (out.new ≡ out.old) }
+    ensures did { IfOk result (λ o. o.did ≡ Did.Run) }
+    ensures later { O.faults out.old ≤ O.faults out.new }
     ensures tells { TellsOn 0 (O.faults out.new) (O.held out.old) (O.held out.new) }
 {
     let Setting {
@@ -133,8 +153,8 @@ fn carry_out<O: Sink>(alloc: Global, setting: Setting, out: &mut O) -> Result<Ou
         inputs,
         schedule,
     } = setting;
-    let records = first_of(alloc, inputs);
-    let mut world = World::open(alloc, memory, entry, records, schedule.len())?;
+    let first = first_of(alloc, inputs);
+    let mut world = World::open(alloc, memory, entry, first, schedule.len())?;
     match world.run(&schedule, out) {
         Err(_) => Ok(world.outcome(Verdict::SinkFault(Outlet::Out))),
         Ok(()) => {
@@ -161,11 +181,13 @@ fn unreported(verdict: Verdict) -> Verdict
 /// Writes the report of a run.
 fn reported<R: Sink>(outcome: Outcome, report: &mut R) -> Outcome
     requires { length outcome.marks.items < 2 ^ 32 }
-    ensures told { Reports outcome.verdict result.verdict (report_text (status_of outcome.verdict) (length outcome.marks.items) outcome.acts.items outcome.lines)
-        (R.faults report.old) (R.faults report.new) (R.held report.old) (R.held report.new) }
+    ensures reports { Reports outcome.verdict result.verdict (report_text (status_of outcome.verdict) (length outcome.marks.items) outcome.acts.items outcome.lines)
+        (course (R.held report.old) (R.held report.new) (R.faults report.old) (R.faults report.new)) }
     ensures acts { result.acts ≡ outcome.acts }
     ensures marks { result.marks ≡ outcome.marks }
     ensures lines { result.lines ≡ outcome.lines }
+    ensures did { result.did ≡ outcome.did }
+    ensures later { R.faults report.old ≤ R.faults report.new }
     ensures tells { TellsOn 0 (R.faults report.new) (R.held report.old) (R.held report.new) }
 {
     let written = write_report(

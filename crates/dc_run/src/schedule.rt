@@ -2,7 +2,7 @@ ghost use Rattle.std.specs.Prelude.{◌≡◌, ◌≤◌, ◌<◌, All, IfOk, le
 ghost use Rattle.dc_run.specs.Schedules.{Reads, clock_of, entry_of, process_of, schedule_of, turn_of};
 
 use crate::{LineFault, ScheduleFault, Unread};
-use dc_plain::Entry;
+use dc_model::Entry;
 use dc_words::{NumberFault, first_field, first_line, read_number};
 use std::alloc::Global;
 

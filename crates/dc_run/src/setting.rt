@@ -2,7 +2,7 @@ ghost use Rattle.std.specs.Prelude.{◌≡◌, ◌≤◌, ◌%◌, All, length};
 ghost use Rattle.dc_run.specs.Schedules.{process_of};
 
 use dc_links::Message;
-use dc_plain::Entry;
+use dc_model::Entry;
 
 /// What a run is opened with: its guest's memory and entry, the records of each guest's input, and its schedule.
 #[derive(Drop)]

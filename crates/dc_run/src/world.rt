@@ -2,33 +2,38 @@ ghost use Rattle.std.specs.Prelude.{false, ◌≡◌, ◌≤◌, ◌<◌, ◌+�
 ghost use Rattle.dc_media.specs.Causes.{HasCause};
 ghost use Rattle.dc_media.specs.Sinks.{TakesWhole};
 ghost use Rattle.dc_media.specs.Told.{TellsOn};
-ghost use Rattle.dc_plain.specs.Answers.{effect_of};
-ghost use Rattle.dc_plain.specs.Lines.{visible_line};
-ghost use Rattle.dc_run.specs.Answers.{draw_of, turn_draws};
+ghost use Rattle.dc_events.specs.Kinds.{kind_of};
+ghost use Rattle.dc_guest.specs.Answers.{answer_of, effect_of};
+ghost use Rattle.dc_acts.specs.Lines.{visible_line};
+ghost use Rattle.dc_run.specs.Answers.{alone, draw_of, turn_draws};
 ghost use Rattle.dc_run.specs.Running.{Takes, GoesOn, BreaksOff, HasRoom, IsRunning, RunsOn, RunsInto};
 ghost use Rattle.dc_run.specs.Schedules.{process_of};
-ghost use Rattle.dc_plain.specs.Guest.{coming, guests_of};
-ghost use Rattle.dc_plain.specs.declared.entry.Entry.{Entry as Entries};
+ghost use Rattle.dc_guest.specs.Guest.{after_answer, coming, guests_of, next_of};
+ghost use Rattle.dc_model.specs.declared.entry.Entry.{Entry as Entries};
 
 use crate::draw::Draw;
 use crate::outcome::Outcome;
 use crate::reserved::Reserved;
 use crate::{Did, Verdict};
+use dc_acts::line_of;
+use dc_events::Next;
+use dc_guest::{Answer, Effect};
 use dc_links::Message;
 use dc_media::{Sink, SinkFailed, write_whole};
-use dc_plain::{Effect, Entry, Guest, Idle, Mark, Taken, Visible, line_of, words_in};
+use dc_model::{Entry, Idle, Mark, Taken, Visible};
+use dc_plain::{HostedGuest, words_in};
 use std::alloc::{AllocError, Global};
 
 /// The guest of a run, with what it did so far.
 #[derive(Drop)]
 pub struct World {
-    pub guest: Guest,
-    /// The records of its input.
+    pub guest: HostedGuest,
+    /// Its inputs.
     pub inputs: Vec<Message>,
     /// How many of them it has taken.
     pub place: u32,
-    /// How many records it has shown.
-    pub shown: u32,
+    /// How many visible events it had.
+    pub visible: u32,
     pub acts: Reserved<Taken>,
     pub marks: Reserved<Mark>,
     /// How many whole lines were written.
@@ -44,7 +49,7 @@ fn process(entry: &Entry) -> u32
     }
 }
 
-/// What a turn is answered from, with these records of the input, of which the one at a place is the next.
+/// What a turn is answered from, with these inputs, of which the one at a place is the next.
 fn draw<'a>(entry: &Entry, records: &'a [Message], place: u32) -> Draw<'a>
     ensures { draw_of result ≡ turn_draws entry.now (slice_get records.now place) }
 {
@@ -67,8 +72,25 @@ fn show<O: Sink>(visible: &Visible, out: &mut O) -> Result<(), SinkFailed>
     write_whole(out, line_of(visible).as_slice())
 }
 
+/// Takes the next event of a guest: what it was answered, and what others see of it.
+fn turn_of(guest: &mut HostedGuest, draw: &Draw) -> (Answer, Effect)
+    requires { guest.old.ended ≡ false }
+    ensures answer { answer_of result.0 ≡ alone (draw_of draw.now) (kind_of (next_of guest.old)) }
+    ensures effect { result.1 ≡ effect_of (coming guest.old) }
+    ensures after { guest.new ≡ after_answer guest.old (answer_of result.0) }
+{
+    match guest.next() {
+        Next::Retire => (Answer::Plain, Effect::Nothing),
+        next => {
+            let answer = draw.answer(next.kind());
+            let effect = guest.take(&next, &answer);
+            (answer, effect)
+        }
+    }
+}
+
 impl World {
-    /// A guest that begins with this memory at this entry, with these records as its input, and with room for so many turns.
+    /// A guest that begins with this memory at this entry, with these inputs, and with room for so many turns.
     pub fn open(
         alloc: Global,
         memory: Vec<u8>,
@@ -92,10 +114,10 @@ impl World {
         let mut marks = Reserved::new(alloc);
         marks.reserve(entries)?;
         Ok(World {
-            guest: Guest::new(0, 1, words, entry),
+            guest: HostedGuest::new(0, 1, words, entry),
             inputs,
             place: 0,
-            shown: 0,
+            visible: 0,
             acts,
             marks,
             lines: 0,
@@ -113,13 +135,13 @@ impl World {
     {
         let t = self.marks.as_slice().len() as u32;
         let drawn = draw(entry, &self.inputs, self.place);
-        let (answer, effect) = self.guest.turn(&drawn);
+        let (answer, effect) = turn_of(&mut self.guest, &drawn);
         self.acts.push(Taken {
             t,
             p: process(entry),
             act: answer.act(),
         });
-        self.place += answer.records();
+        self.place += answer.inputs();
         effect
     }
 
@@ -147,10 +169,10 @@ impl World {
             Effect::Shows(body) => {
                 let visible = Visible {
                     p: process(entry),
-                    k: self.shown,
+                    k: self.visible,
                     body,
                 };
-                self.shown += 1;
+                self.visible += 1;
                 show(&visible, out)?;
                 self.lines += 1;
                 self.marks.push(Mark::Showed(visible.k));

@@ -1,6 +1,9 @@
 -- Bytes copied one after the other.
-use Rattle.std.proofs.Common.{◌≡◌, ◌∙◌, ◌+◌, ◌-◌, ◌<◌, ◌≤◌, ◌∷◌, ◌++◌, ℕ, List, [], length, drop, take, set, slice_index, ap, sym, arith, length-append, length-drop, length-take-le}
+use Rattle.std.proofs.Common.{Option, None, Some, IfSome, ◌*◌, ◌≡◌, ◌∙◌, ◌+◌, ◌-◌, ◌<◌, ◌≤◌, ◌∷◌, ◌++◌, ℕ, List, [], length, drop, take, set, slice_index, ap, sym, arith, length-append, length-drop, length-take-le}
 use Rattle.std.proofs.lemmas.List.{append-nil, append_assoc, drop-drop, drop_at, drop_more, get_or-drop, set_at, take-append-drop, take_at, take_more}
+use Rattle.dc_words.specs.Words.{bytes_in}
+use Rattle.dc_words.proofs.Bytes.{bytes_long}
+use Rattle.dc_media.specs.Told.{Becomes}
 use Rattle.dc_rv32.specs.Words.{with_bytes}
 
 -- one byte more
@@ -54,3 +57,23 @@ nothing_left memory a = ap (λ n. take a memory ++ [] ++ drop n memory) none ∙
   where
     none : a + 0 ≡ a
     none = omega arith
+
+-- the same where the memory is told
+pub read_told : (told : Option (List ℕ)) (count : ℕ) (to old : List ℕ) (from i x : ℕ) → i < length old → from + length old ≤ 4 * count
+    → IfSome told (λ words. length words ≡ count) → IfSome told (λ words. x ≡ slice_index (bytes_in words) (from + i))
+    → IfSome told (λ words. to ≡ take i (drop from (bytes_in words)) ++ drop i old)
+    → IfSome told (λ words. set to i x ≡ take (i + 1) (drop from (bytes_in words)) ++ drop (i + 1) old)
+read_told None count to old from i x more within long is so_far = tt
+read_told (Some words) count to old from i x more within long is so_far =
+    read_more (bytes_in words) to old from i x more (omega (arith, bytes_long words, within, long)) is so_far
+
+pub part_told : (first now new : Option (List ℕ)) (count : ℕ) (bytes rest front back : List ℕ) (start at n : ℕ)
+    → Becomes first now (λ f w. with_bytes (bytes_in f) start bytes ≡ with_bytes (bytes_in w) at rest)
+    → rest ≡ front ++ back → length front ≡ n → at + length front ≤ 4 * count → IfSome now (λ words. length words ≡ count)
+    → Becomes now new (λ w v. bytes_in v ≡ with_bytes (bytes_in w) at front)
+    → Becomes first new (λ f v. with_bytes (bytes_in f) start bytes ≡ with_bytes (bytes_in v) (at + n) back)
+part_told first now None count bytes rest front back start at n whole parts size within long written = tt
+part_told first None (Some v) count bytes rest front back start at n whole parts size within long written = absurd written
+part_told None (Some w) (Some v) count bytes rest front back start at n whole parts size within long written = absurd whole
+part_told (Some f) (Some w) (Some v) count bytes rest front back start at n whole parts size within long written =
+    part_written (bytes_in f) (bytes_in w) (bytes_in v) bytes rest front back start at n whole parts size (omega (arith, bytes_long w, within, long)) written

@@ -1,3 +1,4 @@
+pub mod Stores
 pub mod Words
 pub mod Arithmetic
 pub mod Access

@@ -1,6 +1,6 @@
 -- The machine: 32 registers, a pc and a memory of bytes from address 0; what each instruction does to it
 -- (RISC-V unprivileged manual, RV32I 2.1).
-use Rattle.std.specs.Prelude.{ℕ, ◌+◌, ◌*◌, ◌/◌, ◌%◌, ◌==◌, Bool, false, true, List, length, Option, None, Some, Result, Ok, Err, if◌then◌else◌, not, nat_lt, slice_index, slice_set}
+use Rattle.std.specs.Prelude.{ℕ, ◌≤◌, ◌+◌, ◌*◌, ◌/◌, ◌%◌, ◌==◌, Bool, false, true, List, length, Option, None, Some, Result, Ok, Err, if◌then◌else◌, not, nat_lt, slice_index, slice_set}
 use Rattle.dc_isa.specs.Fields.{extended}
 use Rattle.dc_isa.specs.Decoded.{decoded}
 use Rattle.dc_isa.specs.declared.instr.LoadOp.{LoadOp}
@@ -15,6 +15,7 @@ use Rattle.dc_rv32.specs.Words.{with_bytes}
 use Rattle.dc_rv32.specs.declared.machine.Stepped.{Stepped}
 use Rattle.dc_rv32.specs.declared.machine.Stepped.TheVariants.{Retired, Call, Trap}
 
+-- registers, pc, and the bytes of memory from address 0
 pub record Machine : Type 0 where
   pub registers : List ℕ
   pub pc : ℕ
@@ -28,9 +29,11 @@ machine_of regs words = record { registers = regs.x; pc = regs.pc; memory = byte
 abbrev pub written : List ℕ → ℕ → ℕ → List ℕ
 written registers rd w = if rd == 0 then registers else slice_set registers rd w
 
+-- the address behind the instruction at pc
 abbrev pub next_pc : Machine → ℕ
 next_pc m = sum_of m.pc 4
 
+-- the word of a register
 abbrev pub register : Machine → ℕ → ℕ
 register m r = slice_index m.registers r
 
@@ -50,11 +53,13 @@ jumping m rd target = if target % 4 == 0 then (record m { registers = written m.
 abbrev pub branching : Machine → Bool → ℕ → Machine × Stepped
 branching m taken target = if taken then jumping m 0 target else (record m { pc = next_pc m }, Retired)
 
+-- a load: traps in their order, else the register is written
 abbrev pub loading : Machine → LoadOp → ℕ → ℕ → Machine × Stepped
 loading m op rd a = if not (a % load_width op == 0) then (m, Trap 4)
     else if nat_lt (length m.memory) (a + load_width op) then (m, Trap 5)
     else writing m rd (loaded op m.memory a)
 
+-- a store: traps in their order, else the bytes are written
 abbrev pub storing : Machine → StoreOp → ℕ → ℕ → Machine × Stepped
 storing m op a w = if not (a % store_width op == 0) then (m, Trap 6)
     else if nat_lt (length m.memory) (a + store_width op) then (m, Trap 7)
@@ -94,6 +99,11 @@ abbrev pub UnlessRetired : Stepped → Type 0 → Type 0
 UnlessRetired Retired fact = Unit {0}
 UnlessRetired Call fact = fact
 UnlessRetired (Trap cause) fact = fact
+
+-- the causes of traps are 0 to 7
+abbrev pub IsCause : Stepped → Type 0
+IsCause (Trap cause) = cause ≤ 7
+IsCause _ = Unit {0}
 
 -- whether a step is a call
 abbrev pub is_call : Stepped → Bool

@@ -8,6 +8,8 @@ mod bytes;
 mod machine;
 mod memory;
 #[cfg(test)]
+mod seams;
+#[cfg(test)]
 mod tests;
 
 pub use bus::Bus;

@@ -1,7 +1,9 @@
-ghost use Rattle.std.specs.Prelude.{◌≡◌, ◌≤◌, ◌<◌, ◌+◌, ◌*◌, ◌/◌, ◌%◌, ◌^◌, ℕ, List, length, IfOk, OnErr, OnOk, slice_index};
+ghost use Rattle.std.specs.Prelude.{◌≡◌, ◌≤◌, ◌<◌, ◌+◌, ◌*◌, ◌/◌, ◌%◌, ◌^◌, ℕ, List, length, IfErr, IfOk, IfSome, OnErr, OnOk, slice_index};
 ghost use Rattle.dc_isa.specs.Fields.{extended};
 ghost use Rattle.dc_isa.specs.Table.{Fits};
-ghost use Rattle.dc_rv32.specs.Machine.{after_fetch, is_call, machine_of, meaning, stepped, written, UnlessRetired};
+ghost use Rattle.dc_rv32.specs.Machine.{after_fetch, is_call, machine_of, meaning, stepped, written, IsCause, UnlessRetired};
+ghost use Rattle.dc_media.specs.Told.{Becomes};
+ghost use Rattle.dc_rv32.specs.Stores.{OnceAtMost};
 
 use crate::Bus;
 use crate::arithmetic::{of_immediate, of_registers, of_shift, of_upper, sign_extended};
@@ -62,16 +64,20 @@ fn address(regs: &Regs, rs1: u32, imm: u32) -> u32
 
 /// Runs an instruction.
 fn run<B: Bus>(regs: &mut Regs, bus: &mut B, instr: &Instr) -> Result<Stepped, B::Stop>
-    requires { Fits instr.now }
-    ensures meaning { IfOk result (λ s. (machine_of regs.new (B.memory bus.new), s)
-        ≡ meaning instr.now (machine_of regs.old (B.memory bus.old))) }
-    ensures long { length (B.memory bus.new) ≡ length (B.memory bus.old) }
-    ensures stopped { OnErr result (B.stops bus.old < B.stops bus.new) }
-    ensures later { B.stops bus.old ≤ B.stops bus.new }
+    requires fits { Fits instr.now }
+    requires live { B.live bus.old }
+    ensures meaning { IfOk result (λ s. Becomes (B.told bus.old) (B.told bus.new) (λ before after. (machine_of regs.new after, s) ≡ meaning instr.now (machine_of regs.old before))) }
+    ensures was { IfOk result (λ s. IfSome (B.told bus.old) (λ words. s ≡ (meaning instr.now (machine_of regs.old words)).1)) }
+    ensures count { B.count bus.new ≡ B.count bus.old }
+    ensures live { OnOk result (B.live bus.new) }
+    ensures once { OnOk result (OnceAtMost B.made bus.old bus.new) }
+    ensures refused { IfErr result (λ why. (i : ℕ) × B.refused bus.old i bus.new why) }
+    ensures reached { OnErr result (IfSome (B.told bus.old) (λ words. (meaning instr.now (machine_of regs.old words)).1 ≡ Stepped.Retired)) }
     ensures kept { OnErr result (regs.new ≡ regs.old) }
     ensures aligned { OnOk result (regs.old.pc % 4 ≡ 0 → regs.new.pc % 4 ≡ 0) }
     ensures zero { slice_index regs.old.x 0 ≡ 0 → slice_index regs.new.x 0 ≡ 0 }
-    ensures unchanged { IfOk result (λ s. UnlessRetired s ((regs.new ≡ regs.old) × (B.memory bus.new ≡ B.memory bus.old))) }
+    ensures cause { IfOk result IsCause }
+    ensures unchanged { IfOk result (λ s. UnlessRetired s ((regs.new ≡ regs.old) × (bus.new ≡ bus.old))) }
 {
     match *instr {
         Instr::Upper { op, rd, imm } => Ok(retire(regs, rd, of_upper(op, regs.pc, imm))),
@@ -115,8 +121,10 @@ fn run<B: Bus>(regs: &mut Regs, bus: &mut B, instr: &Instr) -> Result<Stepped, B
 
 /// The instruction at pc, or the cause of the trap there.
 fn fetch<B: Bus>(regs: &Regs, bus: &B) -> Result<Instr, u32>
-    ensures fetched { let m = machine_of regs.now (B.memory bus.now) in stepped m ≡ after_fetch result m }
+    requires live { B.live bus.now }
+    ensures fetched { IfSome (B.told bus.now) (λ words. stepped (machine_of regs.now words) ≡ after_fetch result (machine_of regs.now words)) }
     ensures fits { IfOk result Fits }
+    ensures cause { IfErr result (λ cause. cause ≤ 7) }
 {
     if u64::from(regs.pc) + 4 > u64::from(bus.size()) {
         return Err(NO_WORD);
@@ -129,7 +137,8 @@ fn fetch<B: Bus>(regs: &Regs, bus: &B) -> Result<Instr, u32>
 
 /// Whether the next step is a call. It looks at the word at pc and runs nothing.
 pub fn is_call<B: Bus>(regs: &Regs, bus: &B) -> bool
-    ensures { result ≡ is_call (stepped (machine_of regs.now (B.memory bus.now))).1 }
+    requires live { B.live bus.now }
+    ensures { IfSome (B.told bus.now) (λ words. result ≡ is_call (stepped (machine_of regs.now words)).1) }
 {
     match fetch(regs, bus) {
         Ok(Instr::Ecall) => true,
@@ -139,14 +148,19 @@ pub fn is_call<B: Bus>(regs: &Regs, bus: &B) -> bool
 
 /// One step of the machine. A pc that is a multiple of four stays one.
 pub fn step<B: Bus>(regs: &mut Regs, bus: &mut B) -> Result<Stepped, B::Stop>
-    ensures stepped { IfOk result (λ s. (machine_of regs.new (B.memory bus.new), s) ≡ stepped (machine_of regs.old (B.memory bus.old))) }
-    ensures long { length (B.memory bus.new) ≡ length (B.memory bus.old) }
-    ensures stopped { OnErr result (B.stops bus.old < B.stops bus.new) }
-    ensures later { B.stops bus.old ≤ B.stops bus.new }
+    requires live { B.live bus.old }
+    ensures stepped { IfOk result (λ s. Becomes (B.told bus.old) (B.told bus.new) (λ before after. (machine_of regs.new after, s) ≡ stepped (machine_of regs.old before))) }
+    ensures was { IfOk result (λ s. IfSome (B.told bus.old) (λ words. s ≡ (stepped (machine_of regs.old words)).1)) }
+    ensures count { B.count bus.new ≡ B.count bus.old }
+    ensures live { OnOk result (B.live bus.new) }
+    ensures once { OnOk result (OnceAtMost B.made bus.old bus.new) }
+    ensures refused { IfErr result (λ why. (i : ℕ) × B.refused bus.old i bus.new why) }
+    ensures reached { OnErr result (IfSome (B.told bus.old) (λ words. (stepped (machine_of regs.old words)).1 ≡ Stepped.Retired)) }
     ensures kept { OnErr result (regs.new ≡ regs.old) }
     ensures aligned { regs.old.pc % 4 ≡ 0 → regs.new.pc % 4 ≡ 0 }
     ensures zero { slice_index regs.old.x 0 ≡ 0 → slice_index regs.new.x 0 ≡ 0 }
-    ensures unchanged { IfOk result (λ s. UnlessRetired s ((regs.new ≡ regs.old) × (B.memory bus.new ≡ B.memory bus.old))) }
+    ensures cause { IfOk result IsCause }
+    ensures unchanged { IfOk result (λ s. UnlessRetired s ((regs.new ≡ regs.old) × (bus.new ≡ bus.old))) }
 {
     match fetch(regs, bus) {
         Ok(instr) => run(regs, bus, &instr),

@@ -1,7 +1,9 @@
-ghost use Rattle.std.specs.Prelude.{◌≡◌, ◌<◌, ◌≤◌, ℕ, ◌+◌, ◌-◌, ◌*◌, ◌%◌, ◌^◌, length, nat_lt, take, slice_index, IfOk, OnOk, OnErr};
+ghost use Rattle.std.specs.Prelude.{◌≡◌, ◌<◌, ◌≤◌, ℕ, ◌+◌, ◌-◌, ◌*◌, ◌/◌, ◌%◌, ◌^◌, length, nat_lt, take, slice_index, IfErr, IfOk, IfSome, OnErr, OnOk};
 ghost use Rattle.dc_words.specs.Words.{bytes_in, half_at, word_at, word_bytes};
 ghost use Rattle.dc_rv32.specs.Access.{load_width, loaded, store_width, stored};
-ghost use Rattle.dc_rv32.specs.Machine.{machine_of, loading, storing, UnlessRetired};
+ghost use Rattle.dc_rv32.specs.Machine.{machine_of, loading, storing, IsCause, UnlessRetired};
+ghost use Rattle.dc_media.specs.Told.{Becomes};
+ghost use Rattle.dc_rv32.specs.Stores.{OnceAtMost};
 ghost use Rattle.dc_rv32.specs.Words.{with_bytes};
 
 use crate::Bus;
@@ -59,10 +61,11 @@ fn mask_of(width: u32) -> u32
 /// What the word at an address has from that address on.
 #[tactic(auto, using(crate::proofs::Reading::byte_is, crate::proofs::Reading::half_is, crate::proofs::Reading::word_is))]
 pub fn bits_at<B: Bus>(bus: &B, a: u32) -> u32
-    requires { a < 4 * length (B.memory bus.now) }
-    ensures byte { result % 2 ^ 8 ≡ slice_index (bytes_in (B.memory bus.now)) a }
-    ensures half { a % 2 ≡ 0 → result % 2 ^ 16 ≡ half_at (bytes_in (B.memory bus.now)) a }
-    ensures word { a % 4 ≡ 0 → result ≡ word_at (bytes_in (B.memory bus.now)) a }
+    requires at { a < 4 * B.count bus.now }
+    requires live { B.live bus.now }
+    ensures byte { IfSome (B.told bus.now) (λ words. result % 2 ^ 8 ≡ slice_index (bytes_in words) a) }
+    ensures half { IfSome (B.told bus.now) (λ words. a % 2 ≡ 0 → result % 2 ^ 16 ≡ half_at (bytes_in words) a) }
+    ensures word { IfSome (B.told bus.now) (λ words. a % 4 ≡ 0 → result ≡ word_at (bytes_in words) a) }
 {
     bus.load(a / 4) >> (8 * (a % 4))
 }
@@ -70,8 +73,9 @@ pub fn bits_at<B: Bus>(bus: &B, a: u32) -> u32
 /// What a load reads at an address.
 fn loaded<B: Bus>(bus: &B, op: LoadOp, a: u32) -> u32
     requires aligned { a % load_width op ≡ 0 }
-    requires within { a < 4 * length (B.memory bus.now) }
-    ensures { result ≡ loaded op (bytes_in (B.memory bus.now)) a }
+    requires within { a < 4 * B.count bus.now }
+    requires live { B.live bus.now }
+    ensures { IfSome (B.told bus.now) (λ words. result ≡ loaded op (bytes_in words) a) }
 {
     let bits = bits_at(bus, a);
     match op {
@@ -88,11 +92,13 @@ fn loaded<B: Bus>(bus: &B, op: LoadOp, a: u32) -> u32
 pub fn put<B: Bus>(bus: &mut B, a: u32, w: u32, width: u32) -> Result<(), B::Stop>
     requires some { 0 < width }
     requires one_word { a % 4 + width ≤ 4 }
-    requires within { a < 4 * length (B.memory bus.old) }
-    ensures stored { OnOk result (bytes_in (B.memory bus.new) ≡ with_bytes (bytes_in (B.memory bus.old)) a (take width (word_bytes w))) }
-    ensures long { length (B.memory bus.new) ≡ length (B.memory bus.old) }
-    ensures stopped { OnErr result (B.stops bus.old < B.stops bus.new) }
-    ensures later { B.stops bus.old ≤ B.stops bus.new }
+    requires within { a < 4 * B.count bus.old }
+    requires live { B.live bus.old }
+    ensures stored { OnOk result (Becomes (B.told bus.old) (B.told bus.new) (λ before after. bytes_in after ≡ with_bytes (bytes_in before) a (take width (word_bytes w)))) }
+    ensures count { B.count bus.new ≡ B.count bus.old }
+    ensures live { OnOk result (B.live bus.new) }
+    ensures made { OnOk result (B.made bus.old (a / 4) bus.new) }
+    ensures refused { IfErr result (λ why. B.refused bus.old (a / 4) bus.new why) }
 {
     let place = 8 * (a % 4);
     bus.store(a / 4, w << place, mask_of(width) << place)
@@ -100,7 +106,8 @@ pub fn put<B: Bus>(bus: &mut B, a: u32, w: u32, width: u32) -> Result<(), B::Sto
 
 /// Whether an access goes past the memory.
 fn is_past<B: Bus>(bus: &B, a: u32, width: u32) -> bool
-    ensures { result ≡ nat_lt (4 * length (B.memory bus.now)) (a + width) }
+    requires { B.live bus.now }
+    ensures { result ≡ nat_lt (4 * B.count bus.now) (a + width) }
 {
     u64::from(a) + u64::from(width) > u64::from(bus.size())
 }
@@ -108,11 +115,13 @@ fn is_past<B: Bus>(bus: &B, a: u32, width: u32) -> bool
 /// Runs a load at an address.
 #[tactic(auto, using(dc_words::proofs::Bytes::bytes_long))]
 pub fn load<B: Bus>(regs: &mut Regs, bus: &B, op: LoadOp, rd: u32, a: u32) -> Stepped
-    requires { rd < 2 ^ 5 }
-    ensures loaded { (machine_of regs.new (B.memory bus.now), result) ≡ loading (machine_of regs.old (B.memory bus.now)) op rd a }
+    requires register { rd < 2 ^ 5 }
+    requires live { B.live bus.now }
+    ensures loaded { IfSome (B.told bus.now) (λ words. (machine_of regs.new words, result) ≡ loading (machine_of regs.old words) op rd a) }
     ensures zero { slice_index regs.old.x 0 ≡ 0 → slice_index regs.new.x 0 ≡ 0 }
     ensures aligned { regs.old.pc % 4 ≡ 0 → regs.new.pc % 4 ≡ 0 }
     ensures unchanged { UnlessRetired result (regs.new ≡ regs.old) }
+    ensures cause { IsCause result }
 {
     let width = load_width(op);
     if a % width != 0 {
@@ -133,14 +142,19 @@ pub fn store<B: Bus>(
     a: u32,
     w: u32,
 ) -> Result<Stepped, B::Stop>
-    ensures stored { IfOk result (λ s. (machine_of regs.new (B.memory bus.new), s) ≡ storing (machine_of regs.old (B.memory bus.old)) op a w) }
-    ensures long { length (B.memory bus.new) ≡ length (B.memory bus.old) }
-    ensures stopped { OnErr result (B.stops bus.old < B.stops bus.new) }
-    ensures later { B.stops bus.old ≤ B.stops bus.new }
+    requires live { B.live bus.old }
+    ensures stored { IfOk result (λ s. Becomes (B.told bus.old) (B.told bus.new) (λ before after. (machine_of regs.new after, s) ≡ storing (machine_of regs.old before) op a w)) }
+    ensures was { IfOk result (λ s. IfSome (B.told bus.old) (λ words. s ≡ (storing (machine_of regs.old words) op a w).1)) }
+    ensures count { B.count bus.new ≡ B.count bus.old }
+    ensures live { OnOk result (B.live bus.new) }
+    ensures once { OnOk result (OnceAtMost B.made bus.old bus.new) }
+    ensures refused { IfErr result (λ why. (i : ℕ) × B.refused bus.old i bus.new why) }
+    ensures reached { OnErr result (IfSome (B.told bus.old) (λ words. (storing (machine_of regs.old words) op a w).1 ≡ Stepped.Retired)) }
     ensures kept { OnErr result (regs.new ≡ regs.old) }
     ensures zero { slice_index regs.old.x 0 ≡ 0 → slice_index regs.new.x 0 ≡ 0 }
     ensures aligned { regs.old.pc % 4 ≡ 0 → regs.new.pc % 4 ≡ 0 }
-    ensures unchanged { IfOk result (λ s. UnlessRetired s ((regs.new ≡ regs.old) × (B.memory bus.new ≡ B.memory bus.old))) }
+    ensures cause { IfOk result IsCause }
+    ensures unchanged { IfOk result (λ s. UnlessRetired s ((regs.new ≡ regs.old) × (bus.new ≡ bus.old))) }
 {
     let width = store_width(op);
     if a % width != 0 {

@@ -1,24 +1,24 @@
-use Rattle.std.proofs.Common.{◌∙◌, ap, rules, sym, subst, length, IfSome, ◌<◌}
+use Rattle.std.proofs.Common.{◌∙◌, rules, sym, subst, length, IfSome, ◌<◌}
 use Rattle.std.specs.Vec.{vec_capacity}
 use Rattle.std.proofs.lemmas.Option.{slice_get_read}
 use Rattle.dc_plain.proofs.Moving.{counted, moved_sending, moved_showing, moved_unseen, one_more, sending}
-use Rattle.dc_plain.specs.Guest.{after_answer, coming}
-use Rattle.dc_plain.specs.Guests.{IsToAnother}
+use Rattle.dc_guest.specs.Guest.{coming}
+use Rattle.dc_guest.specs.Nexts.{IsToAnother}
 use Rattle.dc_plain.specs.Playing.{RoomAt, local_of}
 use Rattle.dc_plain.proofs.process.Process.turn.Goals as goal
 
 pub returns-in-Nothing-clause-moved : goal.returns-in-Nothing-clause-moved
 returns-in-Nothing-clause-moved c = λ images inputs. moved_unseen images inputs (local_of c.args.self.now) _ _ _ _
-    (c.turn-effect.ensures.after ∙ ap (after_answer c.args.self.now.guest) c.turn-effect.ensures.answer)
+    c.turn-effect.ensures.after
     c.count_taken.ensures
-    (counted c.args.self.now.got _ _ _ c.deref_mut.ensures.value c.count_received.ensures.each c.count_received.ensures.counted)
+    (counted c.args.self.now.received _ _ _ c.deref_mut.ensures.value c.count_received.ensures.each c.count_received.ensures.counted)
     (sym c.in-Nothing.is ∙ c.turn-effect.ensures.effect)
 
 pub returns-in-Shows-clause-moved : goal.returns-in-Shows-clause-moved
 returns-in-Shows-clause-moved c = λ images inputs. moved_showing images inputs (local_of c.args.self.now) _ _ _ _
-    (c.turn-effect.ensures.after ∙ ap (after_answer c.args.self.now.guest) c.turn-effect.ensures.answer)
+    c.turn-effect.ensures.after
     c.count_taken.ensures
-    (counted c.args.self.now.got _ _ _ c.deref_mut.ensures.value c.count_received.ensures.each c.count_received.ensures.counted)
+    (counted c.args.self.now.received _ _ _ c.deref_mut.ensures.value c.count_received.ensures.each c.count_received.ensures.counted)
     c.in-Shows.body (sym c.in-Shows.is ∙ c.turn-effect.ensures.effect)
 
 pub returns-in-Sends-clause-moved : goal.returns-in-Sends-clause-moved
@@ -30,8 +30,8 @@ returns-in-Sends-clause-moved c =
     let succeeds = c.push.ensures.succeeds in
     let items = c.push.ensures.items in
     λ images inputs. moved_sending images inputs (local_of c.args.self.now) _ _ _ _
-    (c.turn-effect.ensures.after ∙ ap (after_answer c.args.self.now.guest) c.turn-effect.ensures.answer)
+    c.turn-effect.ensures.after
     c.count_taken.ensures
-    (counted c.args.self.now.got _ _ _ c.deref_mut.ensures.value c.count_received.ensures.each c.count_received.ensures.counted)
+    (counted c.args.self.now.received _ _ _ c.deref_mut.ensures.value c.count_received.ensures.each c.count_received.ensures.counted)
     c.in-Sends.to c.in-Sends.message _ (sym c.in-Sends.is ∙ c.turn-effect.ensures.effect)
     (one_more c.args.self.now.sent.items c.in-Sends.to c.index_mut.result.now c.push.new.self c.in-Sends.message there (search (rules, room, succeeds, items)))

@@ -1,5 +1,5 @@
 use Rattle.std.proofs.Common.{rules, ◌∙◌, ap, List, ℕ, Some}
-use Rattle.dc_plain.specs.Guest.{started}
+use Rattle.dc_guest.specs.Guest.{started}
 use Rattle.dc_run.proofs.Turns.{begins}
 use Rattle.dc_run.proofs.world.World.open.Goals as goal
 

@@ -1,0 +1,193 @@
+//! Each case comes to what it says.
+
+use crate::case::{holds, is_read, number, numbers, says, text, value};
+use crate::cases::{ANSWERS, CALLS, COMMANDS, GUESTS, PLANS, RUNS, SCHEDULES, SOURCES};
+use crate::files::{called, coded, library, words};
+use dc_memmedia::MemSink;
+use dc_model::{Idle, Mark};
+use dc_run::{Outcome, conclude};
+use std::alloc::Global;
+use std::test::Fail;
+
+/// The letter of a mark: `i` where the guest had ended, `s` where it stepped, the number of what it showed.
+fn letter(mark: &Mark) -> u8 {
+    match *mark {
+        Mark::Idle(Idle::Ended) => b'i',
+        Mark::Stepped => b's',
+        Mark::Showed(k) if k < 10 => b'0' + k as u8,
+        Mark::Showed(_) => b'+',
+        Mark::Recovered(_) => b'r',
+    }
+}
+
+/// The marks are those that the case says, if it says any.
+fn marks_are(case: &str, marks: &[Mark]) -> Result<(), Fail> {
+    if !says(case, "marks") {
+        return Ok(());
+    }
+    let want = value(case, "marks", "").as_bytes();
+    holds(marks.len() == want.len(), case, "as many marks")?;
+    for (mark, letter_wanted) in marks.iter().zip(want) {
+        holds(letter(mark) == *letter_wanted, case, "the marks")?;
+    }
+    Ok(())
+}
+
+/// The report that a case says: so many acts, all plain but for the one that it names, and the close line.
+fn wanted_report(alloc: Global, case: &str) -> Result<String, Fail> {
+    let mut want = String::from_str(alloc, "dc-report 1\n")?;
+    let other = value(case, "act", "-");
+    for turn in 0..number(case, "acts", "0")? {
+        let front = format!(in alloc; "act {turn} 0 ")?;
+        want.push_str(&front)?;
+        match other.strip_prefix(front.as_str()) {
+            Some(act) => want.push_str(act)?,
+            None => want.push_str("plain")?,
+        }
+        want.push_str("\n")?;
+    }
+    want.push_str(value(case, "close", ""))?;
+    want.push_str("\n")?;
+    Ok(want)
+}
+
+/// The report is the one that the case says, cut off where there was no room; none where it says no close line.
+fn report_is(alloc: Global, case: &str, report: &MemSink) -> Result<(), Fail> {
+    if !says(case, "close") {
+        return holds(report.bytes().is_empty(), case, "no report");
+    }
+    let want = wanted_report(alloc, case)?;
+    let room = number(case, "report_room", "100000")?;
+    let front = want.as_bytes().get(..room).unwrap_or(want.as_bytes());
+    holds(report.bytes() == front, case, "the report")
+}
+
+/// The output is the one that the case says: a text, or a file cut off where there was no room.
+fn output_is(alloc: Global, case: &str, out: &MemSink) -> Result<(), Fail> {
+    if !says(case, "elf") {
+        let want = text(alloc, case, "out", "")?;
+        return holds(out.bytes() == want.as_bytes(), case, "the output");
+    }
+    let want = coded(alloc, case, "elf")?;
+    let room = number(case, "room", "100000")?;
+    let front = want.get(..room).unwrap_or(&want);
+    holds(out.bytes() == front, case, "the file")
+}
+
+/// The program ends with the status and the line that the case says.
+fn ends_so(alloc: Global, case: &str, outcome: &Outcome) -> Result<(), Fail> {
+    let mut error = MemSink::new(alloc, 200, Vec::new(alloc))?;
+    let status = conclude(outcome, &mut error);
+    holds(
+        number(case, "status", "0")? == usize::from(status),
+        case,
+        "the status",
+    )?;
+    let want = text(alloc, case, "said", "")?;
+    holds(
+        error.bytes() == want.as_bytes(),
+        case,
+        "the line on standard error",
+    )
+}
+
+/// A case comes to what it says.
+fn tried(alloc: Global, case: &str) -> Result<(), Fail> {
+    is_read(case)?;
+    let mut library = library(alloc, case)?;
+    let failing = numbers(alloc, case, "write")?;
+    let mut out = MemSink::new(alloc, number(case, "room", "100000")?, failing)?;
+    let room = number(case, "report_room", "100000")?;
+    let mut report = MemSink::new(alloc, room, Vec::new(alloc))?;
+    let words = words(alloc, value(case, "words", "dc run plan"))?;
+    let outcome = called(alloc, &words, &mut library, &mut out, &mut report)?;
+    ends_so(alloc, case, &outcome)?;
+    output_is(alloc, case, &out)?;
+    report_is(alloc, case, &report)?;
+    marks_are(case, outcome.marks.as_slice())
+}
+
+/// Each of some cases does, of which each begins with `* `.
+fn all(alloc: Global, cases: &str) -> Result<(), Fail> {
+    for case in cases.split("* ") {
+        if !case.is_empty() {
+            tried(alloc, case)?;
+        }
+    }
+    Ok(())
+}
+
+#[test]
+fn runs(rt: HostRuntime) -> Result<(), Fail> {
+    all(rt.alloc(), RUNS)
+}
+
+#[test]
+fn guests(rt: HostRuntime) -> Result<(), Fail> {
+    all(rt.alloc(), GUESTS)
+}
+
+#[test]
+fn calls(rt: HostRuntime) -> Result<(), Fail> {
+    all(rt.alloc(), CALLS)
+}
+
+#[test]
+fn answers(rt: HostRuntime) -> Result<(), Fail> {
+    all(rt.alloc(), ANSWERS)
+}
+
+#[test]
+fn commands(rt: HostRuntime) -> Result<(), Fail> {
+    all(rt.alloc(), COMMANDS)
+}
+
+#[test]
+fn plans(rt: HostRuntime) -> Result<(), Fail> {
+    all(rt.alloc(), PLANS)
+}
+
+#[test]
+fn schedules(rt: HostRuntime) -> Result<(), Fail> {
+    all(rt.alloc(), SCHEDULES)
+}
+
+#[test]
+fn sources(rt: HostRuntime) -> Result<(), Fail> {
+    all(rt.alloc(), SOURCES)
+}
+
+/// A file cut off at each place is refused for the first thing that is missing.
+#[test]
+fn files_cut_off(rt: HostRuntime) -> Result<(), Fail> {
+    for cut in 0..116u32 {
+        let fault = if cut < 52 {
+            "short"
+        } else if cut < 84 {
+            "headers"
+        } else {
+            "segment 0"
+        };
+        let case = format!(in rt.alloc();
+            "cut\ncut={cut}\nstatus=4\nsaid=dc: guest 0 refused: {fault}~\n"
+        )?;
+        tried(rt.alloc(), &case)?;
+    }
+    Ok(())
+}
+
+/// A report's sink of any room holds a front of the report. No report is shorter than its first and its last line: 12 and 14 bytes.
+#[test]
+fn reports_cut_off(rt: HostRuntime) -> Result<(), Fail> {
+    for room in 0..26u32 {
+        let ran = format!(in rt.alloc();
+            "ran\nreport_room={room}\nstatus=8\nsaid=dc: sink failed: report~\nout=out 0 0 6869~end 0 1 0~\nacts=7\nclose=close 0 7 7 2\n"
+        )?;
+        tried(rt.alloc(), &ran)?;
+        let idle = format!(in rt.alloc();
+            "idle\nschedule=\nreport_room={room}\nstatus=8\nsaid=dc: sink failed: report~\nclose=close 1 0 0 0\n"
+        )?;
+        tried(rt.alloc(), &idle)?;
+    }
+    Ok(())
+}
