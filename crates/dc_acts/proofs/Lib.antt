@@ -1,1 +1,8 @@
+mod Counting
+mod Cutting
+mod Gathering
+mod LineTexts
+mod Owning
+mod ReportTexts
 mod Sent
+mod Weighing

@@ -1,6 +1,6 @@
 -- What a turn draws fits, and was drawn at its turn.
 use Rattle.std.proofs.Common.{◌≡◌, ◌≢◌, ◌∙◌, ◌==◌, ◌%◌, ◌+◌, ◌≤◌, ℕ, List, length, refl, sym, arith, Bool, true, false, Option, Some, None, slice_get, bytes_eq, ◌||◌, if◌then◌else◌, ⊎_elim}
-use Rattle.std.proofs.lemmas.Bool.{or_parts, eqb-true, eq-eqb, le-ltb, true≢false}
+use Rattle.std.proofs.lemmas.Bool.{or_parts, eq-eqb, le-ltb, true≢false}
 use Rattle.std.proofs.lemmas.Bool.Decides.{nat_tests}
 use Rattle.std.proofs.lemmas.Option.{slice_get_cases}
 use Rattle.std.proofs.lemmas.Slice.Eq.{bytes_eq-Decides}
@@ -10,7 +10,7 @@ use Rattle.dc_model.specs.Runs.{IsMail, state}
 use Rattle.dc_model.specs.Guests.Event.{AtEnd, AtInternal, AtClock, AtRandom, AtInput, AtReceive, AtVisible, AtSend}
 use Rattle.dc_model.specs.Guests.Answer.{InputNone, ReceiveNone}
 use Rattle.dc_model.specs.World.{act_of}
-use Rattle.dc_model.specs.Drawn.{MayAnswer, DrawsAct}
+use Rattle.dc_model.specs.Drawn.{may_answer, draws}
 use Rattle.dc_model.specs.Core.{Core, stands, input_answer, receive_answer, drawn_answer}
 use Rattle.dc_model.specs.declared.entry.Entry.TheVariants.{Turn}
 
@@ -93,25 +93,29 @@ module _ {Mc : Type 0} (G : Guests Mc) (c : Core) (p word clock : ℕ) where
 
   -- the word may answer what it draws at a request for input
   input_answers : (odd : Bool) (o : Option (List ℕ)) → (word % 2 == 1) ≡ odd
-      → MayAnswer G.count word clock (act_of (if odd then input_answer o else InputNone))
-  input_answers true None e = eqb-true (word % 2) 1 e
-  input_answers true (Some bytes) e = eqb-true (word % 2) 1 e
-  input_answers false o e = even word e
+      → may_answer G.count word clock (act_of (if odd then input_answer o else InputNone)) ≡ true
+  input_answers true None e = e
+  input_answers true (Some bytes) e = e
+  input_answers false o e = eq-eqb (word % 2) 0 (even word e)
 
   -- the word may answer what it draws at a receive
   receive_answers : (nobody : Bool) (o : Option (List ℕ))
-      → MayAnswer G.count word clock (act_of (if nobody then ReceiveNone else receive_answer (word % (G.count + 1)) o))
-  receive_answers true o = tt
-  receive_answers false None = tt
-  receive_answers false (Some message) = refl
+      → may_answer G.count word clock (act_of (if nobody then ReceiveNone else receive_answer (word % (G.count + 1)) o)) ≡ true
+  receive_answers true o = refl
+  receive_answers false None = refl
+  receive_answers false (Some message) = eq-eqb (word % (G.count + 1)) (word % (G.count + 1)) refl
 
-  -- what is drawn is what the word and the clock may answer
-  pub draws_act : (e : Event) → DrawsAct G.count (Turn p word clock) p (act_of (drawn_answer G c p word clock e))
-  draws_act AtEnd = (refl, tt)
-  draws_act AtInternal = (refl, tt)
-  draws_act AtClock = (refl, refl)
-  draws_act AtRandom = (refl, refl)
-  draws_act AtInput = (refl, input_answers (word % 2 == 1) _ refl)
-  draws_act AtReceive = (refl, receive_answers _ _)
-  draws_act (AtVisible body) = (refl, tt)
-  draws_act (AtSend to message) = (refl, tt)
+  -- the word and the clock may answer what they draw
+  answers : (e : Event) → may_answer G.count word clock (act_of (drawn_answer G c p word clock e)) ≡ true
+  answers AtEnd = refl
+  answers AtInternal = refl
+  answers AtClock = eq-eqb clock clock refl
+  answers AtRandom = eq-eqb word word refl
+  answers AtInput = input_answers (word % 2 == 1) _ refl
+  answers AtReceive = receive_answers _ _
+  answers (AtVisible body) = refl
+  answers (AtSend to message) = refl
+
+  -- the turn draws what is drawn at it
+  pub draws_act : (t : ℕ) (e : Event) → draws G.count (Some (Turn (record { p = p; word = word; clock = clock }))) (record { t = t; p = p; act = act_of (drawn_answer G c p word clock e) }) ≡ true
+  draws_act t e = rw (eq-eqb p p refl, answers e) refl

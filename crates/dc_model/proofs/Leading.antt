@@ -6,7 +6,7 @@ use Rattle.dc_model.specs.Process.{Local, local, moved, fits, shows, shown, visi
 use Rattle.dc_model.specs.Runs.{Given, own, state, visibles, IsRun}
 use Rattle.dc_model.specs.Guests.Event.{AtEnd, AtVisible}
 use Rattle.dc_model.specs.World.{put, reported}
-use Rattle.dc_model.specs.Drawn.{DrawsAct, DrawnFrom, Drawn}
+use Rattle.dc_model.specs.Drawn.{draws, DrawnFrom, Drawn}
 use Rattle.dc_model.specs.Core.{Status, Core, opened_core, oldest, stands, coming_at, drawn, after_event, after_turn, mark_of, Turned, LeadsTo}
 use Rattle.dc_model.specs.Repeats.{Note, noted, notes, numbers, NotSince, RepeatsFollow}
 use Rattle.dc_model.specs.Led.{IsLed}
@@ -37,7 +37,7 @@ below_later turn later (x ∷ acts) le below = (omega (arith, below.0), below_la
 -- acts that were drawn, with one that was drawn after them
 drawn_end : (n : ℕ) (schedule : List Entry) (from : ℕ) (acts : List Taken) (x : Taken)
     → DrawnFrom n schedule from acts → TurnsBelow x.t acts → from ≤ x.t
-    → IsSomeAnd (slice_get schedule x.t) (λ entry. DrawsAct n entry x.p x.act) → DrawnFrom n schedule from (acts ++ x ∷ [])
+    → draws n (slice_get schedule x.t) x ≡ true → DrawnFrom n schedule from (acts ++ x ∷ [])
 drawn_end n schedule from [] x ok below le at = (le, at, tt)
 drawn_end n schedule from (y ∷ acts) x ok below le at =
     (ok.0, ok.1, drawn_end n schedule (suc y.t) acts x ok.2 below.1 (omega (arith, below.0)) at)
@@ -72,7 +72,7 @@ pub stands_last : {Mc : Type 0} (G : Guests Mc) (c : Core) (p : ℕ)
 stands_last G c p e = ap (local G p) (oldest_all (c.procs p).position (own p c.acts) (omega (arith, e)))
 
 -- the notes of one mark more: an event of p, whose next record is number k0
-module _ (p k0 word clock : ℕ) (o : Option Entry) (is : o ≡ Some (Turn p word clock)) (lines : List Visible) (ns : List Note) where
+module _ (p k0 word clock : ℕ) (o : Option Entry) (is : o ≡ Some (Turn (record { p = p; word = word; clock = clock }))) (lines : List Visible) (ns : List Note) where
   numbered_more : (e : Event) → map (λ x. (x.p, x.k)) lines ≡ numbers ns
       → map (λ x. (x.p, x.k)) (visible_of p k0 e ++ lines) ≡ numbers (noted o (mark_of e k0) ++ ns)
   numbered_more (AtVisible body) same = rw is (ap (λ w. (p, k0) ∷ w) same)
@@ -88,7 +88,7 @@ module _ (p k0 word clock : ℕ) (o : Option Entry) (is : o ≡ Some (Turn p wor
 
 -- one turn more
 module _ {Mc : Type 0} (G : Guests Mc) (schedule : List Entry) (marks : List Mark) (c : Core) (f : Follows G schedule marks c)
-    (p word clock : ℕ) (is : slice_get schedule (length marks) ≡ Some (Turn p word clock)) where
+    (p word clock : ℕ) (is : slice_get schedule (length marks) ≡ Some (Turn (record { p = p; word = word; clock = clock }))) where
   -- no process is behind
   here : (q : ℕ) → stands G c q ≡ state G c.acts q
   here q = stands_last G c q (f.at_end q)
@@ -146,7 +146,7 @@ module _ {Mc : Type 0} (G : Guests Mc) (schedule : List Entry) (marks : List Mar
         ∙ ap (λ (l : Local Mc). shown G p l act.answer ++ visibles G c.acts) (here p);
     below = below_end _ (reported c.acts) _ (below_later (length marks) _ (reported c.acts) (omega arith) f.below) (omega arith);
     is_drawn = drawn_end G.count schedule 0 (reported c.acts) _ f.is_drawn f.below (omega arith)
-        (rw is (draws_act G c p word clock event));
+        (rw is (draws_act G c p word clock (length marks) event));
     numbered = numbered_more p number word clock _ is c.lines (notes schedule marks) event f.numbered;
     fresh = λ q k past. let at = visible_more q k past in
         fresh_more p number word clock _ is c.lines (notes schedule marks) event q k at.0 (f.fresh q k at.1);
@@ -180,8 +180,9 @@ turned_follows : {Mc : Type 0} (G : Guests Mc) (schedule : List Entry) (marks : 
     → IsSomeAnd o (λ entry. Turned G (length marks) c entry m d)
     → Follows G schedule (m ∷ marks) d
 turned_follows G schedule marks c d m None is f turned = absurd turned
-turned_follows G schedule marks c d m (Some (Turn p word clock)) is f turned =
-    rw (turned.0, turned.1) (follows_turn G schedule marks c f p word clock is (coming_at G c p) refl)
+turned_follows G schedule marks c d m (Some (Turn turn)) is f turned =
+    rw (turned.0, turned.1) (follows_turn G schedule marks c f turn.p turn.word turn.clock is (coming_at G c turn.p) refl)
+turned_follows G schedule marks c d m (Some _) is f turned = absurd turned
 
 -- wherever marks lead, all of this holds
 pub leads_follow : {Mc : Type 0} (G : Guests Mc) (schedule : List Entry) (marks : List Mark) (c : Core)

@@ -86,10 +86,11 @@ mark_of AtEnd k = mark.Idle Ended
 mark_of (AtVisible body) k = mark.Showed k
 mark_of _ k = mark.Stepped
 
--- what one entry does to the core at turn t, and its mark: the entry's process has ended, stepped or showed
+-- what one entry does to the core at turn t, and its mark: the process of a turn has ended, stepped or showed; no stop leads anywhere yet
 abbrev pub Turned : {Mc : Type 0} → Guests Mc → ℕ → Core → Entry → Mark → Core → Type 0
-Turned G t c (Turn p word clock) m d =
-    (m ≡ mark_of (coming_at G c p) (stands G c p).visible) × (d ≡ after_turn G c t p (drawn G c p word clock) (coming_at G c p))
+Turned G t c (Turn turn) m d =
+    (m ≡ mark_of (coming_at G c turn.p) (stands G c turn.p).visible) × (d ≡ after_turn G c t turn.p (drawn G c turn.p turn.word turn.clock) (coming_at G c turn.p))
+Turned G t c _ m d = ⊥
 
 -- the marks of a schedule, the last first, lead from the opened core to this one, entry by entry
 abbrev pub LeadsTo : {Mc : Type 0} → Guests Mc → List Entry → List Mark → Core → Type 0

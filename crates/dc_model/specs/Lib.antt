@@ -3,6 +3,7 @@ pub mod Process
 pub mod Runs
 pub mod World
 pub mod Drawn
+pub mod Cuts
 pub mod Core
 pub mod Repeats
 pub mod Led

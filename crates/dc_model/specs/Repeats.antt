@@ -14,8 +14,8 @@ pub data Note : Type 0 where
 
 -- the note of a mark, by its entry
 abbrev pub noted : Option Entry → Mark → List Note
-noted (Some (Turn p word clock)) (mark.Showed k) = Shown p k ∷ []
-noted (Some (Turn p word clock)) (mark.Recovered at) = Recovers p ∷ []
+noted (Some (Turn turn)) (mark.Showed k) = Shown turn.p k ∷ []
+noted (Some (Turn turn)) (mark.Recovered at) = Recovers turn.p ∷ []
 noted _ _ = []
 
 -- the notes of marks, each by the entry at its place

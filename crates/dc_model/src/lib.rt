@@ -13,7 +13,7 @@ mod tests;
 mod visible;
 
 pub use act::{Act, Taken};
-pub use entry::Entry;
+pub use entry::{Entry, Turn};
 pub use laws::{marks_lead_to_runs, reports_are_enough};
 pub use mark::{Idle, Mark};
 pub use visible::{Body, TEXT_ROOM, Text, Visible};

@@ -1,4 +1,4 @@
-ghost use Rattle.std.specs.Prelude.{◌≡◌, ◌↔◌, ◌<◌, ◌&&◌, ◌+◌, ◌-◌, ◌^◌, ℕ, List, Err, IfSome, false, None, Some, All, IfOk, OnErr, OnOk, length, map, slice_get};
+ghost use Rattle.std.specs.Prelude.{◌≡◌, ◌↔◌, ◌<◌, ◌&&◌, ◌+◌, ◌-◌, ◌^◌, [], ℕ, List, Err, IfSome, false, None, Some, All, IfOk, OnErr, OnOk, length, map, slice_get};
 ghost use Rattle.std.specs.Option.{option_map};
 ghost use Rattle.dc_elf.specs.Images.{Image as Images};
 ghost use Rattle.dc_guest.specs.Answers.{answer_of};
@@ -280,5 +280,14 @@ impl Plain {
         ensures { result.now ≡ self.now.visibles }
     {
         &self.visibles
+    }
+
+    /// Drops the visible records so far, which the processes go on counting from: for a caller that has what it wants of them.
+    pub fn forget_visibles(&mut self)
+        ensures world { world_in self.new ≡ record (world_in self.old) { visibles = [] } }
+        ensures count { length self.new.processes ≡ length self.old.processes }
+        ensures inputs { self.new.inputs ≡ self.old.inputs }
+    {
+        self.visibles.clear();
     }
 }

@@ -1,4 +1,4 @@
--- What is built of all that a plan may ask for. A plan that asks for more is refused at the key's own place.
+-- What is built of all that a plan and its schedule may ask for. A plan that asks for more is refused at the key's own place, a schedule at its line.
 use Rattle.std.specs.Prelude.{ℕ, Bool, true, false}
 use Rattle.dc_plan.specs.declared.plan.Medium.{Medium}
 use Rattle.dc_plan.specs.declared.plan.Medium.TheVariants as medium
@@ -28,3 +28,7 @@ are_seeds_built = false
 -- no stops
 abbrev pub most_stops_built : ℕ
 most_stops_built = 0
+
+-- no lines of a schedule that stop processes
+abbrev pub are_stop_lines_built : Bool
+are_stop_lines_built = false

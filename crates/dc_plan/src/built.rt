@@ -1,4 +1,5 @@
-//! What is built of all that a plan may ask for. A plan that asks for more is refused at the key's own place.
+//! What is built of all that a plan and its schedule may ask for. A plan that asks for more is refused at the key's own place,
+//! a schedule at its line.
 ghost use Rattle.std.specs.Prelude.{◌≡◌};
 ghost use Rattle.dc_plan.specs.Built.{is_built, is_medium_built};
 
@@ -13,6 +14,9 @@ pub const ARE_SEEDS_BUILT: bool = false;
 
 /// How many stops a plan may have.
 pub const MOST_STOPS_BUILT: usize = 0;
+
+/// Whether a line of a schedule may stop a process, or all.
+pub const ARE_STOP_LINES_BUILT: bool = false;
 
 /// Whether the protocol is built.
 pub fn is_built(protocol: Protocol) -> bool

@@ -14,6 +14,7 @@ mod stops;
 mod tests;
 mod values;
 
+pub use built::ARE_STOP_LINES_BUILT;
 pub use fault::{PlanError, PlanFault};
 pub use keys::Key;
 pub use plan::{Medium, Plan};

@@ -1,5 +1,5 @@
 -- A run that has used up its schedule, or broken off, keeps the promise.
-use Rattle.std.proofs.Common.{IfSome, IsOkAnd, None, Ok, ◌≡◌, ◌≢◌, ◌∙◌, ℕ, zero, suc, true, false, List, [], ◌∷◌, ◌++◌, length, reverse, Option, Some, ap, sym, subst, refl, arith}
+use Rattle.std.proofs.Common.{None, IfSome, IsOkAnd, None, Ok, ◌≡◌, ◌≢◌, ◌∙◌, ℕ, zero, suc, true, false, List, [], ◌∷◌, ◌++◌, length, reverse, Option, Some, ap, sym, subst, refl, arith}
 use Rattle.std.proofs.lemmas.List.{append-nil, reverse-append, reverse-reverse, length-reverse}
 use Rattle.dc_media.proofs.Becoming.{Becomes-weaker}
 use Rattle.dc_model.specs.Drawn.{Drawn}
@@ -105,15 +105,15 @@ is_cut_off setting acts marks lines before after t =
 
 -- as the code says it: the outcome holds what the world had, and the schedule is the setting's
 module _ (setting : Setting) (schedule : List Entry) (is : schedule ≡ setting.schedule) (w : World') (o : Outcome) (before after : Option (List ℕ)) where
-  pub told_done : o ≡ record { verdict = Done; did = Run; acts = w.acts; marks = w.marks; lines = w.lines } → IsRunning (guests setting) schedule w before after → length w.marks.items ≡ length schedule → w.guest.ended ≡ true
+  pub told_done : o ≡ record { verdict = Done; did = Run; acts = w.acts; marks = w.marks; lines = w.lines; difference = None } → IsRunning (guests setting) schedule w before after → length w.marks.items ≡ length schedule → w.guest.ended ≡ true
       → IsHeadline setting (account_of o) before after
   told_done o_is r used ended = rw o_is (is_done setting w.guest w.inputs.items w.place w.visible w.acts.items w.marks.items w.lines before after (subst (λ (s : List Entry). IsRunning (guests setting) s w before after) is r) (used ∙ ap length is) ended)
 
-  pub told_unfinished : o ≡ record { verdict = Unfinished; did = Run; acts = w.acts; marks = w.marks; lines = w.lines } → IsRunning (guests setting) schedule w before after → length w.marks.items ≡ length schedule → w.guest.ended ≡ false
+  pub told_unfinished : o ≡ record { verdict = Unfinished; did = Run; acts = w.acts; marks = w.marks; lines = w.lines; difference = None } → IsRunning (guests setting) schedule w before after → length w.marks.items ≡ length schedule → w.guest.ended ≡ false
       → IsHeadline setting (account_of o) before after
   told_unfinished o_is r used live = rw o_is (is_unfinished setting w.guest w.inputs.items w.place w.visible w.acts.items w.marks.items w.lines before after (subst (λ (s : List Entry). IsRunning (guests setting) s w before after) is r) (used ∙ ap length is) live)
 
-  pub told_cut_off : o ≡ record { verdict = SinkFault Out; did = Run; acts = w.acts; marks = w.marks; lines = w.lines } → IsTorn (guests setting) schedule w before after
+  pub told_cut_off : o ≡ record { verdict = SinkFault Out; did = Run; acts = w.acts; marks = w.marks; lines = w.lines; difference = None } → IsTorn (guests setting) schedule w before after
       → IsHeadline setting (account_of o) before after
   told_cut_off o_is t = rw o_is (is_cut_off setting w.acts.items w.marks.items w.lines before after (subst (λ (s : List Entry). IsTorn (guests setting) s w before after) is t))
 

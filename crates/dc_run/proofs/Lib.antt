@@ -1,6 +1,6 @@
-mod ScheduleTexts
 mod Turns
 mod Works
 mod Commands
 mod Openings
 mod Headlines
+mod Checks

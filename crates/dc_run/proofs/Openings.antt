@@ -19,7 +19,7 @@ use Rattle.dc_plan.specs.Plans.{Plan, plan_of}
 use Rattle.dc_plan.specs.declared.fault.PlanFault.{PlanFault}
 use Rattle.dc_run.specs.declared.verdict.Verdict.{Verdict}
 use Rattle.dc_run.specs.declared.verdict.Which.{Which}
-use Rattle.dc_run.specs.declared.verdict.Which.TheVariants.{Plan as ThePlan, Guest, Schedule, Source}
+use Rattle.dc_run.specs.declared.verdict.Which.TheVariants.{Plan as ThePlan, Guest, Schedule, Source, Report, Out}
 
 -- a file without a fault, and its image
 pub no_fault : (told : Option ElfFault) (found : Result loaded.Image LoadFault) (image : loaded.Image) → found ≡ Ok image
@@ -63,12 +63,16 @@ pub asked_by_plan : (files : Files) (text file : List ℕ) (plan : Plan) (w : Wh
     → AsksAtGuest files plan file w → AsksAtPlan files text w
 asked_by_plan files text file plan ThePlan e f asks = absurd asks
 asked_by_plan files text file plan Source e f asks = absurd asks
+asked_by_plan files text file plan Report e f asks = absurd asks
+asked_by_plan files text file plan Out e f asks = absurd asks
 asked_by_plan files text file plan (Guest p) e f asks = absurd asks
 asked_by_plan files text file plan Schedule e f asks = rw e (rw f asks)
 
 pub asked_by_name : (files : Files) (name text : List ℕ) (w : Which) → files name ≡ Some text → AsksAtPlan files text w → AsksToRun files name w
 asked_by_name files name text ThePlan e asks = absurd asks
 asked_by_name files name text Source e asks = absurd asks
+asked_by_name files name text Report e asks = absurd asks
+asked_by_name files name text Out e asks = absurd asks
 asked_by_name files name text (Guest p) e asks = rw e asks
 asked_by_name files name text Schedule e asks = rw e asks
 

@@ -18,7 +18,8 @@ use Rattle.dc_model.specs.Guests.Event.{AtEnd, AtInternal, AtClock, AtRandom, At
 use Rattle.dc_model.specs.Guests.{Answer as answer}
 use Rattle.dc_model.specs.declared.act.Taken.{Taken}
 use Rattle.dc_model.specs.declared.entry.Entry.{Entry}
-use Rattle.dc_model.specs.declared.entry.Entry.TheVariants.{Turn}
+use Rattle.dc_model.specs.declared.entry.Entry.TheVariants as entry
+use Rattle.dc_model.specs.declared.entry.Turn.{Turn}
 use Rattle.dc_model.specs.declared.mark.Idle.TheVariants.{Ended}
 use Rattle.dc_model.specs.declared.mark.Mark.{Mark}
 use Rattle.dc_model.specs.declared.mark.Mark.TheVariants as mark
@@ -32,10 +33,10 @@ use Rattle.dc_events.specs.declared.event.Next.{Next}
 use Rattle.dc_events.specs.declared.event.Next.TheVariants as next
 use Rattle.dc_rv32.specs.Machine.{Machine}
 use Rattle.std.proofs.lemmas.Bool.Decides.{nat_tests}
-use Rattle.dc_run.specs.Answers.{Draw, alone}
+use Rattle.dc_guest.specs.Nexts.{IfWaits}
+use Rattle.dc_run.specs.Answers.{Draw, alone, turn_draws}
 use Rattle.dc_run.specs.Running.{IsRunning, Progress, RunsAs, Takes, TornAs, answer_at}
 use Rattle.dc_run.specs.declared.world.World.{World}
-use Rattle.dc_run.specs.Schedules.{process_of}
 
 -- how far a run has come
 abbrev pub progress : Guest → List (List ℕ) → ℕ → ℕ → List Taken → List Mark → ℕ → Progress
@@ -109,18 +110,22 @@ after_live G c t p a AtReceive live = refl
 after_live G c t p a (AtVisible body) live = refl
 after_live G c t p a (AtSend to message) live = refl
 
+-- a turn of the one process
+own_turn : (turn : Turn) (o : Option Entry) → o ≡ Some (entry.Turn turn) → turn.p ≡ 0 → o ≡ Some (entry.Turn (record { p = 0; word = turn.word; clock = turn.clock }))
+own_turn turn o is zero = is ∙ ap (λ n. Some (entry.Turn (record { p = n; word = turn.word; clock = turn.clock }))) zero
+
 -- an entry of the process leads on
-module _ (images : List Image) (inputs : List (List (List ℕ))) (schedule : List Entry) (marks : List Mark) (c : Core) (led : LeadsTo (guests_of images inputs) schedule (reverse marks) c) (word clock : ℕ) (is : slice_get schedule (length marks) ≡ Some (Turn 0 word clock)) where
+module _ (images : List Image) (inputs : List (List (List ℕ))) (schedule : List Entry) (marks : List Mark) (c : Core) (led : LeadsTo (guests_of images inputs) schedule (reverse marks) c) (word clock : ℕ) (is : slice_get schedule (length marks) ≡ Some (entry.Turn (record { p = 0; word = word; clock = clock }))) where
   abbrev G : Guests Guest
   G = guests_of images inputs
 
   abbrev turn : ℕ
   turn = length (reverse marks)
 
-  at_entry : slice_get schedule turn ≡ Some (Turn 0 word clock)
+  at_entry : slice_get schedule turn ≡ Some (entry.Turn (record { p = 0; word = word; clock = clock }))
   at_entry = ap (slice_get schedule) (length-reverse marks) ∙ is
 
-  leads_on : (m : Mark) (d : Core) → Turned G turn c (Turn 0 word clock) m d → LeadsTo G schedule (m ∷ reverse marks) d
+  leads_on : (m : Mark) (d : Core) → Turned G turn c (entry.Turn (record { p = 0; word = word; clock = clock })) m d → LeadsTo G schedule (m ∷ reverse marks) d
   leads_on m d turned = (c, led, rw at_entry turned)
 
   leads_idle : coming_at G c 0 ≡ AtEnd → LeadsTo G schedule (reverse (marks ++ mark.Idle Ended ∷ [])) c
@@ -168,7 +173,7 @@ module _ (images : List Image) (inputs : List (List (List ℕ))) (c : Core) (wor
 
 -- what a run has come to, and where its next entry leads
 module _ (images : List Image) (rest : List (List (List ℕ))) (schedule : List Entry) (guest : Guest) (inputs : List (List ℕ)) (place shown : ℕ) (acts : List Taken) (marks : List Mark) (lines : ℕ)
-    (first held : Option (List ℕ)) (word clock : ℕ) (is : slice_get schedule (length marks) ≡ Some (Turn 0 word clock))
+    (first held : Option (List ℕ)) (word clock : ℕ) (is : slice_get schedule (length marks) ≡ Some (entry.Turn (record { p = 0; word = word; clock = clock })))
     (run : RunsAs (guests_of images rest) schedule (progress guest inputs place shown acts marks lines) first held) where
   abbrev G' : Guests Guest
   G' = guests_of images rest
@@ -290,59 +295,69 @@ module _ (images : List Image) (rest : List (List (List ℕ))) (schedule : List 
         acts_are = acts_later;
         lines_are = lines_showed;
         count = run.count;
-        early = slice_get_within schedule (length marks) (Turn 0 word clock) is;
+        early = slice_get_within schedule (length marks) (entry.Turn (record { p = 0; word = word; clock = clock })) is;
         shows = (writes.0, writes.1, Becomes-then first held held' _ _ _ (λ x y z old new. new ∙ ap (λ w. w ++ take writes.0 (visible_line record_now)) old) run.shows writes.2);
       }
 
+-- an instruction that retired: nothing of it is seen, and it was told nothing
+pub retired_quiet : (g : Guest) → g.ended ≡ false → next_of g ≡ next.Retire → IsQuiet (coming g)
+retired_quiet g live is = subst IsQuiet (sym (live_coming g live ∙ ap (λ n. event_of n g.machine) is)) tt
+
+pub retired_takes : (old w : World) (turn : Turn) → next_of old.guest ≡ next.Retire → w.guest ≡ after_answer old.guest answer.Plain → w.place ≡ old.place
+    → w.acts.items ≡ old.acts.items ++ record { t = length old.marks.items; p = turn.p; act = act_of answer.Plain } ∷ []
+    → w.inputs ≡ old.inputs → w.visible ≡ old.visible → w.marks ≡ old.marks → w.lines ≡ old.lines → Takes old w turn
+retired_takes old w turn is guest place acts inputs visible marks lines =
+    let plain : answer_at old turn ≡ answer.Plain = ap (λ n. alone (turn_draws turn (slice_get old.inputs.items old.place)) (kind_of n)) is in record {
+      guest = guest ∙ ap (after_answer old.guest) (sym plain);
+      place = place ∙ (let none : old.place ≡ old.place + took_input answer.Plain = omega arith in none) ∙ ap (λ a. old.place + took_input a) (sym plain);
+      acts = acts ∙ ap (λ a. old.acts.items ++ record { t = length old.marks.items; p = turn.p; act = act_of a } ∷ []) (sym plain);
+      inputs = inputs;
+      visible = visible;
+      marks = marks;
+      lines = lines;
+    }
+
+-- what holds of a call or a trap
+pub of_waiting : (P : Type 0) (n : Next) → (n ≡ next.Retire → ⊥) → IfWaits n P → P
+of_waiting P next.Retire waits is = absurd (waits refl)
+of_waiting P (next.Trap cause) waits is = is
+of_waiting P (next.Call call) waits is = is
+
 -- the same, as the code says it: `w` is the run after the event was taken
-module _ (images : List Image) (rest : List (List (List ℕ))) (schedule : List Entry) (old w : World) (first held held' : Option (List ℕ)) (entry : Entry)
-    (zero : process_of entry ≡ 0) (takes : Takes old w entry) (live : old.guest.ended ≡ false) (is : slice_get schedule (length old.marks.items) ≡ Some entry)
+module _ (images : List Image) (rest : List (List (List ℕ))) (schedule : List Entry) (old w : World) (first held held' : Option (List ℕ)) (turn : Turn)
+    (zero : turn.p ≡ 0) (takes : Takes old w turn) (live : old.guest.ended ≡ false) (is : slice_get schedule (length old.marks.items) ≡ Some (entry.Turn turn))
     (run : IsRunning (guests_of images rest) schedule old first held) where
-  abbrev answer_now : Entry → Answer
-  answer_now e = answer_at old e
+  acts_at : w.acts.items ≡ old.acts.items ++ record { t = length old.marks.items; p = 0; act = act_of (answer_at old turn) } ∷ []
+  acts_at = takes.acts ∙ ap (λ n. old.acts.items ++ record { t = length old.marks.items; p = n; act = act_of (answer_at old turn) } ∷ []) zero
 
-  abbrev acts_now : Entry → List Taken
-  acts_now e = old.acts.items ++ record { t = length old.marks.items; p = 0; act = act_of (answer_now e) } ∷ []
-
-  acts_at : w.acts.items ≡ acts_now entry
-  acts_at = takes.acts ∙ ap (λ n. old.acts.items ++ record { t = length old.marks.items; p = n; act = act_of (answer_now entry) } ∷ []) zero
+  at_turn : slice_get schedule (length old.marks.items) ≡ Some (entry.Turn (record { p = 0; word = turn.word; clock = turn.clock }))
+  at_turn = own_turn turn _ is zero
 
   pub stepped_on : (marks : List Mark) → IsQuiet (coming old.guest) → marks ≡ w.marks.items ++ mark.Stepped ∷ []
       → RunsAs (guests_of images rest) schedule (progress w.guest w.inputs.items w.place w.visible w.acts.items marks w.lines) first held
   stepped_on marks quiet marks_are =
-      rw (takes.guest, takes.place, acts_at, takes.inputs, takes.visible, takes.lines, marks_are, takes.marks) (by entry zero is)
-    where
-      by : (e : Entry) → process_of e ≡ 0 → slice_get schedule (length old.marks.items) ≡ Some e
-          → RunsAs (guests_of images rest) schedule (progress (after_answer old.guest (answer_now e)) old.inputs.items (old.place + took_input (answer_now e)) old.visible (acts_now e) (old.marks.items ++ mark.Stepped ∷ []) old.lines) first held
-      by (Turn q word clock) none there = stepped_runs images rest schedule old.guest old.inputs.items old.place old.visible old.acts.items old.marks.items old.lines first held word clock
-          (there ∙ ap (λ n. Some (Turn n word clock)) none) run live quiet
+      rw (takes.guest, takes.place, acts_at, takes.inputs, takes.visible, takes.lines, marks_are, takes.marks)
+      (stepped_runs images rest schedule old.guest old.inputs.items old.place old.visible old.acts.items old.marks.items old.lines first held turn.word turn.clock at_turn run live quiet)
 
   module _ (body : Body) (at : coming old.guest ≡ AtVisible body) (visible : Visible) (visible_is : visible ≡ record { p = 0; k = old.visible; body = body }) where
     pub showed_on : (marks : List Mark) → marks ≡ w.marks.items ++ mark.Showed old.visible ∷ [] → Becomes held held' (λ x y. y ≡ x ++ visible_line visible)
         → RunsAs (guests_of images rest) schedule (progress w.guest w.inputs.items w.place (w.visible + 1) w.acts.items marks (w.lines + 1)) first held'
     showed_on marks marks_are writes =
-        rw (takes.guest, takes.place, acts_at, takes.inputs, takes.visible, takes.lines, marks_are, takes.marks) (by entry zero is)
-      where
-        by : (e : Entry) → process_of e ≡ 0 → slice_get schedule (length old.marks.items) ≡ Some e
-            → RunsAs (guests_of images rest) schedule (progress (after_answer old.guest (answer_now e)) old.inputs.items (old.place + took_input (answer_now e)) (old.visible + 1) (acts_now e) (old.marks.items ++ mark.Showed old.visible ∷ []) (old.lines + 1)) first held'
-        by (Turn q word clock) none there = showed_runs images rest schedule old.guest old.inputs.items old.place old.visible old.acts.items old.marks.items old.lines first held word clock
-            (there ∙ ap (λ n. Some (Turn n word clock)) none) run live body at held' (subst (λ (v : Visible). Becomes held held' (λ x y. y ≡ x ++ visible_line v)) visible_is writes)
+        rw (takes.guest, takes.place, acts_at, takes.inputs, takes.visible, takes.lines, marks_are, takes.marks)
+        (showed_runs images rest schedule old.guest old.inputs.items old.place old.visible old.acts.items old.marks.items old.lines first held turn.word turn.clock at_turn run live body at held'
+        (subst (λ (v : Visible). Becomes held held' (λ x y. y ≡ x ++ visible_line v)) visible_is writes))
 
     pub breaks_on : (n : ℕ) × (n < length (visible_line visible)) × Becomes held held' (λ x y. y ≡ x ++ take n (visible_line visible))
         → TornAs (guests_of images rest) schedule w.acts.items w.marks.items w.lines first held'
-    breaks_on writes = rw (acts_at, takes.lines, takes.marks) (by entry zero is)
-      where
-        by : (e : Entry) → process_of e ≡ 0 → slice_get schedule (length old.marks.items) ≡ Some e
-            → TornAs (guests_of images rest) schedule (acts_now e) old.marks.items old.lines first held'
-        by (Turn q word clock) none there = showing_breaks images rest schedule old.guest old.inputs.items old.place old.visible old.acts.items old.marks.items old.lines first held word clock
-            (there ∙ ap (λ n. Some (Turn n word clock)) none) run live body at held'
-            (subst (λ (v : Visible). (n : ℕ) × (n < length (visible_line v)) × Becomes held held' (λ x y. y ≡ x ++ take n (visible_line v))) visible_is writes)
+    breaks_on writes = rw (acts_at, takes.lines, takes.marks)
+        (showing_breaks images rest schedule old.guest old.inputs.items old.place old.visible old.acts.items old.marks.items old.lines first held turn.word turn.clock at_turn run live body at held'
+        (subst (λ (v : Visible). (n : ℕ) × (n < length (visible_line v)) × Becomes held held' (λ x y. y ≡ x ++ take n (visible_line v))) visible_is writes))
 
-pub idle_on : (images : List Image) (rest : List (List (List ℕ))) (schedule : List Entry) (guest : Guest) (inputs : List (List ℕ)) (place shown : ℕ) (acts : List Taken) (marks marks' : List Mark) (lines : ℕ) (first held : Option (List ℕ)) (entry : Entry)
-    → process_of entry ≡ 0 → guest.ended ≡ true → marks' ≡ marks ++ mark.Idle Ended ∷ []
-    → slice_get schedule (length marks) ≡ Some entry → RunsAs (guests_of images rest) schedule (progress guest inputs place shown acts marks lines) first held → RunsAs (guests_of images rest) schedule (progress guest inputs place shown acts marks' lines) first held
-idle_on images rest schedule guest inputs place shown acts marks marks' lines first held (Turn q word clock) zero ended marks_are is run =
-    rw marks_are (idle_runs images rest schedule guest inputs place shown acts marks lines first held word clock (is ∙ ap (λ n. Some (Turn n word clock)) zero) run ended)
+pub idle_on : (images : List Image) (rest : List (List (List ℕ))) (schedule : List Entry) (guest : Guest) (inputs : List (List ℕ)) (place shown : ℕ) (acts : List Taken) (marks marks' : List Mark) (lines : ℕ) (first held : Option (List ℕ)) (turn : Turn)
+    → turn.p ≡ 0 → guest.ended ≡ true → marks' ≡ marks ++ mark.Idle Ended ∷ []
+    → slice_get schedule (length marks) ≡ Some (entry.Turn turn) → RunsAs (guests_of images rest) schedule (progress guest inputs place shown acts marks lines) first held → RunsAs (guests_of images rest) schedule (progress guest inputs place shown acts marks' lines) first held
+idle_on images rest schedule guest inputs place shown acts marks marks' lines first held turn zero ended marks_are is run =
+    rw marks_are (idle_runs images rest schedule guest inputs place shown acts marks lines first held turn.word turn.clock (own_turn turn _ is zero) run ended)
 
 nothing_written : (held : Option (List ℕ)) → Becomes held held (λ x y. y ≡ x ++ [])
 nothing_written None = tt

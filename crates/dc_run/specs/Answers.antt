@@ -3,8 +3,7 @@ use Rattle.std.specs.Prelude.{ℕ, ◌%◌, ◌==◌, List, Option, if◌then◌
 use Rattle.dc_events.specs.declared.event.Kind.{Kind}
 use Rattle.dc_events.specs.declared.event.Kind.TheVariants as kind
 use Rattle.dc_model.specs.Core.{input_answer}
-use Rattle.dc_model.specs.declared.entry.Entry.{Entry}
-use Rattle.dc_model.specs.declared.entry.Entry.TheVariants.{Turn}
+use Rattle.dc_model.specs.declared.entry.Turn.{Turn}
 use Rattle.dc_model.specs.Guests.{Answer}
 use Rattle.dc_model.specs.Guests.Answer.{Plain, Clock, Random, InputNone, ReceiveNone}
 use Rattle.dc_run.specs.declared.draw.Draw as declared
@@ -20,8 +19,8 @@ abbrev pub draw_of : declared.Draw → Draw
 draw_of d = record { word = d.word; clock = d.clock; next = slice_get d.records.now d.place }
 
 -- what a turn is answered from
-abbrev pub turn_draws : Entry → Option (List ℕ) → Draw
-turn_draws (Turn p word clock) next = record { word = word; clock = clock; next = next }
+abbrev pub turn_draws : Turn → Option (List ℕ) → Draw
+turn_draws turn next = record { word = turn.word; clock = turn.clock; next = next }
 
 -- what an event of a kind is answered where no other guest can have sent a message
 abbrev pub alone : Draw → Kind → Answer

@@ -30,14 +30,18 @@ IsMade (Ok file) (Ok program) = IsFileOf program file.items
 IsMade (Ok file) (Err refusal) = ⊥
 IsMade (Err v) told = (is_free v ≡ true) ⊎ (told ≡ Err v)
 
--- a file's bytes went to the sink: all of them, or after a fault a part of their front; it has no acts, marks or lines
+-- a text went to the sink: all of it, or after a fault a part of its front
+abbrev pub WritesOut : List ℕ → Verdict → Option (List ℕ) → Option (List ℕ) → Type 0
+WritesOut text verdict before after = ((verdict ≡ Done) × Becomes before after (λ x y. y ≡ x ++ text))
+    ⊎ ((verdict ≡ SinkFault Out) × ((n : ℕ) × (n < length text) × Becomes before after (λ x y. y ≡ x ++ take n text)))
+
+-- a file's bytes went to the sink; it has no acts, marks or lines
 pub record IsWritten (file : List ℕ) (o : Outcome) (before after : Option (List ℕ)) : Type 0 where
   pub did : o.did ≡ Assembled (length file)
   pub acts : o.acts.items ≡ []
   pub marks : o.marks.items ≡ []
   pub lines : o.lines ≡ 0
-  pub written : ((o.verdict ≡ Done) × Becomes before after (λ x y. y ≡ x ++ file))
-      ⊎ ((o.verdict ≡ SinkFault Out) × ((n : ℕ) × (n < length file) × Becomes before after (λ x y. y ≡ x ++ take n file)))
+  pub written : WritesOut file o.verdict before after
 
 -- a program was assembled: its ELF file went to the sink
 pub record IsAssembled (program : List Meant) (o : Outcome) (before after : Option (List ℕ)) : Type 0 where

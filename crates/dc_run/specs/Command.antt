@@ -1,35 +1,66 @@
 -- The words of a command, by the command line that they are read with.
-use Rattle.std.specs.Prelude.{ℕ, List, true, codes, map, Option, None, String, string_bytes, if◌then◌else◌, option_map, option_and_then, bytes_eq}
+use Rattle.std.specs.Prelude.{ℕ, List, true, codes, map, Option, None, Some, String, string_bytes, if◌then◌else◌, option_map, option_and_then, bytes_eq}
 use Rattle.std.specs.declared.alloc.Global.{Global}
-use Rattle.clap.specs.Words.{App, Row, Rule, Shape, new_app, new_rule, with_rule, with_subcommand, fault_of, first_of, subcommand_of}
+use Rattle.clap.specs.Words.{App, Row, Rule, new_app, new_rule, with_rule, with_subcommand, fault_of, first_of, subcommand_of}
 use Rattle.clap.specs.Walk.{is_empty}
 use Rattle.dc_run.specs.declared.command.Asked.{Asked as asked'}
 use Rattle.dc_run.specs.declared.command.Asked.TheVariants as word
+use Rattle.dc_run.specs.declared.command.Names.{Names as names'}
 
--- what the words ask for: to run a plan, or to assemble a source, by its name
+-- the names of a plan, of a report and of an output
+pub record Names : Type 0 where
+  pub plan : List ℕ
+  pub report : List ℕ
+  pub out : List ℕ
+
+-- what the words ask for, by the names of files: to run a plan, to check an output against a report, or to assemble a source
 pub data Asked : Type 0 where
   ToRun : (plan : List ℕ) → Asked
+  ToCheck : (names : Names) → Asked
   ToAssemble : (source : List ℕ) → Asked
 
 -- a word that a command needs at its place
 abbrev pub positional : List ℕ → Rule
 positional name = record (new_rule name) { required = true }
 
--- a command and the one word that it needs
-abbrev pub shape : List ℕ → List ℕ → Shape
-shape command word = (with_rule (new_app command) (positional word)).top
+-- a command that needs a word more
+abbrev pub with_word : App → List ℕ → App
+with_word command word = with_rule command (positional word)
 
--- `run` and the name of a plan, or `asm` and the name of a source: one of the commands has to be there
+-- one of its commands has to be there
+abbrev pub bare_line : App
+bare_line = record (new_app (codes "dc")) { top = record (new_app (codes "dc")).top { subcommand_required = true } }
+
+-- `run` and the name of a plan
+abbrev pub run_command : App
+run_command = with_word (new_app (codes "run")) (codes "plan")
+
+-- `check` and the names of a plan, of a report and of an output
+abbrev pub check_command : App
+check_command = with_word (with_word (with_word (new_app (codes "check")) (codes "plan")) (codes "report")) (codes "out")
+
+-- `asm` and the name of a source
+abbrev pub asm_command : App
+asm_command = with_word (new_app (codes "asm")) (codes "source")
+
+-- the program's commands
 abbrev pub command_line : App
-command_line = with_subcommand
-    (with_subcommand (record (new_app (codes "dc")) { top = record (new_app (codes "dc")).top { subcommand_required = true } }) (shape (codes "run") (codes "plan")))
-    (shape (codes "asm") (codes "source"))
+command_line = with_subcommand (with_subcommand (with_subcommand bare_line run_command.top) check_command.top) asm_command.top
+
+-- the names of a check, where all three are there
+abbrev pub names_by : Option (List ℕ) → Option (List ℕ) → Option (List ℕ) → Option Asked
+names_by (Some plan) (Some report) (Some out) = Some (ToCheck (record { plan = plan; report = report; out = out }))
+names_by _ _ _ = None
+
+-- what the rows of a command of this name ask for
+abbrev pub met_by : List ℕ → List Row → Option Asked
+met_by name rows = if bytes_eq name (codes "asm") then option_map ToAssemble (first_of (codes "source") rows)
+    else (if bytes_eq name (codes "check") then names_by (first_of (codes "plan") rows) (first_of (codes "report") rows) (first_of (codes "out") rows)
+    else option_map ToRun (first_of (codes "plan") rows))
 
 -- what the rows of a command ask for
 abbrev pub met : Option (List ℕ × List Row) → Option Asked
-met rows = option_and_then (λ command. if bytes_eq command.0 (codes "asm")
-    then option_map ToAssemble (first_of (codes "source") command.1)
-    else option_map ToRun (first_of (codes "plan") command.1)) rows
+met rows = option_and_then (λ command. met_by command.0 command.1) rows
 
 -- what texts of words ask for
 abbrev pub asked_by : List (List ℕ) → Option Asked
@@ -39,7 +70,12 @@ asked_by words = if is_empty (fault_of command_line words) then met (subcommand_
 abbrev pub asked_of : List (String Global) → Option Asked
 asked_of words = asked_by (map string_bytes words)
 
+-- names as the code holds them
+abbrev pub names_view : names' → Names
+names_view names = record { plan = names.plan.now; report = names.report.now; out = names.out.now }
+
 -- as the code holds it
 abbrev pub asked_view : asked' → Asked
 asked_view (word.Run plan) = ToRun plan.now
+asked_view (word.Check names) = ToCheck (names_view names)
 asked_view (word.Assemble source) = ToAssemble source.now

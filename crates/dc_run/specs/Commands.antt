@@ -1,10 +1,11 @@
 -- What a command comes to, by the words and the told files.
-use Rattle.std.specs.Prelude.{◌≡◌, ◌≢◌, ◌⊎◌, true, List, IsSome, IsSomeAnd, Result, Ok, Err, String}
+use Rattle.std.specs.Prelude.{◌≡◌, ◌≢◌, ◌⊎◌, true, List, IsOkAnd, IsSome, IsSomeAnd, Result, Ok, Err, String}
 use Rattle.std.specs.declared.alloc.Global.{Global}
 use Rattle.dc_asm.specs.declared.forms.Meant.{Meant}
 use Rattle.dc_run.specs.Assembling.{program_in}
+use Rattle.dc_run.specs.Checking.{AsksToCheck, Checked, Found, checked_in, found_in}
 use Rattle.dc_run.specs.Command.{Asked, asked_of}
-use Rattle.dc_run.specs.Command.Asked.{ToRun, ToAssemble}
+use Rattle.dc_run.specs.Command.Asked.{ToRun, ToCheck, ToAssemble}
 use Rattle.dc_words.specs.Results.{◌>>=◌, or_fault}
 use Rattle.dc_run.specs.Opening.{Files, Setting, AsksToRun, opening_of}
 use Rattle.dc_run.specs.Settings.{is_free, was_opened}
@@ -13,14 +14,16 @@ use Rattle.dc_run.specs.declared.verdict.Verdict.TheVariants.{Usage}
 use Rattle.dc_run.specs.declared.verdict.Which.{Which}
 use Rattle.dc_run.specs.declared.verdict.Which.TheVariants.{Source}
 
--- what there is to carry out: a run that is opened, or a source's program
+-- what there is to carry out: a run that is opened, an output that passes, or a source's program
 pub data Work : Type 0 where
   Run : (setting : Setting) → Work
+  Check : (checked : Checked) → Work
   Assembly : (program : List Meant) → Work
 
 -- what there is to carry out, by what is asked for
 abbrev pub work_by : Files → Asked → Result Work Verdict
 work_by files (ToRun plan) = opening_of files plan >>= (λ setting. Ok (Run setting))
+work_by files (ToCheck names) = checked_in files names >>= (λ checked. Ok (Check checked))
 work_by files (ToAssemble source) = program_in files source >>= (λ program. Ok (Assembly program))
 
 -- the words, then what their command wants: the first that is refused decides
@@ -30,21 +33,32 @@ work_of files words = or_fault Usage (asked_of words) >>= work_by files
 -- the work is a run of which this holds
 abbrev pub IfRun : Work → (Setting → Type 0) → Type 0
 IfRun (Run setting) P = P setting
-IfRun (Assembly program) P = Unit {0}
+IfRun _ P = Unit {0}
+
+-- the work is an output that passes, of which this holds
+abbrev pub IfCheck : Work → (Checked → Type 0) → Type 0
+IfCheck (Check checked) P = P checked
+IfCheck _ P = Unit {0}
 
 -- the work is an assembly of which this holds
 abbrev pub IfAssembly : Work → (List Meant → Type 0) → Type 0
-IfAssembly (Run setting) P = Unit {0}
 IfAssembly (Assembly program) P = P program
+IfAssembly _ P = Unit {0}
 
 -- which files a command asks for and finds
 abbrev pub AsksFor : Files → Asked → Which → Type 0
 AsksFor files (ToRun plan) which = AsksToRun files plan which
+AsksFor files (ToCheck names) which = AsksToCheck files names which
 AsksFor files (ToAssemble source) which = (which ≡ Source) × IsSome (files source)
 
 -- by its words
 abbrev pub Asks : Files → List (String Global) → Which → Type 0
 Asks files words which = IsSomeAnd (asked_of words) (λ asked. AsksFor files asked which)
+
+-- of a check that finds how an output differs, or passes: this holds of what it finds
+abbrev pub IfFound : Files → Asked → (Found → Type 0) → Type 0
+IfFound files (ToCheck names) P = IsOkAnd (found_in files names) P
+IfFound files _ P = Unit {0}
 
 -- a refusal is answered exactly where the told files give it first; a free verdict may take its place
 pub record IsExact {A : Type 0} (verdict refusal : Verdict) (told : Result A Verdict) : Type 0 where

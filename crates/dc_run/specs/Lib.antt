@@ -1,11 +1,10 @@
 pub mod Command
-pub mod Schedules
 pub mod Answers
 pub mod Headline
 pub mod Outcomes
-pub mod Reserved
 pub mod Running
 pub mod Opening
 pub mod Settings
 pub mod Assembling
+pub mod Checking
 pub mod Commands

@@ -1,5 +1,5 @@
 -- What a run is opened with, by the told files, or the refusal that comes first.
-use Rattle.std.specs.Prelude.{◌≡◌, ℕ, List, [], Option, None, Some, IsOkAnd, IsSome, IsSomeAnd, Result, Ok, Err, slice_index_or}
+use Rattle.std.specs.Prelude.{◌≡◌, ℕ, List, [], Option, None, Some, IsOkAnd, IsSome, IsSomeAnd, Result, Ok, Err, if◌then◌else◌, slice_index_or}
 use Rattle.dc_elf.specs.Files.{file_fault}
 use Rattle.dc_elf.specs.Images.{Image, image_of}
 use Rattle.dc_elf.specs.declared.faults.ElfFault.{ElfFault}
@@ -7,8 +7,9 @@ use Rattle.dc_words.specs.Results.{◌>>=◌, or_fault}
 use Rattle.dc_plan.specs.Plans.{Plan, plan_of}
 use Rattle.dc_plan.specs.declared.fault.PlanFault.{PlanFault}
 use Rattle.dc_model.specs.declared.entry.Entry.{Entry}
-use Rattle.dc_run.specs.Schedules.{schedule_of}
-use Rattle.dc_run.specs.declared.verdict.ScheduleFault.{ScheduleFault}
+use Rattle.dc_plan.specs.Built.{are_stop_lines_built}
+use Rattle.dc_schedule.specs.Schedules.{schedule_of, turns_of}
+use Rattle.dc_schedule.specs.declared.fault.ScheduleFault.{ScheduleFault}
 use Rattle.dc_run.specs.declared.verdict.Verdict.{Verdict}
 use Rattle.dc_run.specs.declared.verdict.Verdict.TheVariants.{PlanRefused, GuestRefused, Missing, ScheduleRefused}
 use Rattle.dc_run.specs.declared.verdict.Which.{Which}
@@ -46,6 +47,10 @@ plan_in (Err fault) = Err (PlanRefused fault)
 abbrev pub guest_name : Plan → List ℕ
 guest_name plan = slice_index_or plan.guests 0 []
 
+-- the schedule of a text, by what is built of its lines
+abbrev pub schedule_of_plan : ℕ → List ℕ → Result (List Entry) ScheduleFault
+schedule_of_plan n text = if are_stop_lines_built then schedule_of n text else turns_of n text
+
 -- the schedule, or the fault of its first faulty line
 abbrev pub schedule_in : Result (List Entry) ScheduleFault → Result (List Entry) Verdict
 schedule_in (Ok schedule) = Ok schedule
@@ -53,7 +58,7 @@ schedule_in (Err fault) = Err (ScheduleRefused fault)
 
 -- with the plan and the image, from the bytes of the schedule
 abbrev pub opening_at_end : Plan → Image → List ℕ → Result Setting Verdict
-opening_at_end plan image text = schedule_in (schedule_of 1 text) >>= (λ schedule. Ok (record { image = image; inputs = plan.inputs; schedule = schedule }))
+opening_at_end plan image text = schedule_in (schedule_of_plan 1 text) >>= (λ schedule. Ok (record { image = image; inputs = plan.inputs; schedule = schedule }))
 
 -- with the plan, from the bytes of the guest
 abbrev pub opening_at_guest : Files → Plan → List ℕ → Result Setting Verdict

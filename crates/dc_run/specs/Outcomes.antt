@@ -1,25 +1,23 @@
 -- The status of a verdict, and the line that says it.
 use Rattle.std.specs.Prelude.{◌≡◌, ℕ, List, ◌++◌, ◌∷◌, [], codes, decimal, length}
 use Rattle.dc_run.specs.declared.outcome.Outcome.{Outcome}
-use Rattle.dc_asm.specs.declared.faults.AsmFault.{AsmFault}
 use Rattle.dc_asm.specs.declared.faults.AsmKind.{AsmKind}
 use Rattle.dc_asm.specs.declared.faults.AsmKind.TheVariants as asm
 use Rattle.dc_elf.specs.declared.faults.ElfFault.{ElfFault}
 use Rattle.dc_elf.specs.declared.faults.ElfFault.TheVariants as elf
 use Rattle.dc_run.specs.declared.verdict.Did.{Did}
-use Rattle.dc_run.specs.declared.verdict.Did.TheVariants.{Run, Assembled}
-use Rattle.dc_run.specs.declared.verdict.LineFault.{LineFault}
-use Rattle.dc_run.specs.declared.verdict.LineFault.TheVariants.{Form, Process, ClockFell, TooMany}
+use Rattle.dc_run.specs.declared.verdict.Did.TheVariants.{Run, Checked, Assembled}
 use Rattle.dc_run.specs.declared.verdict.Outlet.{Outlet}
 use Rattle.dc_run.specs.declared.verdict.Outlet.TheVariants.{Out, Report}
 use Rattle.dc_plan.specs.Keys.{key_text}
 use Rattle.dc_plan.specs.declared.fault.PlanFault.{PlanFault}
 use Rattle.dc_plan.specs.declared.fault.PlanFault.TheVariants as plan
-use Rattle.dc_run.specs.declared.verdict.ScheduleFault.{ScheduleFault}
+use Rattle.dc_acts.specs.Reading.{kind_text as report_kind_text}
+use Rattle.dc_schedule.specs.Schedules.{kind_text as schedule_kind_text}
 use Rattle.dc_run.specs.declared.verdict.Verdict.{Verdict}
-use Rattle.dc_run.specs.declared.verdict.Verdict.TheVariants.{Done, Unfinished, Usage, PlanRefused, GuestRefused, Missing, LibraryFault, SinkFault, WantOfMemory, ScheduleRefused, AsmRefused}
+use Rattle.dc_run.specs.declared.verdict.Verdict.TheVariants.{Done, Unfinished, Usage, PlanRefused, GuestRefused, Missing, LibraryFault, SinkFault, NotARun, Differs, WantOfMemory, ScheduleRefused, ReportRefused, AsmRefused}
 use Rattle.dc_run.specs.declared.verdict.Which.{Which}
-use Rattle.dc_run.specs.declared.verdict.Which.TheVariants.{Plan, Guest, Schedule, Source}
+use Rattle.dc_run.specs.declared.verdict.Which.TheVariants as which
 
 -- the status with which the program ends
 abbrev pub status_of : Verdict → ℕ
@@ -31,16 +29,21 @@ status_of (GuestRefused p fault) = 4
 status_of (Missing which) = 5
 status_of (LibraryFault which) = 6
 status_of (SinkFault outlet) = 8
+status_of (NotARun place) = 9
+status_of (Differs line) = 9
 status_of WantOfMemory = 10
 status_of (ScheduleRefused fault) = 11
+status_of (ReportRefused fault) = 13
 status_of (AsmRefused fault) = 14
 
 -- the name of a file of a command
 abbrev pub which_text : Which → List ℕ
-which_text Plan = codes "plan"
-which_text (Guest p) = codes "guest " ++ decimal p
-which_text Schedule = codes "schedule"
-which_text Source = codes "source"
+which_text which.Plan = codes "plan"
+which_text (which.Guest p) = codes "guest " ++ decimal p
+which_text which.Schedule = codes "schedule"
+which_text which.Report = codes "report"
+which_text which.Out = codes "out"
+which_text which.Source = codes "source"
 
 -- a fault of a key, or of the whole
 abbrev pub plan_fault_text : PlanFault → List ℕ
@@ -68,16 +71,9 @@ elf_fault_text elf.Entry = codes "entry"
 abbrev pub guest_fault_text : ℕ → ElfFault → List ℕ
 guest_fault_text p fault = codes "guest " ++ decimal p ++ codes " refused: " ++ elf_fault_text fault
 
--- what is wrong with a line of a schedule, in words
-abbrev pub line_fault_text : LineFault → List ℕ
-line_fault_text Form = codes "form"
-line_fault_text Process = codes "process"
-line_fault_text ClockFell = codes "clock fell"
-line_fault_text TooMany = codes "too many"
-
--- a refused schedule
-abbrev pub schedule_fault_text : ScheduleFault → List ℕ
-schedule_fault_text fault = codes "schedule line " ++ decimal fault.line ++ codes " refused: " ++ line_fault_text fault.kind
+-- the faulty line of a text
+abbrev pub refused_text : List ℕ → ℕ → List ℕ → List ℕ
+refused_text what number kind = what ++ codes " line " ++ decimal number ++ codes " refused: " ++ kind
 
 -- what is wrong with a line of a source, in words
 abbrev pub asm_kind_text : AsmKind → List ℕ
@@ -87,10 +83,6 @@ asm_kind_text asm.Immediate = codes "immediate"
 asm_kind_text asm.Label = codes "label"
 asm_kind_text asm.Twice = codes "twice"
 asm_kind_text asm.TooLong = codes "too long"
-
--- a refused source
-abbrev pub asm_fault_text : AsmFault → List ℕ
-asm_fault_text fault = codes "source line " ++ decimal fault.line ++ codes " refused: " ++ asm_kind_text fault.kind
 
 -- the name of a sink
 abbrev pub outlet_text : Outlet → List ℕ
@@ -104,6 +96,7 @@ counts_text name acts lines = name ++ decimal acts ++ codes " acts " ++ decimal 
 -- what a call did that is done
 abbrev pub done_text : Did → ℕ → ℕ → List ℕ
 done_text Run acts lines = counts_text (codes "done ") acts lines
+done_text (Checked visibles) acts lines = counts_text (codes "done ") acts visibles
 done_text (Assembled bytes) acts lines = codes "done " ++ decimal bytes ++ codes " bytes"
 
 -- the verdict in words
@@ -116,9 +109,12 @@ verdict_text (GuestRefused p fault) did acts lines = guest_fault_text p fault
 verdict_text (Missing which) did acts lines = codes "missing: " ++ which_text which
 verdict_text (LibraryFault which) did acts lines = codes "library failed: " ++ which_text which
 verdict_text (SinkFault outlet) did acts lines = codes "sink failed: " ++ outlet_text outlet
+verdict_text (NotARun place) did acts lines = codes "not a run: act " ++ decimal place
+verdict_text (Differs line) did acts lines = codes "differs: line " ++ decimal line
 verdict_text WantOfMemory did acts lines = codes "out of memory"
-verdict_text (ScheduleRefused fault) did acts lines = schedule_fault_text fault
-verdict_text (AsmRefused fault) did acts lines = asm_fault_text fault
+verdict_text (ScheduleRefused fault) did acts lines = refused_text (codes "schedule") fault.line (schedule_kind_text fault.kind)
+verdict_text (ReportRefused fault) did acts lines = refused_text (codes "report") fault.line (report_kind_text fault.kind)
+verdict_text (AsmRefused fault) did acts lines = refused_text (codes "source") fault.line (asm_kind_text fault.kind)
 
 -- the line on standard error
 abbrev pub outcome_line : Outcome → List ℕ

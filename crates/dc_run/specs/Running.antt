@@ -1,5 +1,5 @@
 -- How far a run has come.
-use Rattle.std.specs.Prelude.{◌≡◌, ◌+◌, ◌<◌, ◌≤◌, ◌^◌, ℕ, List, [], ◌∷◌, ◌++◌, length, reverse, take, Option, Some, slice_get}
+use Rattle.std.specs.Prelude.{◌≡◌, ◌==◌, ◌+◌, ◌<◌, ◌≤◌, ◌^◌, ℕ, Bool, false, List, [], ◌∷◌, ◌++◌, length, reverse, take, Option, Some, slice_get}
 use Rattle.dc_media.specs.Told.{Becomes}
 use Rattle.dc_model.specs.Core.{Core, LeadsTo, stands}
 use Rattle.dc_events.specs.Kinds.{kind_of}
@@ -11,11 +11,12 @@ use Rattle.dc_model.specs.Guests.{Answer, Guests}
 use Rattle.dc_model.specs.Process.{took_input}
 use Rattle.dc_model.specs.declared.act.Taken.{Taken}
 use Rattle.dc_model.specs.declared.entry.Entry.{Entry}
+use Rattle.dc_model.specs.declared.entry.Entry.TheVariants as entry
+use Rattle.dc_model.specs.declared.entry.Turn.{Turn}
 use Rattle.dc_model.specs.declared.mark.Mark.{Mark}
 use Rattle.dc_model.specs.declared.mark.Mark.TheVariants as mark
 use Rattle.dc_model.specs.declared.visible.Visible.{Visible}
 use Rattle.dc_run.specs.Answers.{alone, turn_draws}
-use Rattle.dc_run.specs.Schedules.{process_of}
 use Rattle.dc_run.specs.declared.world.World.{World}
 
 -- how far a run has come: its guest, the inputs of that and how many of them it took, how many visible events it had, the acts, the marks, and
@@ -66,33 +67,39 @@ pub record TornAs (G : Guests Guest) (schedule : List Entry) (acts : List Taken)
 abbrev pub IsTorn : Guests Guest → List Entry → World → Option (List ℕ) → Option (List ℕ) → Type 0
 IsTorn G schedule w before after = TornAs G schedule w.acts.items w.marks.items w.lines before after
 
--- what the guest of a run is answered at an entry of its own
-abbrev pub answer_at : World → Entry → Answer
-answer_at w entry = alone (turn_draws entry (slice_get w.inputs.items w.place)) (kind_of (next_of w.guest))
+-- what the guest of a run is answered at a turn of its own
+abbrev pub answer_at : World → Turn → Answer
+answer_at w turn = alone (turn_draws turn (slice_get w.inputs.items w.place)) (kind_of (next_of w.guest))
 
--- the guest took its event at an entry: it is after that answer, its act is there, and the rest stays
-pub record Takes (old new : World) (entry : Entry) : Type 0 where
-  pub guest : new.guest ≡ after_answer old.guest (answer_at old entry)
-  pub place : new.place ≡ old.place + took_input (answer_at old entry)
-  pub acts : new.acts.items ≡ old.acts.items ++ record { t = length old.marks.items; p = process_of entry; act = act_of (answer_at old entry) } ∷ []
+-- the guest took its event at a turn: it is after that answer, its act is there, and the rest stays
+pub record Takes (old new : World) (turn : Turn) : Type 0 where
+  pub guest : new.guest ≡ after_answer old.guest (answer_at old turn)
+  pub place : new.place ≡ old.place + took_input (answer_at old turn)
+  pub acts : new.acts.items ≡ old.acts.items ++ record { t = length old.marks.items; p = turn.p; act = act_of (answer_at old turn) } ∷ []
   pub inputs : new.inputs ≡ old.inputs
   pub visible : new.visible ≡ old.visible
   pub marks : new.marks ≡ old.marks
   pub lines : new.lines ≡ old.lines
 
--- wherever a run has come to, the entry at its place leads it on
-abbrev pub GoesOn : World → World → Entry → Option (List ℕ) → Option (List ℕ) → Type 0
-GoesOn old new entry held held' = (images : List Image) (inputs : List (List (List ℕ))) (schedule : List Entry) (first : Option (List ℕ)) →
-    slice_get schedule (length old.marks.items) ≡ Some entry → IsRunning (guests_of images inputs) schedule old first held → IsRunning (guests_of images inputs) schedule new first held'
+-- a turn of the one guest
+abbrev pub is_turn : Entry → Bool
+is_turn (entry.Turn turn) = turn.p == 0
+is_turn _ = false
+
+-- wherever a run has come to, the turn at its place leads it on
+abbrev pub GoesOn : World → World → Turn → Option (List ℕ) → Option (List ℕ) → Type 0
+GoesOn old new turn held held' = (images : List Image) (inputs : List (List (List ℕ))) (schedule : List Entry) (first : Option (List ℕ)) →
+    slice_get schedule (length old.marks.items) ≡ Some (entry.Turn turn) → IsRunning (guests_of images inputs) schedule old first held → IsRunning (guests_of images inputs) schedule new first held'
 
 -- the same where its line is cut off
-abbrev pub BreaksOff : World → World → Entry → Option (List ℕ) → Option (List ℕ) → Type 0
-BreaksOff old new entry held held' = (images : List Image) (inputs : List (List (List ℕ))) (schedule : List Entry) (first : Option (List ℕ)) →
-    slice_get schedule (length old.marks.items) ≡ Some entry → IsRunning (guests_of images inputs) schedule old first held → IsTorn (guests_of images inputs) schedule new first held'
+abbrev pub BreaksOff : World → World → Turn → Option (List ℕ) → Option (List ℕ) → Type 0
+BreaksOff old new turn held held' = (images : List Image) (inputs : List (List (List ℕ))) (schedule : List Entry) (first : Option (List ℕ)) →
+    slice_get schedule (length old.marks.items) ≡ Some (entry.Turn turn) → IsRunning (guests_of images inputs) schedule old first held → IsTorn (guests_of images inputs) schedule new first held'
 
 -- there is room for this many entries more
 pub record HasRoom (w : World) (left : ℕ) : Type 0 where
   pub acts : length w.acts.items + left ≤ w.acts.room
+  pub few : length w.acts.items + left < 2 ^ 32
   pub marks : length w.marks.items + left ≤ w.marks.room
   pub turns : length w.marks.items + left < 2 ^ 32
   pub place : w.place + left < 2 ^ 32

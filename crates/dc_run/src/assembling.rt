@@ -1,4 +1,6 @@
-ghost use Rattle.std.specs.Prelude.{◌≡◌, ◌≤◌, ◌⊎◌, Err, Some, false, true, IfErr, IfSome, IsErrOf, IsSome, IsOkAnd, OnOk};
+ghost use Rattle.std.specs.Prelude.{◌≡◌, ◌≤◌, ◌⊎◌, Err, Some, false, true, List, IfErr, IfOk, IfSome, IsErrOf, IsSome, IsOkAnd, OnOk};
+ghost use Rattle.dc_asm.specs.Program.{IsFileOf};
+ghost use Rattle.dc_asm.specs.declared.forms.Meant.{Meant};
 ghost use Rattle.dc_media.specs.Causes.{Rose};
 ghost use Rattle.dc_media.specs.Told.{TellsOn};
 ghost use Rattle.dc_run.specs.Assembling.{IsAssembled, IsMade, IsWritten, program_in};
@@ -18,6 +20,7 @@ use std::alloc::Global;
 /// The ELF file of the source of that name.
 fn file_of<L: Library>(alloc: Global, source: &str, lib: &mut L) -> Result<Vec<u8>, Verdict>
     ensures told { (files : Files) → L.files lib.old ≡ Some files → IsMade result (program_in files source.now) }
+    ensures some { IfOk result (λ file. (program : List Meant) × IsFileOf program file.items) }
     ensures closed { IfErr result (λ v. was_opened v ≡ false) }
     ensures which { (w : Whose) → IsErrOf result (Verdict.LibraryFault w) → w ≡ Which.Source }
     ensures there { (files : Files) (w : Whose) → L.files lib.old ≡ Some files → IsErrOf result (Verdict.LibraryFault w) → IsSome (files source.now) }
@@ -64,6 +67,7 @@ pub fn assemble_source<L: Library, O: Sink>(
     ensures opened { IfSome (L.files lib.old) (λ files. IsOpenedFor result.verdict (program_in files source.now)) }
     ensures assembled { was_opened result.verdict ≡ true → IfSome (L.files lib.old) (λ files. IsOkAnd (program_in files source.now) (λ program.
         IsAssembled program result (O.held out.old) (O.held out.new))) }
+    ensures some { was_opened result.verdict ≡ true → (program : List Meant) × IsAssembled program result (O.held out.old) (O.held out.new) }
     ensures asked { ¬ (result.verdict ≡ Verdict.Usage) }
     ensures which { (w : Whose) → result.verdict ≡ Verdict.LibraryFault w → w ≡ Which.Source }
     ensures there { (w : Whose) → IfSome (L.files lib.old) (λ files. result.verdict ≡ Verdict.LibraryFault w → IsSome (files source.now)) }

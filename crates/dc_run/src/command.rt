@@ -1,6 +1,6 @@
-ghost use Rattle.std.specs.Prelude.{◌≡◌, ◌⊎◌, Err, IfOk, None, Some, option_map};
-ghost use Rattle.clap.specs.Words.{app_of, subcommand_rows_of, with_subcommand};
-ghost use Rattle.dc_run.specs.Command.{asked_of, asked_view, command_line, met, shape};
+ghost use Rattle.std.specs.Prelude.{◌≡◌, ◌⊎◌, Err, IfOk, None, Some, codes, option_map};
+ghost use Rattle.clap.specs.Words.{app_of, first_of, found_of, new_app, rows_of, subcommand_rows_of, with_subcommand};
+ghost use Rattle.dc_run.specs.Command.{asked_of, asked_view, check_command, command_line, met, met_by, names_by, with_word};
 ghost use Rattle.dc_run.specs.declared.verdict.Verdict.{Verdict as Verdicts};
 
 use crate::Verdict;
@@ -8,10 +8,20 @@ use clap::error::ErrorKind;
 use clap::{Arg, ArgMatches, Command};
 use std::alloc::{AllocError, Global};
 
-/// What the words ask for, by the name of a file.
+/// The names of the files of a check.
+#[derive(Clone, Copy)]
+pub struct Names<'a> {
+    pub plan: &'a str,
+    pub report: &'a str,
+    pub out: &'a str,
+}
+
+/// What the words ask for, by the names of files.
 pub enum Asked<'a> {
     /// To run that plan.
     Run(&'a str),
+    /// To check an output against a report, by a plan.
+    Check(Names<'a>),
     /// To assemble that source.
     Assemble(&'a str),
 }
@@ -23,19 +33,64 @@ fn with_command<'a>(
     name: &'a str,
     word: &'a str,
 ) -> Result<Command<'a>, AllocError>
-    ensures { IfOk result (λ c. app_of c ≡ with_subcommand (app_of top.entry) (shape name.entry.now word.entry.now)) }
+    ensures { IfOk result (λ c. app_of c ≡ with_subcommand (app_of top.entry) (with_word (new_app name.entry.now) word.entry.now).top) }
 {
     let command = Command::new(alloc, name).arg(Arg::new(alloc, word).required(true))?;
     top.subcommand(command)
 }
 
-/// The command line: `run` and the name of a plan, or `asm` and the name of a source.
+/// Adds `check` with the names of a plan, of a report and of an output.
+fn with_check<'a>(alloc: Global, top: Command<'a>) -> Result<Command<'a>, AllocError>
+    ensures { IfOk result (λ c. app_of c ≡ with_subcommand (app_of top.entry) check_command.top) }
+{
+    let plan = Arg::new(alloc, "plan").required(true);
+    let report = Arg::new(alloc, "report").required(true);
+    let out = Arg::new(alloc, "out").required(true);
+    let planned = Command::new(alloc, "check").arg(plan)?;
+    let reported = planned.arg(report)?;
+    let check = reported.arg(out)?;
+    top.subcommand(check)
+}
+
+/// The command line: one of the commands has to be there.
 fn command<'a>(alloc: Global) -> Result<Command<'a>, AllocError>
     ensures { IfOk result (λ c. app_of c ≡ command_line) }
 {
     let top = Command::new(alloc, "dc").subcommand_required(true);
     let top = with_command(alloc, top, "run", "plan")?;
+    let top = with_check(alloc, top)?;
     with_command(alloc, top, "asm", "source")
+}
+
+/// The word of that name.
+fn word<'a>(matches: &ArgMatches<'a>, name: &str) -> Option<&'a str>
+    ensures { option_map (λ w. w.now) result ≡ first_of name.now (rows_of (found_of matches.now)) }
+{
+    matches.get_str(name)
+}
+
+/// What the words of a check ask for.
+fn names_met<'a>(matches: &ArgMatches<'a>) -> Option<Asked<'a>>
+    ensures { option_map asked_view result ≡ names_by (first_of (codes "plan") (rows_of (found_of matches.now)))
+        (first_of (codes "report") (rows_of (found_of matches.now))) (first_of (codes "out") (rows_of (found_of matches.now))) }
+{
+    let plan = word(matches, "plan")?;
+    let report = word(matches, "report")?;
+    let out = word(matches, "out")?;
+    Some(Asked::Check(Names { plan, report, out }))
+}
+
+/// What the words of the command of that name ask for.
+fn met_by<'a>(name: &str, matches: &ArgMatches<'a>) -> Option<Asked<'a>>
+    ensures { option_map asked_view result ≡ met_by name.now (rows_of (found_of matches.now)) }
+{
+    if name == "asm" {
+        return Some(Asked::Assemble(word(matches, "source")?));
+    }
+    if name == "check" {
+        return names_met(matches);
+    }
+    Some(Asked::Run(word(matches, "plan")?))
 }
 
 /// What the matches of a command ask for.
@@ -43,11 +98,7 @@ fn met<'a>(matches: &ArgMatches<'a>) -> Option<Asked<'a>>
     ensures { option_map asked_view result ≡ met (subcommand_rows_of matches.now) }
 {
     let (name, inner) = matches.subcommand()?;
-    if name == "asm" {
-        Some(Asked::Assemble(inner.get_str("source")?))
-    } else {
-        Some(Asked::Run(inner.get_str("plan")?))
-    }
+    met_by(name, inner)
 }
 
 /// What the words ask for; the first word is the program's name.

@@ -1,20 +1,23 @@
-ghost use Rattle.std.specs.Prelude.{◌≡◌, ◌≤◌, ◌⊎◌, ◌%◌, false, None, Some, Err, All, IfErr, IfOk, IsErrOf, IsSome, OnOk, length};
+ghost use Rattle.std.specs.Prelude.{◌≡◌, ◌≤◌, ◌⊎◌, ◌%◌, false, true, None, Some, Err, All, IfErr, IfOk, IsErrOf, IsSome, OnOk, length};
 ghost use Rattle.dc_media.specs.Causes.{Rose};
 ghost use Rattle.dc_elf.specs.Files.{file_fault};
 ghost use Rattle.dc_run.specs.Opening.{AsksAtGuest, AsksAtPlan, AsksToRun, Files, file_in, opening_of, opening_at_plan, opening_at_guest, opening_at_end, guest_in, plan_in};
 ghost use Rattle.dc_plan.specs.Allowed.{IsAllowed};
 ghost use Rattle.dc_plan.specs.Plans.{plan_of, plan_view};
-ghost use Rattle.dc_run.specs.Schedules.{process_of};
+ghost use Rattle.dc_run.specs.Opening.{schedule_of_plan};
+ghost use Rattle.dc_run.specs.Running.{is_turn};
+ghost use Rattle.dc_schedule.specs.Schedules.{Reads};
 ghost use Rattle.dc_run.specs.Settings.{Agrees, LibraryKept, setting_of, was_opened};
 ghost use Rattle.dc_plain.specs.Playing.{seen_image};
 ghost use Rattle.dc_run.specs.declared.verdict.Which.{Which as Whose};
 
-use crate::schedule::read_schedule;
 use crate::setting::Setting;
-use crate::{Unread, Verdict, Which};
+use crate::{Verdict, Which};
 use dc_elf::{Image, LoadFault, load};
 use dc_media::{Fetch, Library};
-use dc_plan::{Plan, PlanError, read_plan};
+use dc_model::Entry;
+use dc_plan::{ARE_STOP_LINES_BUILT, Plan, PlanError, read_plan};
+use dc_schedule::{ReadError, read, read_turns};
 use std::alloc::Global;
 
 /// All the bytes of a file of the command.
@@ -73,6 +76,19 @@ fn plan_in(alloc: Global, text: &[u8]) -> Result<Plan, Verdict>
     }
 }
 
+/// The schedule of a text for one guest, by what is built of its lines.
+fn read_schedule(alloc: Global, text: &[u8]) -> Result<Vec<Entry>, ReadError>
+    ensures exact { Reads result (schedule_of_plan 1 text.now) }
+    ensures turns { IfOk result (λ entries. All (λ entry. is_turn entry ≡ true) entries.items) }
+    ensures few { IfOk result (λ entries. length entries.items ≤ 1000000) }
+{
+    if ARE_STOP_LINES_BUILT {
+        read(alloc, text, 1)
+    } else {
+        read_turns(alloc, text, 1)
+    }
+}
+
 /// With the plan, the guest's image and the bytes of the schedule.
 fn settle(alloc: Global, plan: Plan, image: Image, text: &[u8]) -> Result<Setting, Verdict>
     requires allowed { IsAllowed (plan_view plan) }
@@ -83,15 +99,15 @@ fn settle(alloc: Global, plan: Plan, image: Image, text: &[u8]) -> Result<Settin
     ensures asked { ¬ (result ≡ Err Verdict.Usage) }
     ensures sound { (w : Whose) → IsErrOf result (Verdict.LibraryFault w) → ⊥ }
 {
-    match read_schedule(alloc, text, 1) {
+    match read_schedule(alloc, text) {
         Ok(schedule) => Ok(Setting {
             memory: image.memory,
             entry: image.entry,
             inputs: plan.inputs,
             schedule,
         }),
-        Err(Unread::Refused(fault)) => Err(Verdict::ScheduleRefused(fault)),
-        Err(Unread::Memory) => Err(Verdict::WantOfMemory),
+        Err(ReadError::Refused(fault)) => Err(Verdict::ScheduleRefused(fault)),
+        Err(ReadError::Memory) => Err(Verdict::WantOfMemory),
     }
 }
 
@@ -108,6 +124,7 @@ fn open_guest<L: Library>(
     ensures asked { ¬ (result ≡ Err Verdict.Usage) }
     ensures reached { (files : Files) (w : Whose) → L.files lib.old ≡ Some files → IsErrOf result (Verdict.LibraryFault w) →
         AsksAtGuest files (plan_view plan) file.now w }
+    ensures files { OnOk result (L.files lib.new ≡ L.files lib.old) }
     ensures fault { (w : Whose) → IsErrOf result (Verdict.LibraryFault w) → Rose (L.faults lib.old) (L.faults lib.new) }
     ensures library { LibraryKept (L.files lib.old) (L.files lib.new) (L.faults lib.old) (L.faults lib.new) }
 {
@@ -123,6 +140,7 @@ fn open_plan<L: Library>(alloc: Global, lib: &mut L, text: &[u8]) -> Result<Sett
     ensures asked { ¬ (result ≡ Err Verdict.Usage) }
     ensures reached { (files : Files) (w : Whose) → L.files lib.old ≡ Some files → IsErrOf result (Verdict.LibraryFault w) →
         AsksAtPlan files text.now w }
+    ensures files { OnOk result (L.files lib.new ≡ L.files lib.old) }
     ensures fault { (w : Whose) → IsErrOf result (Verdict.LibraryFault w) → Rose (L.faults lib.old) (L.faults lib.new) }
     ensures library { LibraryKept (L.files lib.old) (L.files lib.new) (L.faults lib.old) (L.faults lib.new) }
 {
@@ -138,6 +156,7 @@ pub fn open<L: Library>(alloc: Global, plan: &str, lib: &mut L) -> Result<Settin
     ensures asked { ¬ (result ≡ Err Verdict.Usage) }
     ensures reached { (files : Files) (w : Whose) → L.files lib.old ≡ Some files → IsErrOf result (Verdict.LibraryFault w) →
         AsksToRun files plan.now w }
+    ensures files { OnOk result (L.files lib.new ≡ L.files lib.old) }
     ensures fault { (w : Whose) → IsErrOf result (Verdict.LibraryFault w) → Rose (L.faults lib.old) (L.faults lib.new) }
     ensures library { LibraryKept (L.files lib.old) (L.files lib.new) (L.faults lib.old) (L.faults lib.new) }
 {

@@ -1,19 +1,21 @@
-ghost use Rattle.std.specs.Prelude.{◌≡◌, ◌≤◌, ◌+◌, ◌++◌, length, codes};
+ghost use Rattle.std.specs.Prelude.{◌≡◌, ◌≤◌, ◌+◌, ◌++◌, length, codes, decimal};
+ghost use Rattle.dc_acts.specs.Reading.{kind_text as report_kind_text};
 ghost use Rattle.dc_media.specs.Causes.{HasCause};
 ghost use Rattle.dc_media.specs.Sinks.{TakesWhole};
 ghost use Rattle.dc_media.specs.Told.{TellsOn};
 ghost use Rattle.dc_plan.specs.Keys.{key_text};
+ghost use Rattle.dc_schedule.specs.Schedules.{kind_text as schedule_kind_text};
 ghost use Rattle.dc_run.specs.Headline.{Concludes, course};
-ghost use Rattle.dc_run.specs.Outcomes.{IsNothing, asm_fault_text, asm_kind_text, counts_text, done_text, elf_fault_text, guest_fault_text, line_fault_text, outcome_line, outlet_text, plan_fault_text, schedule_fault_text, status_of, verdict_text, which_text};
+ghost use Rattle.dc_run.specs.Outcomes.{IsNothing, asm_kind_text, counts_text, done_text, elf_fault_text, guest_fault_text, outcome_line, outlet_text, plan_fault_text, refused_text, status_of, verdict_text, which_text};
 
-use crate::reserved::Reserved;
 use crate::{
-    AsmFault, AsmKind, Did, ElfFault, Key, LineFault, Outlet, PlanFault, ScheduleFault, Verdict,
+    AsmFault, AsmKind, Did, ElfFault, Key, Outlet, PlanFault, ReportFault, ScheduleFault, Verdict,
     Which,
 };
-use dc_acts::Line;
+use dc_acts::{Acts, Line, Reserved};
+use dc_check::Difference;
 use dc_media::{Sink, SinkFailed, write_whole};
-use dc_model::{Mark, Taken};
+use dc_model::Mark;
 use std::alloc::Global;
 
 /// What a call of the program came to, and what the run did up to then.
@@ -21,12 +23,14 @@ use std::alloc::Global;
 pub struct Outcome {
     pub verdict: Verdict,
     pub did: Did,
-    /// The acts that count, in order.
-    pub acts: Reserved<Taken>,
+    /// The acts that count, in order: those of the run, or of the report that was checked.
+    pub acts: Acts,
     /// The mark of each entry, in order. An entry at which the run ended has none.
     pub marks: Reserved<Mark>,
-    /// How many whole lines were written, repeats counted.
+    /// How many whole lines of records were written, repeats counted.
     pub lines: u32,
+    /// How the output differs that was checked, where the verdict is that a line differs.
+    pub difference: Option<Difference>,
 }
 
 impl Outcome {
@@ -38,9 +42,10 @@ impl Outcome {
         Outcome {
             verdict,
             did: Did::Run,
-            acts: Reserved::new(alloc),
+            acts: Acts::new(alloc),
             marks: Reserved::new(alloc),
             lines: 0,
+            difference: None,
         }
     }
 
@@ -57,8 +62,11 @@ impl Outcome {
             Verdict::Missing(_) => 5,
             Verdict::LibraryFault(_) => 6,
             Verdict::SinkFault(_) => 8,
+            Verdict::NotARun(_) => 9,
+            Verdict::Differs(_) => 9,
             Verdict::WantOfMemory => 10,
             Verdict::ScheduleRefused(_) => 11,
+            Verdict::ReportRefused(_) => 13,
             Verdict::AsmRefused(_) => 14,
         }
     }
@@ -90,7 +98,7 @@ impl Outcome {
     {
         match self.verdict {
             Verdict::Done => self.push_done(line),
-            Verdict::Unfinished => self.push_counts(line, b"unfinished "),
+            Verdict::Unfinished => self.push_counts(line, b"unfinished ", self.lines),
             Verdict::Usage => {
                 line.push(b"usage: dc run PLAN | dc check PLAN REPORT OUT | dc asm SOURCE");
             }
@@ -99,8 +107,11 @@ impl Outcome {
             Verdict::Missing(which) => push_which(line, b"missing: ", which),
             Verdict::LibraryFault(which) => push_which(line, b"library failed: ", which),
             Verdict::SinkFault(outlet) => push_both(line, b"sink failed: ", outlet_name(outlet)),
+            Verdict::NotARun(place) => push_at(line, b"not a run: act ", u64::from(place)),
+            Verdict::Differs(number) => push_at(line, b"differs: line ", number),
             Verdict::WantOfMemory => line.push(b"out of memory"),
             Verdict::ScheduleRefused(fault) => push_schedule_fault(line, fault),
+            Verdict::ReportRefused(fault) => push_report_fault(line, fault),
             Verdict::AsmRefused(fault) => push_asm_fault(line, fault),
         }
     }
@@ -112,7 +123,8 @@ impl Outcome {
         ensures length { length line.new ≤ length line.old + 90 }
     {
         match self.did {
-            Did::Run => self.push_counts(line, b"done "),
+            Did::Run => self.push_counts(line, b"done ", self.lines),
+            Did::Checked(visibles) => self.push_counts(line, b"done ", visibles),
             Did::Assembled(bytes) => {
                 line.push(b"done ");
                 line.push_number(bytes);
@@ -122,16 +134,16 @@ impl Outcome {
     }
 
     /// How many acts and lines there were, after a name.
-    fn push_counts(&self, line: &mut Line, name: &[u8])
+    fn push_counts(&self, line: &mut Line, name: &[u8], lines: u32)
         requires line { length line.old ≤ 4 }
         requires name { length name.now ≤ 11 }
-        ensures text { line.new ≡ line.old ++ counts_text name.now (length self.now.acts.items) self.now.lines }
+        ensures text { line.new ≡ line.old ++ counts_text name.now (length self.now.acts.items) lines }
         ensures length { length line.new ≤ length line.old + 90 }
     {
         line.push(name);
-        line.push_number(self.acts.as_slice().len() as u64);
+        line.push_number(u64::from(self.acts.len()));
         line.push(b" acts ");
-        line.push_number(u64::from(self.lines));
+        line.push_number(u64::from(lines));
         line.push(b" lines");
     }
 }
@@ -148,26 +160,56 @@ fn push_both(line: &mut Line, what: &[u8], name: &[u8])
     line.push(name);
 }
 
-fn push_schedule_fault(line: &mut Line, fault: ScheduleFault)
-    requires { length line.old ≤ 4 }
-    ensures text { line.new ≡ line.old ++ schedule_fault_text fault }
+/// A number after what is said of it.
+fn push_at(line: &mut Line, what: &[u8], number: u64)
+    requires line { length line.old ≤ 4 }
+    requires what { length what.now ≤ 16 }
+    ensures text { line.new ≡ line.old ++ (what.now ++ decimal number) }
     ensures length { length line.new ≤ length line.old + 90 }
 {
-    line.push(b"schedule line ");
-    line.push_number(u64::from(fault.line));
+    line.push(what);
+    line.push_number(number);
+}
+
+/// The faulty line of a text, and what is wrong with it.
+fn push_refused(line: &mut Line, what: &[u8], number: u64, kind: &[u8])
+    requires line { length line.old ≤ 4 }
+    requires what { length what.now ≤ 16 }
+    requires kind { length kind.now ≤ 16 }
+    ensures text { line.new ≡ line.old ++ refused_text what.now number kind.now }
+    ensures length { length line.new ≤ length line.old + 90 }
+{
+    line.push(what);
+    line.push(b" line ");
+    line.push_number(number);
     line.push(b" refused: ");
-    line.push(line_fault(fault.kind));
+    line.push(kind);
+}
+
+fn push_schedule_fault(line: &mut Line, fault: ScheduleFault)
+    requires { length line.old ≤ 4 }
+    ensures text { line.new ≡ line.old ++ refused_text (codes "schedule") fault.line (schedule_kind_text fault.kind) }
+    ensures length { length line.new ≤ length line.old + 90 }
+{
+    let kind = fault.kind.text().as_bytes();
+    push_refused(line, b"schedule", u64::from(fault.line), kind);
+}
+
+fn push_report_fault(line: &mut Line, fault: ReportFault)
+    requires { length line.old ≤ 4 }
+    ensures text { line.new ≡ line.old ++ refused_text (codes "report") fault.line (report_kind_text fault.kind) }
+    ensures length { length line.new ≤ length line.old + 90 }
+{
+    let kind = fault.kind.text().as_bytes();
+    push_refused(line, b"report", u64::from(fault.line), kind);
 }
 
 fn push_asm_fault(line: &mut Line, fault: AsmFault)
     requires { length line.old ≤ 4 }
-    ensures text { line.new ≡ line.old ++ asm_fault_text fault }
+    ensures text { line.new ≡ line.old ++ refused_text (codes "source") fault.line (asm_kind_text fault.kind) }
     ensures length { length line.new ≤ length line.old + 90 }
 {
-    line.push(b"source line ");
-    line.push_number(fault.line);
-    line.push(b" refused: ");
-    line.push(asm_kind(fault.kind));
+    push_refused(line, b"source", fault.line, asm_kind(fault.kind));
 }
 
 /// A file's name in the command, after what befell it.
@@ -185,6 +227,8 @@ fn push_which(line: &mut Line, what: &[u8], which: Which)
             line.push_number(u64::from(p));
         }
         Which::Schedule => line.push(b"schedule"),
+        Which::Report => line.push(b"report"),
+        Which::Out => line.push(b"out"),
         Which::Source => line.push(b"source"),
     }
 }
@@ -246,18 +290,6 @@ fn push_elf_fault(line: &mut Line, fault: ElfFault)
             line.push_number(u64::from(i));
         }
         ElfFault::Entry => line.push(b"entry"),
-    }
-}
-
-fn line_fault(fault: LineFault) -> &'static [u8]
-    ensures text { result.now ≡ line_fault_text fault }
-    ensures short { length result.now ≤ 16 }
-{
-    match fault {
-        LineFault::Form => b"form",
-        LineFault::Process => b"process",
-        LineFault::ClockFell => b"clock fell",
-        LineFault::TooMany => b"too many",
     }
 }
 

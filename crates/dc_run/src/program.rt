@@ -1,12 +1,15 @@
-ghost use Rattle.std.specs.Prelude.{◌≡◌, ◌⊎◌, ◌≤◌, ◌<◌, ◌^◌, ◌∷◌, ℕ, None, Some, [], false, true, IfOk, IfSome, IsOkAnd, List, Option, OnErr, length, slice_get, unwrap_or};
+ghost use Rattle.std.specs.Prelude.{◌≡◌, ◌⊎◌, ◌≤◌, ◌<◌, ◌^◌, ◌∷◌, ℕ, None, Some, [], false, true, IfOk, IfSome, IsOkAnd, IsSomeAnd, List, Option, OnErr, length, slice_get, unwrap_or};
 ghost use Rattle.dc_acts.specs.Reports.{report_text};
 ghost use Rattle.dc_plain.specs.Playing.{lists_of};
 ghost use Rattle.dc_media.specs.Causes.{Rose};
 ghost use Rattle.dc_media.specs.Told.{TellsOn};
 ghost use Rattle.dc_run.specs.Assembling.{IsAssembled};
 ghost use Rattle.dc_run.specs.Command.{asked_of};
-ghost use Rattle.dc_run.specs.Command.Asked.{ToRun};
-ghost use Rattle.dc_run.specs.Commands.{Asks, IfAssembly, IfRun, IsExact, IsOpenedFor, work_of};
+ghost use Rattle.dc_asm.specs.declared.forms.Meant.{Meant};
+ghost use Rattle.dc_run.specs.Checking.{Checked, IsChecked, TellsDifference};
+ghost use Rattle.dc_run.specs.Command.{Names};
+ghost use Rattle.dc_run.specs.Command.Asked.{ToAssemble, ToCheck, ToRun};
+ghost use Rattle.dc_run.specs.Commands.{Asks, IfAssembly, IfCheck, IfFound, IfRun, IsExact, IsOpenedFor, work_of};
 ghost use Rattle.dc_run.specs.Headline.{IsHeadline, IsReported, Reports, account_of, course, unreported};
 ghost use Rattle.dc_run.specs.Opening.{AsksToRun, opening_of};
 ghost use Rattle.dc_run.specs.Opening.{Setting as Settings};
@@ -16,6 +19,7 @@ ghost use Rattle.dc_run.specs.declared.verdict.Verdict.{Verdict as Verdicts};
 ghost use Rattle.dc_run.specs.declared.verdict.Which.{Which as Whose};
 
 use crate::assembling::assemble_source;
+use crate::checking::check_output;
 use crate::command::{Asked, command_in};
 use crate::opening::open;
 use crate::outcome::Outcome;
@@ -30,8 +34,10 @@ use std::alloc::{AllocError, Global};
 /// Carries out the command that the words give; the first word is the program's name.
 ///
 /// `run PLAN` fetches the plan, its guest and its schedule from the library, opens the run, gives the guest its turns in order,
-/// writes the lines of its visible records to `out`, and last the report of the run to `report`. `asm SOURCE` fetches the source,
-/// assembles it and writes the ELF file to `out`. Nothing is persistent yet: the stores and the disks stay untouched.
+/// writes the lines of its visible records to `out`, and last the report of the run to `report`. `check PLAN REPORT OUT` fetches what a
+/// run is opened with, then a report and an output, plays the report's acts in the failure-free world, compares the output's lines with
+/// those that they show, and writes `ok`, the counts of acts and of visible records to `out` where both belong together. `asm SOURCE`
+/// fetches the source, assembles it and writes the ELF file to `out`. Nothing is persistent yet: the stores and the disks stay untouched.
 pub fn dc<L: Library, K: Keeps, D: Disks, O: Sink, R: Sink>(
     alloc: Global,
     words: &[String],
@@ -65,9 +71,20 @@ pub fn dc<L: Library, K: Keeps, D: Disks, O: Sink, R: Sink>(
         (course (R.held report.old) (R.held report.new) (R.faults report.old) (R.faults report.new)) }
     ensures did { (plan : List ℕ) → asked_of words.now ≡ Some (ToRun plan) → result.did ≡ Did.Run }
 
-    // The file of a source that was assembled; its report stays.
+    // An output that passes: `ok`, the counts of its report's acts and of the visible records that they show; and how another differs. The
+    // same where the files are not told: some acts and some count.
+    ensures checked { was_opened result.verdict ≡ true → IfSome (L.files lib.old) (λ files. IsOkAnd (work_of files words.now) (λ work. IfCheck work (λ checked.
+        IsChecked checked result (O.held out.old) (O.held out.new) × (report.new ≡ report.old)))) }
+    ensures passed { (names : Names) → asked_of words.now ≡ Some (ToCheck names) → was_opened result.verdict ≡ true →
+        (checked : Checked) × IsChecked checked result (O.held out.old) (O.held out.new) × (report.new ≡ report.old) }
+    ensures difference { (line : ℕ) → result.verdict ≡ Verdict.Differs line → IfSome (L.files lib.old) (λ files. IsSomeAnd (asked_of words.now) (λ asked.
+        IfFound files asked (TellsDifference result.difference))) }
+
+    // The file of a source that was assembled; its report stays. The same where the files are not told: the file of some program.
     ensures assembled { was_opened result.verdict ≡ true → IfSome (L.files lib.old) (λ files. IsOkAnd (work_of files words.now) (λ work. IfAssembly work (λ program.
         IsAssembled program result (O.held out.old) (O.held out.new) × (report.new ≡ report.old)))) }
+    ensures assembly { (source : List ℕ) → asked_of words.now ≡ Some (ToAssemble source) → was_opened result.verdict ≡ true →
+        (program : List Meant) × IsAssembled program result (O.held out.old) (O.held out.new) × (report.new ≡ report.old) }
 
     // What stays.
     ensures unopened { was_opened result.verdict ≡ false → IsNothing result × (out.new ≡ out.old) × (report.new ≡ report.old) }
@@ -81,6 +98,7 @@ pub fn dc<L: Library, K: Keeps, D: Disks, O: Sink, R: Sink>(
 {
     match command_in(alloc, words) {
         Ok(Asked::Run(plan)) => run_plan(alloc, plan, lib, out, report),
+        Ok(Asked::Check(names)) => check_output(alloc, &names, lib, out),
         Ok(Asked::Assemble(source)) => assemble_source(alloc, source, lib, out),
         Err(verdict) => Outcome::idle(alloc, verdict),
     }
@@ -194,7 +212,7 @@ fn reported<R: Sink>(outcome: Outcome, report: &mut R) -> Outcome
         report,
         u32::from(outcome.status()),
         outcome.marks.as_slice().len() as u32,
-        outcome.acts.as_slice(),
+        &outcome.acts,
         outcome.lines,
     );
     match written {

@@ -1,5 +1,5 @@
-ghost use Rattle.std.specs.Prelude.{◌≡◌, ◌≤◌, ◌%◌, All, length};
-ghost use Rattle.dc_run.specs.Schedules.{process_of};
+ghost use Rattle.std.specs.Prelude.{◌≡◌, ◌≤◌, ◌%◌, All, length, true};
+ghost use Rattle.dc_run.specs.Running.{is_turn};
 
 use dc_links::Message;
 use dc_model::Entry;
@@ -15,6 +15,6 @@ pub struct Setting {
     ghost short: { length memory.items ≤ 1048576 },
     ghost words: { length memory.items % 4 ≡ 0 },
     ghost aligned: { entry % 4 ≡ 0 },
-    ghost turns: { All (λ entry. process_of entry ≡ 0) schedule.items },
+    ghost turns: { All (λ entry. is_turn entry ≡ true) schedule.items },
     ghost few: { length schedule.items ≤ 1000000 },
 }

@@ -1,7 +1,8 @@
+use dc_acts::ReportFault;
 use dc_asm::AsmFault;
 use dc_elf::ElfFault;
 use dc_plan::PlanFault;
-use thiserror::Error;
+use dc_schedule::ScheduleFault;
 
 /// A file of a command.
 #[derive(Clone, Copy, Debug, PartialEq, Eq)]
@@ -12,6 +13,10 @@ pub enum Which {
     Guest(u32),
     /// The schedule.
     Schedule,
+    /// The report of a run.
+    Report,
+    /// The output of a run.
+    Out,
     /// The source of a guest.
     Source,
 }
@@ -25,47 +30,13 @@ pub enum Outlet {
     Report,
 }
 
-/// What is wrong with a line of a schedule, in the order of testing.
-#[derive(Clone, Copy, Debug, PartialEq, Eq, Error)]
-pub enum LineFault {
-    /// It is not the text of an entry.
-    #[error("form")]
-    Form,
-    /// There is no process of its number.
-    #[error("process")]
-    Process,
-    /// Its clock is below an earlier one.
-    #[error("clock fell")]
-    ClockFell,
-    /// It is one line too many.
-    #[error("too many")]
-    TooMany,
-}
-
-/// The first faulty line of a schedule. Lines are numbered from 1.
-#[derive(Clone, Copy, Debug, PartialEq, Eq, Error)]
-#[error("line {line}: {kind}")]
-pub struct ScheduleFault {
-    pub line: u32,
-    pub kind: LineFault,
-}
-
-/// Why a schedule was not read.
-#[derive(Clone, Copy, Debug, PartialEq, Eq, Error)]
-pub enum Unread {
-    /// There was no memory for its entries.
-    #[error("out of memory")]
-    Memory,
-    /// It is no schedule.
-    #[error("{0}")]
-    Refused(ScheduleFault),
-}
-
 /// What a call of the program did.
 #[derive(Clone, Copy, Debug, PartialEq, Eq)]
 pub enum Did {
     /// It ran a plan, or came to no command's work.
     Run,
+    /// It checked an output, and found so many visible records in it.
+    Checked(u32),
     /// It assembled a source to a file of so many bytes.
     Assembled(u64),
 }
@@ -73,7 +44,8 @@ pub enum Did {
 /// What a call of the program came to.
 #[derive(Clone, Copy, Debug, PartialEq, Eq)]
 pub enum Verdict {
-    /// A run's schedule is used up and every guest has ended; or a source was assembled and its file written.
+    /// A run's schedule is used up and every guest has ended; an output passed the check; or a source was assembled and its file
+    /// written.
     Done,
     /// The schedule is used up and some guest has not ended.
     Unfinished,
@@ -89,10 +61,16 @@ pub enum Verdict {
     LibraryFault(Which),
     /// That sink failed.
     SinkFault(Outlet),
-    /// There was no memory to open the run, or to assemble the source.
+    /// The act at that place of the report, from 0 on, is the first that was not drawn at its turn or does not apply.
+    NotARun(u32),
+    /// That line of the output is the first that differs; `Outcome::difference` has what stands there and what would.
+    Differs(u64),
+    /// There was no memory to open the run, to check the output, or to assemble the source.
     WantOfMemory,
     /// The schedule's first faulty line.
     ScheduleRefused(ScheduleFault),
+    /// The report's first faulty line.
+    ReportRefused(ReportFault),
     /// The source's first faulty line.
     AsmRefused(AsmFault),
 }

@@ -5,11 +5,11 @@ use std::test::Fail;
 
 /// What a case may say. Of the call: its words; the plan, or what of the plan stands as something else; the guest by its source,
 /// so many times over, by the words of its code, by a count of zero words, or as the file of `hi` with another byte or cut off;
-/// the guest's name; the schedule and how often it is repeated; which fetch and which write fail; the room of the output and
+/// the guest's name; the schedule and how often it is repeated; the report and the output of a check; which fetch and which write fail; the room of the output and
 /// the report. Of what comes of it: the line on standard error and the status; the output as text or as the file of code; the
 /// report by its close line, the count of its acts and the one that is not plain; the marks.
 const KEYS: &str =
-    "words plan old new source copies code zeros place byte cut name schedule times fetch write room report_room \
+    "words plan old new source copies code zeros place byte cut name schedule times report output fetch write room report_room \
 said status out elf close acts act marks";
 
 /// Fails with the name of a case and what does not hold of it.

@@ -2,6 +2,7 @@
 
 mod answers;
 mod calls;
+mod checks;
 mod commands;
 mod guests;
 mod plans;
@@ -11,6 +12,7 @@ mod sources;
 
 pub use answers::ANSWERS;
 pub use calls::CALLS;
+pub use checks::CHECKS;
 pub use commands::COMMANDS;
 pub use guests::GUESTS;
 pub use plans::PLANS;

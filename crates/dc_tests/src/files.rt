@@ -14,6 +14,10 @@ const PLAN: &str =
 
 const SEVEN_TURNS: &str = "0 0 0~0 0 0~0 0 0~0 0 0~0 0 0~0 0 0~0 0 0~";
 
+/// The acts of the guest that shows `hi`, with the first line of a report.
+const HI_ACTS: &str =
+    "dc-report 1\nact 0 0 plain\nact 1 0 plain\nact 2 0 plain\nact 3 0 plain\nact 4 0 plain\nact 5 0 plain\nact 6 0 plain\n";
+
 /// A guest's file: the guest shows `hi` and ends with code 0.
 const HI: [u8; 116] = [
     0x7f, 0x45, 0x4c, 0x46, 0x01, 0x01, 0x01, 0x00, 0x00, 0x00, 0x00, 0x00, 0x00, 0x00, 0x00, 0x00,
@@ -145,6 +149,11 @@ fn add(
     library.add(String::from_str(alloc, name)?, text.into_bytes())
 }
 
+/// The report of a case that checks one, with the acts of `hi` where it says so.
+fn reported(alloc: Global, case: &str) -> Result<String, AllocError> {
+    text(alloc, case, "report", "none")?.replace(alloc, "%", HI_ACTS)
+}
+
 /// All files of a case.
 pub fn library(alloc: Global, case: &str) -> Result<MemLibrary, Fail> {
     let mut library = MemLibrary::new(alloc, numbers(alloc, case, "fetch")?);
@@ -165,5 +174,12 @@ pub fn library(alloc: Global, case: &str) -> Result<MemLibrary, Fail> {
     }
     let name = text(alloc, case, "name", "hi.elf")?;
     library.add(name, guest(alloc, case)?)?;
+    add(alloc, &mut library, "report", reported(alloc, case)?)?;
+    add(
+        alloc,
+        &mut library,
+        "output",
+        text(alloc, case, "output", "none")?,
+    )?;
     Ok(library)
 }

@@ -1,9 +1,9 @@
 //! Each case comes to what it says.
 
 use crate::case::{holds, is_read, number, numbers, says, text, value};
-use crate::cases::{ANSWERS, CALLS, COMMANDS, GUESTS, PLANS, RUNS, SCHEDULES, SOURCES};
+use crate::cases::{ANSWERS, CALLS, CHECKS, COMMANDS, GUESTS, PLANS, RUNS, SCHEDULES, SOURCES};
 use crate::files::{called, coded, library, words};
-use dc_memmedia::MemSink;
+use dc_memmedia::{MemLibrary, MemSink};
 use dc_model::{Idle, Mark};
 use dc_run::{Outcome, conclude};
 use std::alloc::Global;
@@ -104,7 +104,45 @@ fn tried(alloc: Global, case: &str) -> Result<(), Fail> {
     ends_so(alloc, case, &outcome)?;
     output_is(alloc, case, &out)?;
     report_is(alloc, case, &report)?;
-    marks_are(case, outcome.marks.as_slice())
+    marks_are(case, outcome.marks.as_slice())?;
+    if says(case, "close") && !fails(case) {
+        return passes(alloc, case, &mut library, &out, &report);
+    }
+    Ok(())
+}
+
+/// Whether a fetch or a sink of the case fails.
+fn fails(case: &str) -> bool {
+    says(case, "fetch") || says(case, "write") || says(case, "room") || says(case, "report_room")
+}
+
+/// What a run wrote passes the check: its output, without repeats here, against its report.
+fn passes(
+    alloc: Global,
+    case: &str,
+    library: &mut MemLibrary,
+    written: &MemSink,
+    report: &MemSink,
+) -> Result<(), Fail> {
+    let name = String::from_str(alloc, "written report")?;
+    library.add(name, report.bytes().to_vec(alloc)?)?;
+    let name = String::from_str(alloc, "written")?;
+    library.add(name, written.bytes().to_vec(alloc)?)?;
+    let mut words = words(alloc, "dc check plan")?;
+    words.push(String::from_str(alloc, "written report")?)?;
+    words.push(String::from_str(alloc, "written")?)?;
+    let mut out = MemSink::new(alloc, 100, Vec::new(alloc))?;
+    let mut none = MemSink::new(alloc, 0, Vec::new(alloc))?;
+    let outcome = called(alloc, &words, library, &mut out, &mut none)?;
+    holds(outcome.status() == 0, case, "the check passes")?;
+    let acts = number(case, "acts", "0")?;
+    let lines = written.bytes().iter().filter(|c| **c == b'\n').count();
+    let want = format!(in alloc; "ok {acts} {lines}\n")?;
+    holds(
+        out.bytes() == want.as_bytes(),
+        case,
+        "the line of the check",
+    )
 }
 
 /// Each of some cases does, of which each begins with `* `.
@@ -135,6 +173,11 @@ fn calls(rt: HostRuntime) -> Result<(), Fail> {
 #[test]
 fn answers(rt: HostRuntime) -> Result<(), Fail> {
     all(rt.alloc(), ANSWERS)
+}
+
+#[test]
+fn checks(rt: HostRuntime) -> Result<(), Fail> {
+    all(rt.alloc(), CHECKS)
 }
 
 #[test]
@@ -188,6 +231,62 @@ fn reports_cut_off(rt: HostRuntime) -> Result<(), Fail> {
             "idle\nschedule=\nreport_room={room}\nstatus=8\nsaid=dc: sink failed: report~\nclose=close 1 0 0 0\n"
         )?;
         tried(rt.alloc(), &idle)?;
+    }
+    Ok(())
+}
+
+/// A report that is cut off lacks its close line, or ends in a line without its line feed.
+#[test]
+fn checked_reports_cut_off(rt: HostRuntime) -> Result<(), Fail> {
+    let report = "dc-report 1~act 0 0 plain~act 1 0 plain~close 1 2 2 0~";
+    for cut in 0..report.len() {
+        let Some(front) = report.get(..cut) else {
+            return Err(Fail::new("a front"));
+        };
+        let line = front.split("~").count();
+        let kind = if front.is_empty() || front.ends_with("~") {
+            "cut"
+        } else {
+            "form"
+        };
+        let case = format!(in rt.alloc();
+            "cut\nwords=dc check plan report output\nreport={front}\noutput=\nstatus=13\nsaid=dc: report line {line} refused: {kind}~\n"
+        )?;
+        tried(rt.alloc(), &case)?;
+    }
+    Ok(())
+}
+
+/// An output that is cut off differs where its line is cut off, or where the next is missing. The last line feed may be missing.
+#[test]
+fn checked_outputs_cut_off(rt: HostRuntime) -> Result<(), Fail> {
+    let output = "out 0 0 6869~end 0 1 0~";
+    for cut in 0..output.len() - 1 {
+        let Some(front) = output.get(..cut) else {
+            return Err(Fail::new("a front"));
+        };
+        let line = if cut < 12 { 1 } else { 2 };
+        let case = format!(in rt.alloc();
+            "cut\nwords=dc check plan report output\nreport=%close 0 7 7 2~\noutput={front}\nstatus=9\nsaid=dc: differs: line {line}~\n"
+        )?;
+        tried(rt.alloc(), &case)?;
+    }
+    Ok(())
+}
+
+/// A report with one byte changed is refused in the line of that byte.
+#[test]
+fn checked_reports_changed(rt: HostRuntime) -> Result<(), Fail> {
+    let report = "dc-report 1~act 0 0 plain~act 1 0 plain~close 1 2 2 0~";
+    for place in 0..report.len() {
+        let (Some(front), Some(rest)) = (report.get(..place), report.get(place + 1..)) else {
+            return Err(Fail::new("two parts"));
+        };
+        let line = front.split("~").count();
+        let case = format!(in rt.alloc();
+            "changed\nwords=dc check plan report output\nreport={front}x{rest}\noutput=\nstatus=13\nsaid=dc: report line {line} refused: form~\n"
+        )?;
+        tried(rt.alloc(), &case)?;
     }
     Ok(())
 }

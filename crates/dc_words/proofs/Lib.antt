@@ -2,4 +2,6 @@ mod Digits
 mod Spelling
 pub mod Bytes
 pub mod Splitting
+pub mod Joining
+pub mod Reading
 mod Unhexing

@@ -1,5 +1,5 @@
 -- Numbers as digits, with no sign and no leading zero.
-use Rattle.std.specs.Prelude.{ℕ, Bool, false, List, [], ◌∷◌, ◌&&◌, ◌||◌, ◌==◌, not, length, nat_le, Result, Ok, Err, if◌then◌else◌}
+use Rattle.std.specs.Prelude.{ℕ, Bool, false, List, [], ◌∷◌, ◌&&◌, ◌||◌, ◌==◌, not, length, nat_le, nat_lt, Result, Ok, Err, if◌then◌else◌}
 use Rattle.std.specs.List.{list_all}
 use Rattle.std.specs.Str.Parse.{digits_value}
 use Rattle.dc_words.specs.declared.numbers.NumberFault.{NumberFault}
@@ -19,3 +19,11 @@ abbrev pub number_of : ℕ → List ℕ → Result ℕ NumberFault
 number_of max text = if is_number text
     then (if nat_le (digits_value 10 text) max then Ok (digits_value 10 text) else Err Range)
     else Err NotNumber
+
+-- the number that digits are
+abbrev pub value : List ℕ → ℕ
+value text = digits_value 10 text
+
+-- a number below this bound
+abbrev pub is_below : ℕ → List ℕ → Bool
+is_below bound text = is_number text && nat_lt (value text) bound

@@ -1,0 +1,5 @@
+mod Applied
+mod Drawing
+mod Fields
+mod Numbering
+mod Thinned

@@ -1,0 +1,42 @@
+-- What comes of checking an output against the acts of a report.
+use Rattle.std.specs.Prelude.{ℕ, List, Option, Some, None, Result, Ok, Err, length}
+use Rattle.dc_acts.specs.Lines.{text_of}
+use Rattle.dc_model.specs.Guests.{Guests}
+use Rattle.dc_model.specs.World.{World}
+use Rattle.dc_model.specs.declared.act.Taken.{Taken}
+use Rattle.dc_model.specs.declared.entry.Entry.{Entry}
+use Rattle.dc_check.specs.Differences.{Difference, difference_of}
+use Rattle.dc_check.specs.Played.{played}
+use Rattle.dc_check.specs.declared.finding.Finding.{Finding as found'}
+use Rattle.dc_check.specs.declared.finding.Finding.TheVariants as found
+use Rattle.dc_check.specs.declared.finding.Difference.{Difference as difference'}
+
+-- the output is that of the run of these acts, with so many visible records; an act leads nowhere; or a line differs
+pub data Finding : Type 0 where
+  Passes : (visibles : ℕ) → Finding
+  NotARun : (place : ℕ) → Finding
+  Differs : (difference : Difference) → Finding
+
+-- by the first difference from a world's lines, if there is one
+abbrev pub compared : ℕ → Option Difference → Finding
+compared visibles None = Passes visibles
+compared visibles (Some difference) = Differs difference
+
+-- by what the acts lead to
+abbrev pub finding_by : {Mc : Type 0} → Result (World Mc) ℕ → List ℕ → Finding
+finding_by (Err place) out = NotARun place
+finding_by (Ok w) out = compared (length w.visibles) (difference_of (text_of w.visibles) out)
+
+-- of an output, by acts and the schedule that they were drawn from
+abbrev pub finding_of : {Mc : Type 0} → Guests Mc → List Entry → List Taken → List ℕ → Finding
+finding_of G schedule acts out = finding_by (played G schedule acts) out
+
+-- a difference as the code has it
+abbrev pub seen_difference : difference' → Difference
+seen_difference d = record { line = d.line; found = d.found.items; wanted = d.wanted.items }
+
+-- a finding as the code has it
+abbrev pub seen_finding : found' → Finding
+seen_finding (found.Passes visibles) = Passes visibles
+seen_finding (found.NotARun place) = NotARun place
+seen_finding (found.Differs difference) = Differs (seen_difference difference)

@@ -1,0 +1,5 @@
+pub mod Played
+pub mod Records
+pub mod Differences
+pub mod Findings
+pub mod Compared

@@ -1,0 +1,19 @@
+//! Whether an output and a report belong together: the report's acts are played in the failure-free world, and the output's lines
+//! compared with those that it shows.
+#![tactic(auto)]
+
+mod checking;
+mod comparing;
+mod finding;
+mod laws;
+mod playing;
+mod records;
+mod seen;
+#[cfg(test)]
+mod tests;
+
+pub use checking::check;
+pub use finding::{Difference, Finding};
+pub use laws::{
+    passing_acts_are_a_drawn_run, passing_outputs_thin_to_the_run, records_have_their_numbers,
+};

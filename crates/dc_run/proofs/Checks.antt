@@ -1,0 +1,99 @@
+-- What a check was answered, by what its work was.
+use Rattle.std.proofs.Common.{◌≡◌, ◌⊎◌, ◌+◌, ◌<◌, ◌≤◌, inl, inr, zero, suc, ℕ, All, List, [], ◌∷◌, Option, None, Some, IfSome, IsOkAnd, IsSome, IsSomeAnd, Result, Ok, Err, String, true, false, ap, arith, length, refl, slice_index_or, subst, sym}
+use Rattle.std.specs.declared.alloc.Global.{Global}
+use Rattle.dc_acts.specs.Reading.{AreActs, Report}
+use Rattle.dc_model.specs.declared.act.Taken.{Taken}
+use Rattle.dc_words.specs.Results.{◌>>=◌}
+use Rattle.dc_run.specs.Checking.{AsksToCheck, Checked, Concluded, Found, checked_in, found_in, passed_by, report_in}
+use Rattle.dc_run.specs.Command.{Names, asked_of}
+use Rattle.dc_run.specs.Command.Asked.{ToCheck}
+use Rattle.dc_run.specs.Commands.{Asks, IfCheck, IsExact, IsOpenedFor, work_of}
+use Rattle.dc_run.specs.Commands.Work.{Check}
+use Rattle.dc_run.specs.Opening.{AsksToRun, Files, Setting, opening_of}
+use Rattle.dc_run.specs.Settings.{is_free, is_refusal, was_opened}
+use Rattle.dc_run.specs.declared.outcome.Outcome.{Outcome}
+use Rattle.dc_run.specs.declared.verdict.Verdict.{Verdict}
+use Rattle.dc_run.specs.declared.verdict.Verdict.TheVariants.{LibraryFault}
+use Rattle.dc_run.specs.declared.verdict.Which.{Which}
+use Rattle.dc_run.specs.declared.verdict.Which.TheVariants as which
+use Rattle.dc_run.proofs.Works.{exact_named, exact_refusal, exact_work, refused_work}
+
+-- the acts of a report are of its processes, and few
+one_more : (n : ℕ) (x : Taken) (acts : List Taken) → x.p < n → All (λ y. y.p < n) acts → (k : ℕ) (d : Taken) → k < length (x ∷ acts) → (slice_index_or (x ∷ acts) k d).p < n
+one_more n x acts here all zero d within = here
+one_more n x acts here all (suc k) d within = all k d (omega (arith, within))
+
+pub acts_below : (n next : ℕ) (acts : List Taken) → AreActs n next acts → All (λ y. y.p < n) acts
+acts_below n next [] are = λ k d within. absurd (omega (arith, within))
+acts_below n next (x ∷ acts) are = one_more n x acts are.0 (acts_below n (suc x.t) acts are.4)
+
+few_from : (n next : ℕ) (acts : List Taken) → next ≤ 1000000 → AreActs n next acts → next + length acts ≤ 1000000
+few_from n next [] low are = omega (arith, low)
+few_from n next (x ∷ acts) low are = let rest = few_from n (suc x.t) acts (omega (arith, are.3)) are.4 in omega (arith, rest, are.2)
+
+pub acts_few : (n : ℕ) (acts : List Taken) → AreActs n 0 acts → length acts ≤ 1000000
+acts_few n acts are = let few = few_from n 0 acts (omega arith) are in omega (arith, few)
+
+-- a file that a run asks for
+nothing_there : (o : Option (List ℕ)) → IsSomeAnd o (λ text. ⊥) → ⊥
+nothing_there None asks = asks
+nothing_there (Some text) asks = asks
+
+pub asked_of_run : (files : Files) (names : Names) (w : Which) → AsksToRun files names.plan w → AsksToCheck files names w
+asked_of_run files names which.Plan asks = asks
+asked_of_run files names (which.Guest p) asks = asks
+asked_of_run files names which.Schedule asks = asks
+asked_of_run files names which.Report asks = absurd (nothing_there (files names.plan) asks)
+asked_of_run files names which.Out asks = absurd (nothing_there (files names.plan) asks)
+asked_of_run files names which.Source asks = absurd (nothing_there (files names.plan) asks)
+
+-- the report, and the output
+pub asked_report : (files : Files) (names : Names) (setting : Setting) (w : Which) → opening_of files names.plan ≡ Ok setting → w ≡ which.Report → IsSome (files names.report) → AsksToCheck files names w
+asked_report files names setting w opens is there = subst (AsksToCheck files names) (sym is) (rw opens there)
+
+pub asked_output : (files : Files) (names : Names) (setting : Setting) (report : Report) (w : Which) → opening_of files names.plan ≡ Ok setting → report_in files names.report ≡ Ok report
+    → w ≡ which.Out → IsSome (files names.out) → AsksToCheck files names w
+asked_output files names setting report w opens reads is there = subst (AsksToCheck files names) (sym is) (rw (opens, reads) there)
+
+-- what was found decides
+module _ (files : Files) (names : Names) where
+  found_passes : (f : Found) → found_in files names ≡ Ok f → checked_in files names ≡ passed_by f
+  found_passes f e = ap (λ (r : Result Found Verdict). r >>= passed_by) e
+
+  by_outcome : (told : Result Checked Verdict) (o : Outcome) (before after : Option (List ℕ)) (refusal : Verdict) → is_refusal refusal ≡ true → Concluded told o before after → IsExact o.verdict refusal told
+  by_outcome (Ok checked) o before after refusal is done = exact_work o.verdict refusal (Ok checked) checked is refl (inl done.0)
+  by_outcome (Err v) o before after refusal is done = exact_refusal o.verdict refusal (Err v) is (inr (ap (λ (u : Verdict). Err u) (sym done)))
+
+  pub found_exact : (f : Found) (o : Outcome) (before after : Option (List ℕ)) (refusal : Verdict) → found_in files names ≡ Ok f → is_refusal refusal ≡ true → Concluded (passed_by f) o before after
+      → IsExact o.verdict refusal (checked_in files names)
+  found_exact f o before after refusal e is done = subst (λ (told : Result Checked Verdict). IsExact o.verdict refusal told) (sym (found_passes f e)) (by_outcome (passed_by f) o before after refusal is done)
+
+  not_found : (v : Verdict) → (is_free v ≡ true) ⊎ (found_in files names ≡ Err v) → (is_free v ≡ true) ⊎ (checked_in files names ≡ Err v)
+  not_found v (inl free) = inl free
+  not_found v (inr e) = inr (ap (λ (r : Result Found Verdict). r >>= passed_by) e)
+
+  pub unfound_exact : (v answered refusal : Verdict) → answered ≡ v → (is_free v ≡ true) ⊎ (found_in files names ≡ Err v) → is_refusal refusal ≡ true → IsExact answered refusal (checked_in files names)
+  unfound_exact v answered refusal same told is = subst (λ (w : Verdict). IsExact w refusal (checked_in files names)) (sym same) (exact_refusal v refusal (checked_in files names) is (not_found v told))
+
+  pub unfound_opened : (v answered : Verdict) → answered ≡ v → was_opened v ≡ false → (is_free v ≡ true) ⊎ (found_in files names ≡ Err v) → IsOpenedFor answered (checked_in files names)
+  unfound_opened v answered same closed told = subst (λ (w : Verdict). IsOpenedFor w (checked_in files names)) (sym same) (refused_work v (checked_in files names) closed (not_found v told))
+
+-- the same of the words
+pub check_exact : (known : Option Files) (words : List (String Global)) (names : Names) → asked_of words ≡ Some (ToCheck names) → (v refusal : Verdict)
+    → IfSome known (λ files. IsExact v refusal (checked_in files names)) → IfSome known (λ files. IsExact v refusal (work_of files words))
+check_exact None words names asked v refusal is = tt
+check_exact (Some files) words names asked v refusal is = rw asked (exact_named Check v refusal (checked_in files names) is)
+
+pub check_asks : (known : Option Files) (words : List (String Global)) (names : Names) → asked_of words ≡ Some (ToCheck names) → (v : Verdict) (w : Which)
+    → IfSome known (λ files. v ≡ LibraryFault w → AsksToCheck files names w) → IfSome known (λ files. v ≡ LibraryFault w → Asks files words w)
+check_asks None words names asked v w asks = tt
+check_asks (Some files) words names asked v w asks = λ is. rw asked (asks is)
+
+under_name : (P Q : Checked → Type 0) → ((checked : Checked) → P checked → Q checked) → (told : Result Checked Verdict) → IsOkAnd told P → IsOkAnd (told >>= (λ checked. Ok (Check checked))) (λ work. IfCheck work Q)
+under_name P Q weaker (Ok checked) is = weaker checked is
+under_name P Q weaker (Err v) is = is
+
+pub check_passes : (known : Option Files) (words : List (String Global)) (names : Names) → asked_of words ≡ Some (ToCheck names) → (P Q : Checked → Type 0) → ((checked : Checked) → P checked → Q checked)
+    → IfSome known (λ files. IsOkAnd (checked_in files names) P) → IfSome known (λ files. IsOkAnd (work_of files words) (λ work. IfCheck work Q))
+check_passes None words names asked P Q weaker is = tt
+check_passes (Some files) words names asked P Q weaker is = rw asked (under_name P Q weaker (checked_in files names) is)

@@ -1,0 +1,99 @@
+-- What checking an output comes to, by the told files.
+use Rattle.std.specs.Prelude.{◌≡◌, ℕ, List, [], ◌∷◌, ◌++◌, Option, Some, None, true, IsOkAnd, IsSome, Result, Ok, Err, codes, decimal, length}
+use Rattle.dc_acts.specs.Reading.{Report, report_of}
+use Rattle.dc_acts.specs.declared.fault.ReportFault.{ReportFault}
+use Rattle.dc_check.specs.Findings.{Finding, finding_of, seen_difference, seen_finding}
+use Rattle.dc_check.specs.Findings.{Finding as found}
+use Rattle.dc_check.specs.declared.finding.Difference.{Difference}
+use Rattle.dc_model.specs.declared.act.Taken.{Taken}
+use Rattle.dc_words.specs.Results.{◌>>=◌}
+use Rattle.dc_run.specs.Assembling.{WritesOut}
+use Rattle.dc_run.specs.Command.{Names}
+use Rattle.dc_run.specs.Headline.{guests}
+use Rattle.dc_run.specs.Opening.{AsksToRun, Files, Setting, file_in, opening_of}
+use Rattle.dc_run.specs.Settings.{was_opened}
+use Rattle.dc_run.specs.declared.checking.Found as code
+use Rattle.dc_run.specs.declared.outcome.Outcome.{Outcome}
+use Rattle.dc_run.specs.declared.verdict.Did.TheVariants as did
+use Rattle.dc_run.specs.declared.verdict.Verdict.{Verdict}
+use Rattle.dc_run.specs.declared.verdict.Verdict.TheVariants.{Differs, NotARun, ReportRefused}
+use Rattle.dc_run.specs.declared.verdict.Which.{Which}
+use Rattle.dc_run.specs.declared.verdict.Which.TheVariants as which
+
+-- the acts of a report, and what comes of checking an output against them
+pub record Found : Type 0 where
+  pub acts : List Taken
+  pub finding : Finding
+
+-- an output that passed: the acts of its report, and how many visible records they show
+pub record Checked : Type 0 where
+  pub acts : List Taken
+  pub visibles : ℕ
+
+-- the report, or the fault of its first faulty line
+abbrev pub report_or_fault : Result Report ReportFault → Result Report Verdict
+report_or_fault (Ok report) = Ok report
+report_or_fault (Err fault) = Err (ReportRefused fault)
+
+-- with the setting and the report, from the bytes of the output
+abbrev pub found_at_end : Setting → Report → List ℕ → Result Found Verdict
+found_at_end setting report out = Ok (record { acts = report.acts; finding = finding_of (guests setting) setting.schedule report.acts out })
+
+-- the report of this name
+abbrev pub report_in : Files → List ℕ → Result Report Verdict
+report_in files name = file_in files which.Report name >>= (λ text. report_or_fault (report_of 1 text))
+
+-- with the setting
+abbrev pub found_at_setting : Files → Names → Setting → Result Found Verdict
+found_at_setting files names setting = report_in files names.report >>= (λ report. file_in files which.Out names.out >>= found_at_end setting report)
+
+-- what a run is opened with, then the report, then the output: the first that is refused decides
+abbrev pub found_in : Files → Names → Result Found Verdict
+found_in files names = opening_of files names.plan >>= found_at_setting files names
+
+-- an output that passes, or how it is refused
+abbrev pub passed : List Taken → Finding → Result Checked Verdict
+passed acts (found.Passes visibles) = Ok (record { acts = acts; visibles = visibles })
+passed acts (found.NotARun place) = Err (NotARun place)
+passed acts (found.Differs difference) = Err (Differs difference.line)
+
+-- by what was found
+abbrev pub passed_by : Found → Result Checked Verdict
+passed_by f = passed f.acts f.finding
+
+-- the output that passes, or the refusal that comes first
+abbrev pub checked_in : Files → Names → Result Checked Verdict
+checked_in files names = found_in files names >>= passed_by
+
+-- what is written of an output that passes
+abbrev pub passed_text : ℕ → ℕ → List ℕ
+passed_text acts visibles = codes "ok " ++ decimal acts ++ codes " " ++ decimal visibles ++ 10 ∷ []
+
+-- an output passed: that is written, and the report's acts are told
+pub record IsChecked (checked : Checked) (o : Outcome) (before after : Option (List ℕ)) : Type 0 where
+  pub did : o.did ≡ did.Checked checked.visibles
+  pub acts : o.acts.items ≡ checked.acts
+  pub marks : o.marks.items ≡ []
+  pub lines : o.lines ≡ 0
+  pub written : WritesOut (passed_text (length checked.acts) checked.visibles) o.verdict before after
+
+-- as the code has what it found
+abbrev pub found_view : code.Found → Found
+found_view f = record { acts = f.acts.items; finding = seen_finding f.finding }
+
+-- what an outcome says of an output that passes, or of its refusal
+abbrev pub Concluded : Result Checked Verdict → Outcome → Option (List ℕ) → Option (List ℕ) → Type 0
+Concluded (Ok checked) o before after = (was_opened o.verdict ≡ true) × IsChecked checked o before after
+Concluded (Err refusal) o before after = o.verdict ≡ refusal
+
+-- the difference that is told is the one that was found
+abbrev pub TellsDifference : Option Difference → Found → Type 0
+TellsDifference (Some difference) f = f.finding ≡ found.Differs (seen_difference difference)
+TellsDifference None f = ⊥
+
+-- which files a check asks for and finds: those of a run, and the others once those before them were there and were not refused
+abbrev pub AsksToCheck : Files → Names → Which → Type 0
+AsksToCheck files names which.Report = IsOkAnd (opening_of files names.plan) (λ setting. IsSome (files names.report))
+AsksToCheck files names which.Out = IsOkAnd (opening_of files names.plan) (λ setting. IsOkAnd (report_in files names.report) (λ report. IsSome (files names.out)))
+AsksToCheck files names which.Source = ⊥
+AsksToCheck files names which = AsksToRun files names.plan which

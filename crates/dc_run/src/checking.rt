@@ -1,0 +1,199 @@
+ghost use Rattle.std.specs.Prelude.{◌≡◌, ◌≤◌, ◌<◌, ◌⊎◌, ℕ, All, Err, Some, false, true, IfErr, IfOk, IfSome, IsErrOf, IsSome, IsSomeAnd, IsOkAnd, OnOk, length};
+ghost use Rattle.dc_acts.specs.Reading.{report_of};
+ghost use Rattle.dc_acts.specs.Reads.{seen};
+ghost use Rattle.dc_media.specs.Causes.{Rose};
+ghost use Rattle.dc_media.specs.Told.{TellsOn};
+ghost use Rattle.dc_run.specs.Checking.{AsksToCheck, Checked as Passed, Concluded, IsChecked, TellsDifference, checked_in, found_at_end, found_in, found_view, passed_by, passed_text, report_in, report_or_fault};
+ghost use Rattle.dc_run.specs.Command.{names_view};
+ghost use Rattle.dc_run.specs.Commands.{IsExact, IsOpenedFor};
+ghost use Rattle.dc_run.specs.Opening.{Files};
+ghost use Rattle.dc_run.specs.Outcomes.{IsNothing};
+ghost use Rattle.dc_run.specs.Settings.{Agrees, LibraryKept, is_refusal, setting_of, was_opened};
+ghost use Rattle.dc_run.specs.declared.verdict.Verdict.{Verdict as Verdicts};
+ghost use Rattle.dc_run.specs.declared.verdict.Which.{Which as Whose};
+
+use crate::command::Names;
+use crate::opening::{fetch, open};
+use crate::setting::Setting;
+use crate::{Did, Outcome, Outlet, Verdict, Which};
+use dc_acts::{Acts, Line, ReadError, Report, read_report};
+use dc_check::{Finding, check};
+use dc_elf::Image;
+use dc_media::{Library, Sink, write_whole};
+use std::alloc::Global;
+
+/// The acts of a report, and what comes of checking an output against them.
+#[derive(Drop)]
+pub struct Found {
+    pub acts: Acts,
+    pub finding: Finding,
+}
+
+/// The report of a text.
+fn read(alloc: Global, text: &[u8]) -> Result<Report, Verdict>
+    ensures told { Agrees seen result (report_or_fault (report_of 1 text.now)) }
+    ensures processes { IfOk result (λ report. All (λ x. x.p < 1) report.acts.items) }
+    ensures few { IfOk result (λ report. length report.acts.items ≤ 1000000) }
+    ensures closed { IfErr result (λ v. was_opened v ≡ false) }
+    ensures asked { ¬ (result ≡ Err Verdict.Usage) }
+    ensures sound { (w : Whose) → IsErrOf result (Verdict.LibraryFault w) → ⊥ }
+{
+    match read_report(alloc, text, 1) {
+        Ok(report) => Ok(report),
+        Err(ReadError::Refused(fault)) => Err(Verdict::ReportRefused(fault)),
+        Err(ReadError::Memory) => Err(Verdict::WantOfMemory),
+    }
+}
+
+/// The report of that name.
+fn report_at<L: Library>(alloc: Global, lib: &mut L, name: &str) -> Result<Report, Verdict>
+    ensures told { (files : Files) → L.files lib.old ≡ Some files → Agrees seen result (report_in files name.now) }
+    ensures processes { IfOk result (λ report. All (λ x. x.p < 1) report.acts.items) }
+    ensures few { IfOk result (λ report. length report.acts.items ≤ 1000000) }
+    ensures closed { IfErr result (λ v. was_opened v ≡ false) }
+    ensures asked { ¬ (result ≡ Err Verdict.Usage) }
+    ensures which { (w : Whose) → IsErrOf result (Verdict.LibraryFault w) → w ≡ Which.Report }
+    ensures there { (files : Files) (w : Whose) → L.files lib.old ≡ Some files → IsErrOf result (Verdict.LibraryFault w) → IsSome (files name.now) }
+    ensures files { OnOk result (L.files lib.new ≡ L.files lib.old) }
+    ensures fault { (w : Whose) → IsErrOf result (Verdict.LibraryFault w) → Rose (L.faults lib.old) (L.faults lib.new) }
+    ensures library { LibraryKept (L.files lib.old) (L.files lib.new) (L.faults lib.old) (L.faults lib.new) }
+{
+    let text = fetch(alloc, lib, Which::Report, name)?;
+    read(alloc, &text)
+}
+
+/// What comes of checking an output, where the setting and the report are there.
+fn find(alloc: Global, setting: Setting, report: Report, out: &[u8]) -> Result<Found, Verdict>
+    requires processes { All (λ x. x.p < 1) report.acts.items }
+    requires few { length report.acts.items ≤ 1000000 }
+    ensures told { Agrees found_view result (found_at_end (setting_of setting) (seen report) out.now) }
+    ensures closed { IfErr result (λ v. was_opened v ≡ false) }
+    ensures asked { ¬ (result ≡ Err Verdict.Usage) }
+    ensures sound { (w : Whose) → IsErrOf result (Verdict.LibraryFault w) → ⊥ }
+{
+    let Setting {
+        memory,
+        entry,
+        inputs,
+        schedule,
+    } = setting;
+    let images = [Image { memory, entry }];
+    match check(
+        alloc,
+        &images,
+        &inputs,
+        &schedule,
+        report.acts.as_slice(),
+        out,
+    ) {
+        Ok(finding) => Ok(Found {
+            acts: report.acts,
+            finding,
+        }),
+        Err(_) => Err(Verdict::WantOfMemory),
+    }
+}
+
+/// What comes of checking the output of that name.
+fn find_in<L: Library>(alloc: Global, names: &Names, lib: &mut L) -> Result<Found, Verdict>
+    ensures told { (files : Files) → L.files lib.old ≡ Some files → Agrees found_view result (found_in files (names_view names.now)) }
+    ensures closed { IfErr result (λ v. was_opened v ≡ false) }
+    ensures asked { ¬ (result ≡ Err Verdict.Usage) }
+    ensures reached { (files : Files) (w : Whose) → L.files lib.old ≡ Some files → IsErrOf result (Verdict.LibraryFault w) →
+        AsksToCheck files (names_view names.now) w }
+    ensures fault { (w : Whose) → IsErrOf result (Verdict.LibraryFault w) → Rose (L.faults lib.old) (L.faults lib.new) }
+    ensures library { LibraryKept (L.files lib.old) (L.files lib.new) (L.faults lib.old) (L.faults lib.new) }
+{
+    let setting = open(alloc, names.plan, lib)?;
+    let report = report_at(alloc, lib, names.report)?;
+    let out = fetch(alloc, lib, Which::Out, names.out)?;
+    find(alloc, setting, report, &out)
+}
+
+/// The line of an output that passes: `ok`, how many acts its report has, and how many visible records they show.
+fn passed_line(acts: u32, visibles: u32) -> Line
+    ensures { result ≡ passed_text acts visibles }
+{
+    let mut line = Line::new();
+    line.push(b"ok ");
+    line.push_number(u64::from(acts));
+    line.push(b" ");
+    line.push_number(u64::from(visibles));
+    line.push(b"\n");
+    line
+}
+
+/// Writes that an output passed.
+fn write_passed<O: Sink>(alloc: Global, acts: Acts, visibles: u32, out: &mut O) -> Outcome
+    ensures checked { IsChecked (record { acts = acts.items; visibles = visibles }) result (O.held out.old) (O.held out.new) }
+    ensures opened { was_opened result.verdict ≡ true }
+    ensures own { ¬ (result.verdict ≡ Verdict.SinkFault Outlet.Report) }
+    ensures fault { result.verdict ≡ Verdict.SinkFault Outlet.Out → Rose (O.faults out.old) (O.faults out.new) }
+    ensures later { O.faults out.old ≤ O.faults out.new }
+    ensures tells { TellsOn 0 (O.faults out.new) (O.held out.old) (O.held out.new) }
+{
+    let line = passed_line(acts.len(), visibles);
+    let verdict = match write_whole(out, line.as_slice()) {
+        Ok(()) => Verdict::Done,
+        Err(_) => Verdict::SinkFault(Outlet::Out),
+    };
+    Outcome {
+        did: Did::Checked(visibles),
+        acts,
+        ..Outcome::idle(alloc, verdict)
+    }
+}
+
+/// The outcome of what was found.
+fn conclude_check<O: Sink>(alloc: Global, found: Found, out: &mut O) -> Outcome
+    ensures exact { Concluded (passed_by (found_view found)) result (O.held out.old) (O.held out.new) }
+    ensures difference { (line : ℕ) → result.verdict ≡ Verdict.Differs line → TellsDifference result.difference (found_view found) }
+    ensures own { ¬ (result.verdict ≡ Verdict.SinkFault Outlet.Report) }
+    ensures fault { result.verdict ≡ Verdict.SinkFault Outlet.Out → Rose (O.faults out.old) (O.faults out.new) }
+    ensures unopened { was_opened result.verdict ≡ false → IsNothing result × (out.new ≡ out.old) }
+    ensures later { O.faults out.old ≤ O.faults out.new }
+    ensures tells { TellsOn 0 (O.faults out.new) (O.held out.old) (O.held out.new) }
+{
+    let Found { acts, finding } = found;
+    match finding {
+        Finding::Passes(visibles) => write_passed(alloc, acts, visibles, out),
+        Finding::NotARun(place) => Outcome::idle(alloc, Verdict::NotARun(place)),
+        Finding::Differs(difference) => {
+            let verdict = Verdict::Differs(difference.line);
+            Outcome {
+                difference: Some(difference),
+                ..Outcome::idle(alloc, verdict)
+            }
+        }
+    }
+}
+
+/// Checks the output of that name against the report of that name, by a plan with its guest and its schedule.
+pub fn check_output<L: Library, O: Sink>(
+    alloc: Global,
+    names: &Names,
+    lib: &mut L,
+    out: &mut O,
+) -> Outcome
+    ensures refused { (refusal : Verdicts) → is_refusal refusal ≡ true → IfSome (L.files lib.old) (λ files. IsExact result.verdict refusal (checked_in files (names_view names.now))) }
+    ensures opened { IfSome (L.files lib.old) (λ files. IsOpenedFor result.verdict (checked_in files (names_view names.now))) }
+    ensures checked { was_opened result.verdict ≡ true → IfSome (L.files lib.old) (λ files. IsOkAnd (checked_in files (names_view names.now)) (λ checked.
+        IsChecked checked result (O.held out.old) (O.held out.new))) }
+    ensures some { was_opened result.verdict ≡ true → (checked : Passed) × IsChecked checked result (O.held out.old) (O.held out.new) }
+    ensures difference { (line : ℕ) → result.verdict ≡ Verdict.Differs line → IfSome (L.files lib.old) (λ files.
+        IsOkAnd (found_in files (names_view names.now)) (TellsDifference result.difference)) }
+    ensures asked { ¬ (result.verdict ≡ Verdict.Usage) }
+    ensures library_asked { (which : Whose) → IfSome (L.files lib.old) (λ files. result.verdict ≡ Verdict.LibraryFault which → AsksToCheck files (names_view names.now) which) }
+    ensures library_fault { (which : Whose) → result.verdict ≡ Verdict.LibraryFault which → Rose (L.faults lib.old) (L.faults lib.new) }
+    ensures output_fault { result.verdict ≡ Verdict.SinkFault Outlet.Out → Rose (O.faults out.old) (O.faults out.new) }
+    ensures own { ¬ (result.verdict ≡ Verdict.SinkFault Outlet.Report) }
+    ensures unopened { was_opened result.verdict ≡ false → IsNothing result × (out.new ≡ out.old) }
+    ensures library { LibraryKept (L.files lib.old) (L.files lib.new) (L.faults lib.old) (L.faults lib.new) }
+    ensures later { O.faults out.old ≤ O.faults out.new }
+    ensures tells { TellsOn 0 (O.faults out.new) (O.held out.old) (O.held out.new) }
+{
+    match find_in(alloc, names, lib) {
+        Ok(found) => conclude_check(alloc, found, out),
+        Err(verdict) => Outcome::idle(alloc, verdict),
+    }
+}

@@ -1,0 +1,54 @@
+-- The entry of a line, by what was read of its fields.
+use Rattle.std.proofs.Common.{◌≡◌, ◌∙◌, ◌-◌, ◌^◌, ◌<◌, ◌≤◌, ℕ, Bool, List, [], ◌∷◌, length, Ok, Err, ap, sym, refl, arith, if◌then◌else◌, nat_lt}
+use Rattle.std.proofs.Math.Bool.{and-false}
+use Rattle.std.proofs.lemmas.Bool.{lt-ltb, le-ltb}
+use Rattle.dc_model.specs.declared.entry.Entry.TheVariants.{Turn}
+use Rattle.dc_words.specs.Numbers.{is_below, is_number, number_of, value}
+use Rattle.dc_words.specs.Texts.{fields_of}
+use Rattle.dc_words.specs.declared.numbers.NumberFault.{NumberFault}
+use Rattle.dc_words.specs.declared.numbers.NumberFault.TheVariants.{NotNumber, Range}
+use Rattle.dc_words.proofs.Splitting.{fields_some}
+use Rattle.dc_words.proofs.Reading.{below_is, below_not, is_below_is, not_number, over_range}
+use Rattle.dc_schedule.specs.Schedules.{entry_by, entry_of, turn_of}
+use Rattle.dc_schedule.specs.declared.fault.ScheduleKind.TheVariants.{Form, Process, ClockFell}
+
+-- the turn of three fields
+module _ (n last : ℕ) (p word clock : List ℕ) where
+  pub bad_word : (fault : NumberFault) → Err fault ≡ number_of (2 ^ 32 - 1) word → Err Form ≡ turn_of n last p word clock
+  bad_word fault e = rw (below_not word (2 ^ 32 - 1) (2 ^ 32) fault refl e, and-false (is_number p)) refl
+
+  pub bad_clock : (fault : NumberFault) → Err fault ≡ number_of (2 ^ 64 - 1) clock → Err Form ≡ turn_of n last p word clock
+  bad_clock fault e = rw (below_not clock (2 ^ 64 - 1) (2 ^ 64) fault refl e, and-false (is_below (2 ^ 32) word), and-false (is_number p)) refl
+
+  pub bad_number : Err NotNumber ≡ number_of (n - 1) p → Err Form ≡ turn_of n last p word clock
+  bad_number e = rw (not_number p (n - 1) e) refl
+
+  module _ (w k : ℕ) (some : 0 < n) (word_is : Ok w ≡ number_of (2 ^ 32 - 1) word) (clock_is : Ok k ≡ number_of (2 ^ 64 - 1) clock) where
+    pub no_process : Err Range ≡ number_of (n - 1) p → Err Process ≡ turn_of n last p word clock
+    no_process e = let parts = over_range p (n - 1) n (omega (arith, some)) e in
+        rw (parts.0, is_below_is word (2 ^ 32 - 1) (2 ^ 32) w refl word_is, is_below_is clock (2 ^ 64 - 1) (2 ^ 64) k refl clock_is, parts.1) refl
+
+    at_process : (q : ℕ) → Ok q ≡ number_of (n - 1) p
+        → turn_of n last p word clock ≡ (if nat_lt (value clock) last then Err ClockFell else Ok (Turn (record { p = value p; word = value word; clock = value clock })))
+    at_process q e = let parts = below_is p (n - 1) n q (omega (arith, some)) e in
+        rw (parts.0, is_below_is word (2 ^ 32 - 1) (2 ^ 32) w refl word_is, is_below_is clock (2 ^ 64 - 1) (2 ^ 64) k refl clock_is, parts.1) refl
+
+    clock_value : value clock ≡ k
+    clock_value = (below_is clock (2 ^ 64 - 1) (2 ^ 64) k refl clock_is).2
+
+    pub fallen : (q : ℕ) → Ok q ≡ number_of (n - 1) p → k < last → Err ClockFell ≡ turn_of n last p word clock
+    fallen q e low = sym (at_process q e ∙ rw (lt-ltb (value clock) last (omega (arith, clock_value, low))) refl)
+
+    pub good_turn : (q : ℕ) → Ok q ≡ number_of (n - 1) p → last ≤ k → Ok (Turn (record { p = q; word = w; clock = k })) ≡ turn_of n last p word clock
+    good_turn q e high = sym (at_process q e ∙ rw (le-ltb (value clock) last (omega (arith, clock_value, high)), (below_is p (n - 1) n q (omega (arith, some)) e).2, (below_is word (2 ^ 32 - 1) (2 ^ 32) w refl word_is).2, clock_value) refl)
+
+-- a line with more than three fields
+four_fields : (stops : Bool) (n last : ℕ) (p word clock : List ℕ) (more : List (List ℕ)) → 0 < length more → Err Form ≡ entry_by stops n last (p ∷ word ∷ clock ∷ more)
+four_fields stops n last p word clock [] some = absurd (omega arith)
+four_fields stops n last p word clock (x ∷ more) some = refl
+
+pub too_many_fields : (stops : Bool) (n last : ℕ) (line p rest word clock a b : List ℕ) → fields_of 32 line ≡ p ∷ fields_of 32 rest
+    → fields_of 32 rest ≡ word ∷ fields_of 32 clock → fields_of 32 clock ≡ a ∷ fields_of 32 b → Err Form ≡ entry_of stops n last line
+too_many_fields stops n last line p rest word clock a b e f g =
+    four_fields stops n last p word a (fields_of 32 b) (fields_some 32 b)
+    ∙ sym (ap (entry_by stops n last) (e ∙ ap (λ xs. p ∷ xs) (f ∙ ap (λ xs. word ∷ xs) g)))
