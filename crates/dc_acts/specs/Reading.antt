@@ -89,9 +89,11 @@ pub data Line : Type 0 where
   ActLine : (taken : Taken) → Line
   CloseLine : (report : Report) → Line
 
+-- the line that an act is
 abbrev pub act_line_of : Taken → Result Line ReportKind
 act_line_of x = Ok (ActLine x)
 
+-- the last line, of the report that it closes
 abbrev pub close_line_of : Report → Result Line ReportKind
 close_line_of report = Ok (CloseLine report)
 

@@ -1,18 +1,18 @@
 -- The words so far, and what is left.
-use Rattle.std.proofs.Common.{◌≡◌, ◌∙◌, ◌+◌, ◌++◌, ◌<◌, ◌≤◌, ℕ, suc, List, [], ◌∷◌, Option, None, Some, Result, Ok, Err, ap, sym, subst, refl, arith, length, append_assoc, add-one, IfSome, false, if◌then◌else◌}
-use Rattle.std.specs.Result.{is_ok, is_err}
+use Rattle.std.proofs.Common.{◌≡◌, ◌∙◌, ◌+◌, ◌++◌, ◌<◌, ◌≤◌, ℕ, suc, List, [], ◌∷◌, Option, None, Some, Result, Ok, Err, ap, sym, subst, refl, arith, length, append_assoc, add-one, IfSome}
 use Rattle.std.specs.Option.{option_to_list}
 use Rattle.std.proofs.lemmas.List.{append-nil}
 use Rattle.std.specs.Prelude.{Vec}
 use Rattle.std.specs.declared.alloc.Global.{Global}
 use Rattle.dc_words.specs.Texts.{lines_of}
+use Rattle.dc_words.proofs.Results.{prefixed}
 use Rattle.dc_asm.specs.declared.faults.AsmFault.{AsmFault}
 use Rattle.dc_asm.specs.declared.faults.AsmKind.{AsmKind}
 use Rattle.dc_asm.specs.declared.forms.Meant.{Meant}
 use Rattle.dc_asm.specs.declared.names.Place.{Place}
 use Rattle.dc_asm.specs.Source.{bare}
 use Rattle.dc_asm.specs.Forms.{IsWordOf}
-use Rattle.dc_asm.specs.Program.{AreWordsOf, IsFileOf, Makes, count_of, line_meaning, prefixed, program_from, program_of, with_front}
+use Rattle.dc_asm.specs.Program.{AreWordsOf, IsFileOf, Makes, count_of, line_meaning, program_from, program_of, with_front}
 use Rattle.dc_asm.specs.Names.{place_in}
 use Rattle.dc_asm.specs.Elf.{elf_of}
 use Rattle.dc_asm.specs.declared.faults.AsmError.{AsmError}
@@ -78,11 +78,6 @@ pub all_read : (places : List ℕ → Option Place) (number word : ℕ) (words :
 unfolding program_from
 all_read places number word words [] told none so_far = subst (λ r. Makes AreWordsOf (Ok words) r) (sym (so_far.rest_decides ∙ ap (λ (xs : List Meant). Ok xs) (append-nil so_far.front))) so_far.are_words
 all_read places number word words (c ∷ rest) told none so_far = absurd (omega arith)
-
--- where nothing was refused
-pub kept : {T E X : Type 0} (xs ys : List X) (r : Result T E) → false ≡ is_err r → (if is_ok r then xs else ys) ≡ xs
-kept xs ys (Ok v) e = refl
-kept xs ys (Err v) e = absurd (let never : ⊥ = cc in never)
 
 -- with the names of the source itself
 pub of_source : (source : List ℕ) (places : List ℕ → Option Place) (words : Result (Vec ℕ Global) AsmError) → places ≡ place_in source

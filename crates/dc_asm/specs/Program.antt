@@ -1,5 +1,5 @@
 -- What a source stands for: its words' instructions, or its first faulty line.
-use Rattle.std.specs.Prelude.{◌≡◌, ℕ, suc, ◌+◌, List, [], ◌∷◌, ◌++◌, Option, None, Some, Result, Ok, Err, if◌then◌else◌, nat_lt, Vec}
+use Rattle.std.specs.Prelude.{◌≡◌, ℕ, suc, ◌+◌, List, [], ◌∷◌, Option, None, Some, Result, Ok, Err, if◌then◌else◌, nat_lt, Vec}
 use Rattle.std.specs.declared.alloc.Global.{Global}
 use Rattle.dc_words.specs.Texts.{lines_of}
 use Rattle.dc_asm.specs.declared.faults.AsmError.{AsmError}
@@ -72,11 +72,6 @@ pub record IsFileOf (program : List Meant) (file : List ℕ) : Type 0 where
   pub words : List ℕ
   pub are_words : AreWordsOf program words
   pub is_file : file ≡ elf_of words
-
--- with these in front
-abbrev pub prefixed : List Meant → Result (List Meant) AsmFault → Result (List Meant) AsmFault
-prefixed front (Ok others) = Ok (front ++ others)
-prefixed front (Err fault) = Err fault
 
 -- what was made of a source's program: something that is so of it, or its first fault, unless memory was wanting
 abbrev pub Makes : (List Meant → List ℕ → Type 0) → Result (Vec ℕ Global) AsmError → Result (List Meant) AsmFault → Type 0

@@ -1,6 +1,6 @@
 -- Acts that are played are a run that was drawn.
-use Rattle.std.proofs.Common.{◌≡◌, ◌∙◌, ◌&&◌, ℕ, suc, Bool, true, false, List, [], ◌∷◌, Option, Some, None, Result, Ok, Err, ap, sym, refl, nat_le, slice_get, ⊎_elim}
-use Rattle.std.proofs.lemmas.Bool.{cases_Bool, le-leb, leb-true, true≢false}
+use Rattle.std.proofs.Common.{◌≡◌, ◌∙◌, ◌&&◌, ℕ, suc, true, List, [], ◌∷◌, Option, Some, None, Result, Ok, Err, ap, sym, refl, nat_le, slice_get, ⊎_elim}
+use Rattle.std.proofs.lemmas.Bool.{and_parts, cases_Bool, le-leb, leb-true}
 use Rattle.dc_model.specs.Drawn.{Drawn, DrawnFrom, draws}
 use Rattle.dc_model.specs.Guests.{Guests}
 use Rattle.dc_model.specs.World.{World, apply, opened, run, run_from}
@@ -9,17 +9,12 @@ use Rattle.dc_model.specs.declared.entry.Entry.{Entry}
 use Rattle.dc_words.specs.Results.{◌>>=◌, or_fault}
 use Rattle.dc_check.specs.Played.{played, played_from}
 
-both : (a b : Bool) → (a && b) ≡ true → (a ≡ true) × (b ≡ true)
-both true true e = (refl, refl)
-both true false e = absurd (true≢false (sym e))
-both false b e = absurd (true≢false (sym e))
-
 module _ {Mc : Type 0} (G : Guests Mc) (schedule : List Entry) where
   drawn_from : (next place : ℕ) (w v : World Mc) (acts : List Taken) → played_from G schedule next place w acts ≡ Ok v
       → DrawnFrom G.count schedule next acts × (run_from G (Some w) acts ≡ Some v)
   drawn_from next place w v [] e = (tt, let same : w ≡ v = cc in ap (λ (u : World Mc). Some u) same)
   drawn_from next place w v (x ∷ acts) e = ⊎_elim
-      (λ yes. by_apply (λ u on. drawn_from (suc x.t) (suc place) u v acts on) (both (nat_le next x.t) (draws G.count (slice_get schedule x.t) x) yes) (apply G w x.p x.act) refl (sym (rw yes refl) ∙ e))
+      (λ yes. by_apply (λ u on. drawn_from (suc x.t) (suc place) u v acts on) (and_parts (nat_le next x.t) (draws G.count (slice_get schedule x.t) x) yes) (apply G w x.p x.act) refl (sym (rw yes refl) ∙ e))
       (λ not_so. let never : ◌≡◌ {A = Result (World Mc) ℕ} (Err place) (Ok v) = sym (rw not_so refl) ∙ e in absurd (let no_way : ⊥ = cc in no_way))
       (cases_Bool (nat_le next x.t && draws G.count (slice_get schedule x.t) x))
     where

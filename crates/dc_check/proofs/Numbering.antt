@@ -10,6 +10,7 @@ use Rattle.dc_model.specs.declared.visible.Visible.{Visible}
 use Rattle.dc_words.specs.Hex.{hex_digit, hex_of, value_of}
 use Rattle.dc_words.specs.Texts.{fields_of, has_no}
 use Rattle.dc_words.specs.Words.{AllBelow, word_bytes}
+use Rattle.dc_words.proofs.Bytes.{hex_length}
 use Rattle.dc_words.proofs.Joining.{fields_last, fields_then}
 use Rattle.dc_words.proofs.Reading.{decimal_below, decimal_has_no}
 use Rattle.dc_check.specs.Records.{CanShow, is_body, is_hex, is_hex_text, is_hex_word, numbers_by, numbers_in}
@@ -32,10 +33,6 @@ written_free [] small = refl
 written_free (b ∷ bytes) small = let below : b < 256 = small.0 in
     rw (digit_shown (b / 16) (omega (arith, below)), digit_shown (b % 16) (omega arith), written_free bytes small.1) refl
 
-written_long : (bytes : List ℕ) → length (hex_of bytes) ≡ 2 * length bytes
-written_long [] = refl
-written_long (b ∷ bytes) = omega (arith, written_long bytes)
-
 -- as many digits as an output has
 fitting : (l n : ℕ) → l ≡ 2 * n → 0 < n → n ≤ 256 → (l % 2 == 0 && (not (l == 0) && nat_le l 512)) ≡ true
 fitting l n is some few = grind (arith, nat_tests)
@@ -54,7 +51,7 @@ out_free (b ∷ text) small = written_free (b ∷ text) small
 
 out_is : (text : List ℕ) → length text ≤ 256 → AllBelow (2 ^ 8) text → is_hex_text (hex_text text) ≡ true
 out_is [] few small = refl
-out_is (b ∷ text) few small = digits_are (hex_of (b ∷ text)) (written_hex (b ∷ text) small) (fitting (length (hex_of (b ∷ text))) (length (b ∷ text)) (written_long (b ∷ text)) (omega arith) few)
+out_is (b ∷ text) few small = digits_are (hex_of (b ∷ text)) (written_hex (b ∷ text) small) (fitting (length (hex_of (b ∷ text))) (length (b ∷ text)) (hex_length (b ∷ text)) (omega arith) few)
 
 -- a word in hexadecimal
 word_below : (w : ℕ) → AllBelow (2 ^ 8) (reverse (word_bytes w))

@@ -11,7 +11,7 @@ use Rattle.dc_model.specs.Guests.Event.{AtEnd, AtInternal, AtClock, AtRandom, At
 use Rattle.dc_model.specs.Guests.{Answer as answer}
 use Rattle.dc_model.specs.declared.visible.Body.TheVariants.{Out, End, Trap}
 use Rattle.dc_rv32.specs.Machine.{Machine, next_pc, stepped}
-use Rattle.dc_rv32.specs.Words.{with_bytes}
+use Rattle.dc_rv32.specs.Bytes.{with_bytes}
 use Rattle.dc_words.specs.Words.{bytes_in}
 use Rattle.dc_rv32.specs.declared.machine.Stepped.{Stepped}
 use Rattle.dc_rv32.specs.declared.machine.Stepped.TheVariants as step

@@ -15,6 +15,7 @@ pub(crate) fn text<B: Bus>(bus: &B, from: u32, count: u32) -> Text
     ensures { IfSome (B.told bus.now) (λ words. result ≡ take count (drop from (bytes_in words))) }
 {
     let mut room = [0; TEXT_ROOM];
+    // For the proof: the size fits a `u32`, so `from + count` does.
     let _size = bus.size();
     read_bytes(bus, from, &mut room[..count as usize]);
     Text::new(&room[..count as usize])
@@ -28,6 +29,7 @@ pub(crate) fn message<B: Bus>(bus: &B, from: u32, count: u32) -> Message
     ensures { IfSome (B.told bus.now) (λ words. result ≡ take count (drop from (bytes_in words))) }
 {
     let mut room = [0; MESSAGE_ROOM];
+    // For the proof: the size fits a `u32`, so `from + count` does.
     let _size = bus.size();
     read_bytes(bus, from, &mut room[..count as usize]);
     Message::new(&room[..count as usize])

@@ -4,6 +4,8 @@
 mod files;
 mod late;
 mod stream;
+#[cfg(test)]
+mod tests;
 
 use dc_memmedia::{MemDisks, MemKeeps};
 use dc_run::{Outcome, Verdict, conclude, dc};

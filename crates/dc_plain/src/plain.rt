@@ -282,7 +282,7 @@ impl Plain {
         &self.visibles
     }
 
-    /// Drops the visible records so far, which the processes go on counting from: for a caller that has what it wants of them.
+    /// Drops the visible records so far. The numbers of later records go on from theirs.
     pub fn forget_visibles(&mut self)
         ensures world { world_in self.new ≡ record (world_in self.old) { visibles = [] } }
         ensures count { length self.new.processes ≡ length self.old.processes }

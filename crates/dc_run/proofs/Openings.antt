@@ -38,10 +38,10 @@ unfolding image_of
 image_long file size image is = ap (λ (i : Image). length i.memory) is ∙ length-map-range_with_len (byte_of file (parts_of file)) 0 size
 
 -- an opening that was refused, and what was answered
-module _ (known : Option Files) (plan : List ℕ) (v answered : Verdict) (same : answered ≡ v) (closed : was_opened v ≡ false)
+module _ (known : Option Files) (plan : List ℕ) (v answered : Verdict) (same : answered ≡ v) (early : was_opened v ≡ false)
     (told : (files : Files) → known ≡ Some files → (is_free v ≡ true) ⊎ (opening_of files plan ≡ Err v)) where
   pub refused_opened : IfSome known (λ files. IsOpenedFor answered (opening_of files plan))
-  refused_opened = for_known known (λ files is. subst (λ w. IsOpenedFor w (opening_of files plan)) (sym same) (refused_work v (opening_of files plan) closed (told files is)))
+  refused_opened = for_known known (λ files is. subst (λ w. IsOpenedFor w (opening_of files plan)) (sym same) (refused_work v (opening_of files plan) early (told files is)))
 
   pub refused_exact : (refusal : Verdict) → is_refusal refusal ≡ true → IfSome known (λ files. IsExact answered refusal (opening_of files plan))
   refused_exact refusal is = for_known known (λ files here. subst (λ w. IsExact w refusal (opening_of files plan)) (sym same) (exact_refusal v refusal (opening_of files plan) is (told files here)))

@@ -1,5 +1,5 @@
 -- What checking an output comes to, by the told files.
-use Rattle.std.specs.Prelude.{◌≡◌, ℕ, List, [], ◌∷◌, ◌++◌, Option, Some, None, true, IsOkAnd, IsSome, Result, Ok, Err, codes, decimal, length}
+use Rattle.std.specs.Prelude.{◌≡◌, ℕ, List, [], ◌∷◌, ◌++◌, Option, Some, None, true, IsOkAnd, IsSome, Result, Ok, Err, codes, decimal, length, option_map}
 use Rattle.dc_acts.specs.Reading.{Report, report_of}
 use Rattle.dc_acts.specs.declared.fault.ReportFault.{ReportFault}
 use Rattle.dc_check.specs.Findings.{Finding, finding_of, seen_difference, seen_finding}
@@ -11,7 +11,7 @@ use Rattle.dc_run.specs.Assembling.{WritesOut}
 use Rattle.dc_run.specs.Command.{Names}
 use Rattle.dc_run.specs.Headline.{guests}
 use Rattle.dc_run.specs.Opening.{AsksToRun, Files, Setting, file_in, opening_of}
-use Rattle.dc_run.specs.Settings.{was_opened}
+use Rattle.dc_run.specs.Settings.{differing_line, was_opened}
 use Rattle.dc_run.specs.declared.checking.Found as code
 use Rattle.dc_run.specs.declared.outcome.Outcome.{Outcome}
 use Rattle.dc_run.specs.declared.verdict.Did.TheVariants as did
@@ -90,6 +90,10 @@ Concluded (Err refusal) o before after = o.verdict ≡ refusal
 abbrev pub TellsDifference : Option Difference → Found → Type 0
 TellsDifference (Some difference) f = f.finding ≡ found.Differs (seen_difference difference)
 TellsDifference None f = ⊥
+
+-- a difference is told exactly where a line differs, and it is of that line
+abbrev pub TellsLine : Outcome → Type 0
+TellsLine o = option_map (λ (difference : Difference). difference.line) o.difference ≡ differing_line o.verdict
 
 -- which files a check asks for and finds: those of a run, and the others once those before them were there and were not refused
 abbrev pub AsksToCheck : Files → Names → Which → Type 0

@@ -1,11 +1,11 @@
 -- How the code's opening stands to the told files.
-use Rattle.std.specs.Prelude.{◌≡◌, ◌≤◌, ◌⊎◌, ℕ, Option, Bool, true, false, not, ◌&&◌, Result, Ok, Err}
+use Rattle.std.specs.Prelude.{◌≡◌, ◌≤◌, ◌⊎◌, ℕ, Option, None, Some, Bool, true, false, not, ◌&&◌, Result, Ok, Err}
 use Rattle.dc_plain.specs.Playing.{lists_of}
 use Rattle.dc_media.specs.Told.{Becomes, TellsOn}
 use Rattle.dc_run.specs.Opening.{Files, Setting}
 use Rattle.dc_run.specs.declared.setting.Setting as code
 use Rattle.dc_run.specs.declared.verdict.Verdict.{Verdict}
-use Rattle.dc_run.specs.declared.verdict.Verdict.TheVariants.{Done, Unfinished, LibraryFault, SinkFault, WantOfMemory}
+use Rattle.dc_run.specs.declared.verdict.Verdict.TheVariants.{Done, Unfinished, LibraryFault, SinkFault, Differs, WantOfMemory}
 
 -- a verdict that no told file decides: want of memory, and a fault of the library
 abbrev pub is_free : Verdict → Bool
@@ -19,6 +19,15 @@ was_opened Done = true
 was_opened Unfinished = true
 was_opened (SinkFault outlet) = true
 was_opened _ = false
+
+-- the line that differs, where the verdict is that one does
+abbrev pub differing_line : Verdict → Option ℕ
+differing_line (Differs line) = Some line
+differing_line _ = None
+
+-- a verdict that comes before anything is carried out or compared
+abbrev pub IsEarly : Verdict → Type 0
+IsEarly v = (was_opened v ≡ false) × (differing_line v ≡ None)
 
 -- a verdict that stands in the words or the told files
 abbrev pub is_refusal : Verdict → Bool

@@ -4,10 +4,11 @@ ghost use Rattle.dc_asm.specs.declared.forms.Meant.{Meant};
 ghost use Rattle.dc_media.specs.Causes.{Rose};
 ghost use Rattle.dc_media.specs.Told.{TellsOn};
 ghost use Rattle.dc_run.specs.Assembling.{IsAssembled, IsMade, IsWritten, program_in};
+ghost use Rattle.dc_run.specs.Checking.{TellsLine};
 ghost use Rattle.dc_run.specs.Commands.{IsExact, IsOpenedFor};
 ghost use Rattle.dc_run.specs.Opening.{Files};
 ghost use Rattle.dc_run.specs.Outcomes.{IsNothing};
-ghost use Rattle.dc_run.specs.Settings.{LibraryKept, is_refusal, was_opened};
+ghost use Rattle.dc_run.specs.Settings.{IsEarly, LibraryKept, is_refusal, was_opened};
 ghost use Rattle.dc_run.specs.declared.verdict.Verdict.{Verdict as Verdicts};
 ghost use Rattle.dc_run.specs.declared.verdict.Which.{Which as Whose};
 
@@ -21,7 +22,7 @@ use std::alloc::Global;
 fn file_of<L: Library>(alloc: Global, source: &str, lib: &mut L) -> Result<Vec<u8>, Verdict>
     ensures told { (files : Files) → L.files lib.old ≡ Some files → IsMade result (program_in files source.now) }
     ensures some { IfOk result (λ file. (program : List Meant) × IsFileOf program file.items) }
-    ensures closed { IfErr result (λ v. was_opened v ≡ false) }
+    ensures early { IfErr result IsEarly }
     ensures which { (w : Whose) → IsErrOf result (Verdict.LibraryFault w) → w ≡ Which.Source }
     ensures there { (files : Files) (w : Whose) → L.files lib.old ≡ Some files → IsErrOf result (Verdict.LibraryFault w) → IsSome (files source.now) }
     ensures fault { (w : Whose) → IsErrOf result (Verdict.LibraryFault w) → Rose (L.faults lib.old) (L.faults lib.new) }
@@ -43,6 +44,7 @@ fn write_file<O: Sink>(alloc: Global, file: &[u8], out: &mut O) -> Outcome
     ensures own { ¬ (result.verdict ≡ Verdict.SinkFault Outlet.Report) }
     ensures fault { result.verdict ≡ Verdict.SinkFault Outlet.Out → Rose (O.faults out.old) (O.faults out.new) }
     ensures did { ¬ (result.did ≡ Did.Run) }
+    ensures line { TellsLine result }
     ensures later { O.faults out.old ≤ O.faults out.new }
     ensures tells { TellsOn 0 (O.faults out.new) (O.held out.old) (O.held out.new) }
 {
@@ -76,6 +78,7 @@ pub fn assemble_source<L: Library, O: Sink>(
     ensures own { ¬ (result.verdict ≡ Verdict.SinkFault Outlet.Report) }
     ensures unopened { was_opened result.verdict ≡ false → IsNothing result × (out.new ≡ out.old) }
     ensures did { was_opened result.verdict ≡ true → ¬ (result.did ≡ Did.Run) }
+    ensures line { TellsLine result }
     ensures library { LibraryKept (L.files lib.old) (L.files lib.new) (L.faults lib.old) (L.faults lib.new) }
     ensures later { O.faults out.old ≤ O.faults out.new }
     ensures tells { TellsOn 0 (O.faults out.new) (O.held out.old) (O.held out.new) }

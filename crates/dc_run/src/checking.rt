@@ -3,12 +3,12 @@ ghost use Rattle.dc_acts.specs.Reading.{report_of};
 ghost use Rattle.dc_acts.specs.Reads.{seen};
 ghost use Rattle.dc_media.specs.Causes.{Rose};
 ghost use Rattle.dc_media.specs.Told.{TellsOn};
-ghost use Rattle.dc_run.specs.Checking.{AsksToCheck, Checked as Passed, Concluded, IsChecked, TellsDifference, checked_in, found_at_end, found_in, found_view, passed_by, passed_text, report_in, report_or_fault};
+ghost use Rattle.dc_run.specs.Checking.{AsksToCheck, Checked as Passed, Concluded, IsChecked, TellsDifference, TellsLine, checked_in, found_at_end, found_in, found_view, passed_by, passed_text, report_in, report_or_fault};
 ghost use Rattle.dc_run.specs.Command.{names_view};
 ghost use Rattle.dc_run.specs.Commands.{IsExact, IsOpenedFor};
 ghost use Rattle.dc_run.specs.Opening.{Files};
 ghost use Rattle.dc_run.specs.Outcomes.{IsNothing};
-ghost use Rattle.dc_run.specs.Settings.{Agrees, LibraryKept, is_refusal, setting_of, was_opened};
+ghost use Rattle.dc_run.specs.Settings.{Agrees, IsEarly, LibraryKept, is_refusal, setting_of, was_opened};
 ghost use Rattle.dc_run.specs.declared.verdict.Verdict.{Verdict as Verdicts};
 ghost use Rattle.dc_run.specs.declared.verdict.Which.{Which as Whose};
 
@@ -34,7 +34,7 @@ fn read(alloc: Global, text: &[u8]) -> Result<Report, Verdict>
     ensures told { Agrees seen result (report_or_fault (report_of 1 text.now)) }
     ensures processes { IfOk result (λ report. All (λ x. x.p < 1) report.acts.items) }
     ensures few { IfOk result (λ report. length report.acts.items ≤ 1000000) }
-    ensures closed { IfErr result (λ v. was_opened v ≡ false) }
+    ensures early { IfErr result IsEarly }
     ensures asked { ¬ (result ≡ Err Verdict.Usage) }
     ensures sound { (w : Whose) → IsErrOf result (Verdict.LibraryFault w) → ⊥ }
 {
@@ -50,7 +50,7 @@ fn report_at<L: Library>(alloc: Global, lib: &mut L, name: &str) -> Result<Repor
     ensures told { (files : Files) → L.files lib.old ≡ Some files → Agrees seen result (report_in files name.now) }
     ensures processes { IfOk result (λ report. All (λ x. x.p < 1) report.acts.items) }
     ensures few { IfOk result (λ report. length report.acts.items ≤ 1000000) }
-    ensures closed { IfErr result (λ v. was_opened v ≡ false) }
+    ensures early { IfErr result IsEarly }
     ensures asked { ¬ (result ≡ Err Verdict.Usage) }
     ensures which { (w : Whose) → IsErrOf result (Verdict.LibraryFault w) → w ≡ Which.Report }
     ensures there { (files : Files) (w : Whose) → L.files lib.old ≡ Some files → IsErrOf result (Verdict.LibraryFault w) → IsSome (files name.now) }
@@ -67,7 +67,7 @@ fn find(alloc: Global, setting: Setting, report: Report, out: &[u8]) -> Result<F
     requires processes { All (λ x. x.p < 1) report.acts.items }
     requires few { length report.acts.items ≤ 1000000 }
     ensures told { Agrees found_view result (found_at_end (setting_of setting) (seen report) out.now) }
-    ensures closed { IfErr result (λ v. was_opened v ≡ false) }
+    ensures early { IfErr result IsEarly }
     ensures asked { ¬ (result ≡ Err Verdict.Usage) }
     ensures sound { (w : Whose) → IsErrOf result (Verdict.LibraryFault w) → ⊥ }
 {
@@ -97,7 +97,7 @@ fn find(alloc: Global, setting: Setting, report: Report, out: &[u8]) -> Result<F
 /// What comes of checking the output of that name.
 fn find_in<L: Library>(alloc: Global, names: &Names, lib: &mut L) -> Result<Found, Verdict>
     ensures told { (files : Files) → L.files lib.old ≡ Some files → Agrees found_view result (found_in files (names_view names.now)) }
-    ensures closed { IfErr result (λ v. was_opened v ≡ false) }
+    ensures early { IfErr result IsEarly }
     ensures asked { ¬ (result ≡ Err Verdict.Usage) }
     ensures reached { (files : Files) (w : Whose) → L.files lib.old ≡ Some files → IsErrOf result (Verdict.LibraryFault w) →
         AsksToCheck files (names_view names.now) w }
@@ -127,6 +127,7 @@ fn passed_line(acts: u32, visibles: u32) -> Line
 fn write_passed<O: Sink>(alloc: Global, acts: Acts, visibles: u32, out: &mut O) -> Outcome
     ensures checked { IsChecked (record { acts = acts.items; visibles = visibles }) result (O.held out.old) (O.held out.new) }
     ensures opened { was_opened result.verdict ≡ true }
+    ensures line { TellsLine result }
     ensures own { ¬ (result.verdict ≡ Verdict.SinkFault Outlet.Report) }
     ensures fault { result.verdict ≡ Verdict.SinkFault Outlet.Out → Rose (O.faults out.old) (O.faults out.new) }
     ensures later { O.faults out.old ≤ O.faults out.new }
@@ -148,6 +149,7 @@ fn write_passed<O: Sink>(alloc: Global, acts: Acts, visibles: u32, out: &mut O) 
 fn conclude_check<O: Sink>(alloc: Global, found: Found, out: &mut O) -> Outcome
     ensures exact { Concluded (passed_by (found_view found)) result (O.held out.old) (O.held out.new) }
     ensures difference { (line : ℕ) → result.verdict ≡ Verdict.Differs line → TellsDifference result.difference (found_view found) }
+    ensures line { TellsLine result }
     ensures own { ¬ (result.verdict ≡ Verdict.SinkFault Outlet.Report) }
     ensures fault { result.verdict ≡ Verdict.SinkFault Outlet.Out → Rose (O.faults out.old) (O.faults out.new) }
     ensures unopened { was_opened result.verdict ≡ false → IsNothing result × (out.new ≡ out.old) }
@@ -182,6 +184,7 @@ pub fn check_output<L: Library, O: Sink>(
     ensures some { was_opened result.verdict ≡ true → (checked : Passed) × IsChecked checked result (O.held out.old) (O.held out.new) }
     ensures difference { (line : ℕ) → result.verdict ≡ Verdict.Differs line → IfSome (L.files lib.old) (λ files.
         IsOkAnd (found_in files (names_view names.now)) (TellsDifference result.difference)) }
+    ensures line { TellsLine result }
     ensures asked { ¬ (result.verdict ≡ Verdict.Usage) }
     ensures library_asked { (which : Whose) → IfSome (L.files lib.old) (λ files. result.verdict ≡ Verdict.LibraryFault which → AsksToCheck files (names_view names.now) which) }
     ensures library_fault { (which : Whose) → result.verdict ≡ Verdict.LibraryFault which → Rose (L.faults lib.old) (L.faults lib.new) }

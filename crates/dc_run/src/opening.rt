@@ -7,7 +7,7 @@ ghost use Rattle.dc_plan.specs.Plans.{plan_of, plan_view};
 ghost use Rattle.dc_run.specs.Opening.{schedule_of_plan};
 ghost use Rattle.dc_run.specs.Running.{is_turn};
 ghost use Rattle.dc_schedule.specs.Schedules.{Reads};
-ghost use Rattle.dc_run.specs.Settings.{Agrees, LibraryKept, setting_of, was_opened};
+ghost use Rattle.dc_run.specs.Settings.{Agrees, IsEarly, LibraryKept, setting_of};
 ghost use Rattle.dc_plain.specs.Playing.{seen_image};
 ghost use Rattle.dc_run.specs.declared.verdict.Which.{Which as Whose};
 
@@ -29,7 +29,7 @@ pub fn fetch<L: Library>(
 ) -> Result<Vec<u8>, Verdict>
     ensures told { (files : Files) → L.files lib.old ≡ Some files → Agrees (λ bytes. bytes.items) result (file_in files which name.now) }
     ensures files { OnOk result (L.files lib.new ≡ L.files lib.old) }
-    ensures closed { IfErr result (λ v. was_opened v ≡ false) }
+    ensures early { IfErr result IsEarly }
     ensures asked { ¬ (result ≡ Err Verdict.Usage) }
     ensures which { (w : Whose) → IsErrOf result (Verdict.LibraryFault w) → w ≡ which }
     ensures there { (files : Files) (w : Whose) → L.files lib.old ≡ Some files → IsErrOf result (Verdict.LibraryFault w) → IsSome (files name.now) }
@@ -50,7 +50,7 @@ fn image_in(alloc: Global, file: &[u8], size: u32) -> Result<Image, Verdict>
     ensures long { IfOk result (λ image. length image.memory.items ≡ size) }
     ensures aligned { IfOk result (λ image. image.entry % 4 ≡ 0) }
     ensures right { OnOk result (file_fault file.now size ≡ None) }
-    ensures closed { IfErr result (λ v. was_opened v ≡ false) }
+    ensures early { IfErr result IsEarly }
     ensures asked { ¬ (result ≡ Err Verdict.Usage) }
     ensures sound { (w : Whose) → IsErrOf result (Verdict.LibraryFault w) → ⊥ }
 {
@@ -65,7 +65,7 @@ fn image_in(alloc: Global, file: &[u8], size: u32) -> Result<Image, Verdict>
 fn plan_in(alloc: Global, text: &[u8]) -> Result<Plan, Verdict>
     ensures told { Agrees plan_view result (plan_in (plan_of text.now)) }
     ensures allowed { IfOk result (λ plan. IsAllowed (plan_view plan)) }
-    ensures closed { IfErr result (λ v. was_opened v ≡ false) }
+    ensures early { IfErr result IsEarly }
     ensures asked { ¬ (result ≡ Err Verdict.Usage) }
     ensures sound { (w : Whose) → IsErrOf result (Verdict.LibraryFault w) → ⊥ }
 {
@@ -95,7 +95,7 @@ fn settle(alloc: Global, plan: Plan, image: Image, text: &[u8]) -> Result<Settin
     requires long { length image.memory.items ≡ plan.memory }
     requires aligned { image.entry % 4 ≡ 0 }
     ensures told { Agrees setting_of result (opening_at_end (plan_view plan) (seen_image image) text.now) }
-    ensures closed { IfErr result (λ v. was_opened v ≡ false) }
+    ensures early { IfErr result IsEarly }
     ensures asked { ¬ (result ≡ Err Verdict.Usage) }
     ensures sound { (w : Whose) → IsErrOf result (Verdict.LibraryFault w) → ⊥ }
 {
@@ -120,7 +120,7 @@ fn open_guest<L: Library>(
 ) -> Result<Setting, Verdict>
     requires { IsAllowed (plan_view plan) }
     ensures told { (files : Files) → L.files lib.old ≡ Some files → Agrees setting_of result (opening_at_guest files (plan_view plan) file.now) }
-    ensures closed { IfErr result (λ v. was_opened v ≡ false) }
+    ensures early { IfErr result IsEarly }
     ensures asked { ¬ (result ≡ Err Verdict.Usage) }
     ensures reached { (files : Files) (w : Whose) → L.files lib.old ≡ Some files → IsErrOf result (Verdict.LibraryFault w) →
         AsksAtGuest files (plan_view plan) file.now w }
@@ -136,7 +136,7 @@ fn open_guest<L: Library>(
 /// With the bytes of the plan.
 fn open_plan<L: Library>(alloc: Global, lib: &mut L, text: &[u8]) -> Result<Setting, Verdict>
     ensures told { (files : Files) → L.files lib.old ≡ Some files → Agrees setting_of result (opening_at_plan files text.now) }
-    ensures closed { IfErr result (λ v. was_opened v ≡ false) }
+    ensures early { IfErr result IsEarly }
     ensures asked { ¬ (result ≡ Err Verdict.Usage) }
     ensures reached { (files : Files) (w : Whose) → L.files lib.old ≡ Some files → IsErrOf result (Verdict.LibraryFault w) →
         AsksAtPlan files text.now w }
@@ -152,7 +152,7 @@ fn open_plan<L: Library>(alloc: Global, lib: &mut L, text: &[u8]) -> Result<Sett
 /// What the files open the run of that plan with, or the first refusal.
 pub fn open<L: Library>(alloc: Global, plan: &str, lib: &mut L) -> Result<Setting, Verdict>
     ensures told { (files : Files) → L.files lib.old ≡ Some files → Agrees setting_of result (opening_of files plan.now) }
-    ensures closed { IfErr result (λ v. was_opened v ≡ false) }
+    ensures early { IfErr result IsEarly }
     ensures asked { ¬ (result ≡ Err Verdict.Usage) }
     ensures reached { (files : Files) (w : Whose) → L.files lib.old ≡ Some files → IsErrOf result (Verdict.LibraryFault w) →
         AsksToRun files plan.now w }

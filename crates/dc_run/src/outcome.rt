@@ -1,4 +1,4 @@
-ghost use Rattle.std.specs.Prelude.{◌≡◌, ◌≤◌, ◌+◌, ◌++◌, length, codes, decimal};
+ghost use Rattle.std.specs.Prelude.{◌≡◌, ◌≤◌, ◌+◌, ◌++◌, None, length, codes, decimal};
 ghost use Rattle.dc_acts.specs.Reading.{kind_text as report_kind_text};
 ghost use Rattle.dc_media.specs.Causes.{HasCause};
 ghost use Rattle.dc_media.specs.Sinks.{TakesWhole};
@@ -38,6 +38,7 @@ impl Outcome {
     pub fn idle(alloc: Global, verdict: Verdict) -> Outcome
         ensures verdict { result.verdict ≡ verdict }
         ensures nothing { IsNothing result }
+        ensures difference { result.difference ≡ None }
     {
         Outcome {
             verdict,

@@ -6,7 +6,7 @@ ghost use Rattle.dc_media.specs.Told.{TellsOn};
 ghost use Rattle.dc_run.specs.Assembling.{IsAssembled};
 ghost use Rattle.dc_run.specs.Command.{asked_of};
 ghost use Rattle.dc_asm.specs.declared.forms.Meant.{Meant};
-ghost use Rattle.dc_run.specs.Checking.{Checked, IsChecked, TellsDifference};
+ghost use Rattle.dc_run.specs.Checking.{Checked, IsChecked, TellsDifference, TellsLine};
 ghost use Rattle.dc_run.specs.Command.{Names};
 ghost use Rattle.dc_run.specs.Command.Asked.{ToAssemble, ToCheck, ToRun};
 ghost use Rattle.dc_run.specs.Commands.{Asks, IfAssembly, IfCheck, IfFound, IfRun, IsExact, IsOpenedFor, work_of};
@@ -72,13 +72,14 @@ pub fn dc<L: Library, K: Keeps, D: Disks, O: Sink, R: Sink>(
     ensures did { (plan : List ℕ) → asked_of words.now ≡ Some (ToRun plan) → result.did ≡ Did.Run }
 
     // An output that passes: `ok`, the counts of its report's acts and of the visible records that they show; and how another differs. The
-    // same where the files are not told: some acts and some count.
+    // same where the files are not told: some acts and some count. A difference is told exactly where a line differs, of that line.
     ensures checked { was_opened result.verdict ≡ true → IfSome (L.files lib.old) (λ files. IsOkAnd (work_of files words.now) (λ work. IfCheck work (λ checked.
         IsChecked checked result (O.held out.old) (O.held out.new) × (report.new ≡ report.old)))) }
     ensures passed { (names : Names) → asked_of words.now ≡ Some (ToCheck names) → was_opened result.verdict ≡ true →
         (checked : Checked) × IsChecked checked result (O.held out.old) (O.held out.new) × (report.new ≡ report.old) }
     ensures difference { (line : ℕ) → result.verdict ≡ Verdict.Differs line → IfSome (L.files lib.old) (λ files. IsSomeAnd (asked_of words.now) (λ asked.
         IfFound files asked (TellsDifference result.difference))) }
+    ensures line { TellsLine result }
 
     // The file of a source that was assembled; its report stays. The same where the files are not told: the file of some program.
     ensures assembled { was_opened result.verdict ≡ true → IfSome (L.files lib.old) (λ files. IsOkAnd (work_of files words.now) (λ work. IfAssembly work (λ program.
@@ -126,6 +127,7 @@ fn run_plan<L: Library, O: Sink, R: Sink>(
         IsReported setting (account_of result) (course (O.held out.old) (O.held out.new) (O.faults out.old) (O.faults out.new))
         (course (R.held report.old) (R.held report.new) (R.faults report.old) (R.faults report.new)) }
     ensures did { result.did ≡ Did.Run }
+    ensures line { TellsLine result }
     ensures unopened { was_opened result.verdict ≡ false → IsNothing result × (out.new ≡ out.old) × (report.new ≡ report.old) }
     ensures library { LibraryKept (L.files lib.old) (L.files lib.new) (L.faults lib.old) (L.faults lib.new) }
     ensures tells { TellsOn 0 (O.faults out.new) (O.held out.old) (O.held out.new) }
@@ -162,6 +164,7 @@ fn carry_out<O: Sink>(alloc: Global, setting: Setting, out: &mut O) -> Result<Ou
     ensures output_fault { IfOk result (λ o. o.verdict ≡ Verdict.SinkFault Outlet.Out → Rose (O.faults out.old) (O.faults out.new)) }
     ensures unopened { OnErr result (out.new ≡ out.old) }
     ensures did { IfOk result (λ o. o.did ≡ Did.Run) }
+    ensures difference { IfOk result (λ o. o.difference ≡ None) }
     ensures later { O.faults out.old ≤ O.faults out.new }
     ensures tells { TellsOn 0 (O.faults out.new) (O.held out.old) (O.held out.new) }
 {
@@ -205,6 +208,7 @@ fn reported<R: Sink>(outcome: Outcome, report: &mut R) -> Outcome
     ensures marks { result.marks ≡ outcome.marks }
     ensures lines { result.lines ≡ outcome.lines }
     ensures did { result.did ≡ outcome.did }
+    ensures difference { result.difference ≡ outcome.difference }
     ensures later { R.faults report.old ≤ R.faults report.new }
     ensures tells { TellsOn 0 (R.faults report.new) (R.held report.old) (R.held report.new) }
 {

@@ -4,7 +4,7 @@ use Rattle.std.proofs.lemmas.List.{append-nil, append_assoc, drop-drop, drop_at,
 use Rattle.dc_words.specs.Words.{bytes_in}
 use Rattle.dc_words.proofs.Bytes.{bytes_long}
 use Rattle.dc_media.specs.Told.{Becomes}
-use Rattle.dc_rv32.specs.Words.{with_bytes}
+use Rattle.dc_rv32.specs.Bytes.{with_bytes}
 
 -- one byte more
 pub read_more : (bytes to old : List ℕ) (from i x : ℕ) → i < length old → from + length old ≤ length bytes → x ≡ slice_index bytes (from + i)

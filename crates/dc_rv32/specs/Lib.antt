@@ -1,5 +1,5 @@
+pub mod Bytes
 pub mod Stores
-pub mod Words
 pub mod Arithmetic
 pub mod Access
 pub mod Machine

@@ -11,7 +11,7 @@ use Rattle.dc_isa.specs.declared.regs.Regs.{Regs}
 use Rattle.dc_words.specs.Words.{bytes_in, word_at}
 use Rattle.dc_rv32.specs.Access.{load_width, loaded, store_width, stored}
 use Rattle.dc_rv32.specs.Arithmetic.{sum_of, of_registers, of_immediate, of_shift, of_upper, is_taken}
-use Rattle.dc_rv32.specs.Words.{with_bytes}
+use Rattle.dc_rv32.specs.Bytes.{with_bytes}
 use Rattle.dc_rv32.specs.declared.machine.Stepped.{Stepped}
 use Rattle.dc_rv32.specs.declared.machine.Stepped.TheVariants.{Retired, Call, Trap}
 

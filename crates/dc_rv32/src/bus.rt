@@ -1,6 +1,6 @@
 ghost use Rattle.std.specs.Prelude.{◌≡◌, ◌<◌, ◌*◌, ℕ, List, Option, length, OnOk, IfErr, IfSome, slice_index, slice_set};
 ghost use Rattle.dc_media.specs.Told.{Becomes};
-ghost use Rattle.dc_rv32.specs.Words.{masked};
+ghost use Rattle.dc_words.specs.Words.{masked};
 
 /// A memory of words, lowest byte first, whose stores may be refused.
 ///

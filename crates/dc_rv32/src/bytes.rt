@@ -1,7 +1,7 @@
 ghost use Rattle.std.specs.Prelude.{◌≡◌, ◌≤◌, ◌<◌, ◌+◌, ◌*◌, ◌/◌, ◌%◌, ◌^◌, IfErr, IfSome, OnOk, drop, length, slice_index, take};
 ghost use Rattle.dc_media.specs.Told.{Becomes};
 ghost use Rattle.dc_rv32.specs.Stores.{BreakOff, Follow, touched};
-ghost use Rattle.dc_rv32.specs.Words.{with_bytes};
+ghost use Rattle.dc_rv32.specs.Bytes.{with_bytes};
 ghost use Rattle.dc_words.specs.Words.{bytes_in, word_at, word_bytes};
 
 use crate::Bus;

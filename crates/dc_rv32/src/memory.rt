@@ -4,7 +4,7 @@ ghost use Rattle.dc_rv32.specs.Access.{load_width, loaded, store_width, stored};
 ghost use Rattle.dc_rv32.specs.Machine.{machine_of, loading, storing, IsCause, UnlessRetired};
 ghost use Rattle.dc_media.specs.Told.{Becomes};
 ghost use Rattle.dc_rv32.specs.Stores.{OnceAtMost};
-ghost use Rattle.dc_rv32.specs.Words.{with_bytes};
+ghost use Rattle.dc_rv32.specs.Bytes.{with_bytes};
 
 use crate::Bus;
 use crate::arithmetic::sign_extended;

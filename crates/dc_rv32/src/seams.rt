@@ -2,7 +2,7 @@
 
 ghost use Rattle.std.specs.Prelude.{◌≡◌, ◌<◌, ◌≤◌, ◌*◌, ◌⊎◌, ℕ, List, Option, length, IfErr, IfSome, OnOk, OnErr, slice_index, slice_set};
 ghost use Rattle.dc_media.specs.Told.{Becomes};
-ghost use Rattle.dc_rv32.specs.Words.{masked};
+ghost use Rattle.dc_words.specs.Words.{masked};
 
 use crate::{Bus, Stepped, step};
 use dc_isa::Regs;

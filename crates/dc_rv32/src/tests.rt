@@ -118,25 +118,25 @@ fn instructions_run_in_turn(_rt: HostRuntime) -> Result<(), Fail> {
     let mut regs = start(7, 0, 0);
     holds(
         step(&mut regs, &mut memory) == Ok(Stepped::Retired),
-        "instructions run in turn",
+        "addi x6, x0, -1",
     )?;
-    holds(regs == start(4294967295, 0, 4), "instructions run in turn")?;
+    holds(
+        regs == start(4294967295, 0, 4),
+        "registers after addi x6, x0, -1",
+    )?;
     holds(
         step(&mut regs, &mut memory) == Ok(Stepped::Retired),
-        "instructions run in turn",
+        "addi x6, x6, 1",
     )?;
-    holds(regs == start(0, 0, 8), "instructions run in turn")?;
+    holds(regs == start(0, 0, 8), "registers after addi x6, x6, 1")?;
     holds(
         step(&mut regs, &mut memory) == Ok(Stepped::Retired),
-        "instructions run in turn",
+        "addi x0, x0, 2047",
     )?;
-    holds(regs == start(0, 0, 12), "instructions run in turn")?;
-    holds(
-        step(&mut regs, &mut memory) == Ok(Stepped::Call),
-        "instructions run in turn",
-    )?;
-    holds(regs == start(0, 0, 12), "instructions run in turn")?;
-    holds(memory.words == words, "instructions run in turn")?;
+    holds(regs == start(0, 0, 12), "registers after addi x0, x0, 2047")?;
+    holds(step(&mut regs, &mut memory) == Ok(Stepped::Call), "ecall")?;
+    holds(regs == start(0, 0, 12), "registers at ecall")?;
+    holds(memory.words == words, "memory at ecall")?;
     Ok(())
 }
 
@@ -144,21 +144,15 @@ fn instructions_run_in_turn(_rt: HostRuntime) -> Result<(), Fail> {
 fn sums_are_of_32_bits(_rt: HostRuntime) -> Result<(), Fail> {
     // addi x6, x6, 2047; addi x6, x6, -2048
     let mut memory = holding([0x7ff3_0313, 0x8003_0313, 0, 0]);
-    for (index, before, after) in [
-        (0, 0x7fff_ffff, 0x8000_07fe),
-        (0, 0xffff_ff00, 0x0000_06ff),
-        (1, 0x0000_0800, 0),
-        (1, 0, 0xffff_f800),
+    for (name, index, before, after) in [
+        ("0x7fffffff + 2047", 0, 0x7fff_ffff, 0x8000_07fe),
+        ("0xffffff00 + 2047", 0, 0xffff_ff00, 0x0000_06ff),
+        ("2048 - 2048", 1, 0x0000_0800, 0),
+        ("0 - 2048", 1, 0, 0xffff_f800),
     ] {
         let mut regs = start(before, 0, 4 * index);
-        holds(
-            step(&mut regs, &mut memory) == Ok(Stepped::Retired),
-            "sums are of 32 bits",
-        )?;
-        holds(
-            regs == start(after, 0, 4 * index + 4),
-            "sums are of 32 bits",
-        )?;
+        holds(step(&mut regs, &mut memory) == Ok(Stepped::Retired), name)?;
+        holds(regs == start(after, 0, 4 * index + 4), name)?;
     }
     Ok(())
 }
@@ -166,16 +160,15 @@ fn sums_are_of_32_bits(_rt: HostRuntime) -> Result<(), Fail> {
 #[test]
 fn words_that_code_nothing_are_traps_of_cause_2(_rt: HostRuntime) -> Result<(), Fail> {
     let mut memory = holding([0, 0xffff_ffff, 0, 0xffff_ffff]);
-    for index in 0..4u32 {
+    for (name, index) in [
+        ("0 at 0", 0),
+        ("0xffffffff at 4", 1),
+        ("0 at 8", 2),
+        ("0xffffffff at 12", 3),
+    ] {
         let mut regs = start(5, 0, 4 * index);
-        holds(
-            step(&mut regs, &mut memory) == Ok(Stepped::Trap(2)),
-            "words that code nothing are traps of cause 2",
-        )?;
-        holds(
-            regs == start(5, 0, 4 * index),
-            "words that code nothing are traps of cause 2",
-        )?;
+        holds(step(&mut regs, &mut memory) == Ok(Stepped::Trap(2)), name)?;
+        holds(regs == start(5, 0, 4 * index), name)?;
     }
     Ok(())
 }
@@ -187,14 +180,14 @@ fn the_sign_is_copied_from_above(_rt: HostRuntime) -> Result<(), Fail> {
     let mut regs = start(0, 0, 0);
     holds(
         step(&mut regs, &mut memory) == Ok(Stepped::Retired),
-        "the sign is copied from above",
+        "lui x5, 524288",
     )?;
-    holds(regs.x[5] == 0x8000_0000, "the sign is copied from above")?;
+    holds(regs.x[5] == 0x8000_0000, "x5 after lui")?;
     holds(
         step(&mut regs, &mut memory) == Ok(Stepped::Retired),
-        "the sign is copied from above",
+        "srai x10, x5, 31",
     )?;
-    holds(regs.x[10] == 0xffff_ffff, "the sign is copied from above")?;
+    holds(regs.x[10] == 0xffff_ffff, "x10 after srai")?;
     Ok(())
 }
 
@@ -267,10 +260,7 @@ fn loads_carry_the_sign(_rt: HostRuntime) -> Result<(), Fail> {
         ("lw x5, 0(x6)", 0x0003_2283, 4, 0x807f_ff01),
         ("lw x5, 0(x6)", 0x0003_2283, 12, 0x0000_7fff),
     ] {
-        holds(
-            after(word, x6, 0) == Some(with_x5(x5, x6, 0, 12)),
-            "loads carry the sign",
-        )?;
+        holds(after(word, x6, 0) == Some(with_x5(x5, x6, 0, 12)), name)?;
     }
     Ok(())
 }
@@ -287,10 +277,7 @@ fn stores_leave_the_other_bytes(_rt: HostRuntime) -> Result<(), Fail> {
         ("sw x7, 0(x6)", 0x0073_2023, 8, 0xaabb_ccdd),
     ] {
         let words = [word, 0x1122_3344, changed, 0x1122_3344];
-        holds(
-            stored(word, x6, 0xaabb_ccdd) == Some(words),
-            "stores leave the other bytes",
-        )?;
+        holds(stored(word, x6, 0xaabb_ccdd) == Some(words), name)?;
     }
     Ok(())
 }
@@ -332,10 +319,9 @@ fn jumps_link_to_the_address_after_them(_rt: HostRuntime) -> Result<(), Fail> {
     ] {
         holds(after(word, x6, 0) == Some(with_x5(x5, x6, 0, pc)), name)?;
     }
-    // jalr x6, 0(x6)
     holds(
         after(0x0003_0367, 16, 0) == Some(start(12, 0, 16)),
-        "jumps link to the address after them",
+        "jalr x6, 0(x6)",
     )?;
     Ok(())
 }
@@ -366,16 +352,15 @@ fn traps_leave_the_machine_as_it_was(_rt: HostRuntime) -> Result<(), Fail> {
 #[test]
 fn a_pc_outside_the_memory_is_a_trap_of_cause_1(_rt: HostRuntime) -> Result<(), Fail> {
     let mut memory = holding([0x0000_0013; 4]);
-    for index in [4, 5, 0x2000_0000, 0x3fff_ffff] {
+    for (name, index) in [
+        ("pc 0x10", 4),
+        ("pc 0x14", 5),
+        ("pc 0x80000000", 0x2000_0000),
+        ("pc 0xfffffffc", 0x3fff_ffff),
+    ] {
         let mut regs = start(5, 0, 4 * index);
-        holds(
-            step(&mut regs, &mut memory) == Ok(Stepped::Trap(1)),
-            "a pc outside the memory is a trap of cause 1",
-        )?;
-        holds(
-            regs == start(5, 0, 4 * index),
-            "a pc outside the memory is a trap of cause 1",
-        )?;
+        holds(step(&mut regs, &mut memory) == Ok(Stepped::Trap(1)), name)?;
+        holds(regs == start(5, 0, 4 * index), name)?;
     }
     Ok(())
 }
@@ -391,16 +376,10 @@ fn a_stopped_store_leaves_the_machine_as_it_was(_rt: HostRuntime) -> Result<(), 
     let mut regs = start(4, 9, 0);
     holds(
         step(&mut regs, &mut memory) == Err(Stopped),
-        "a stopped store leaves the machine as it was",
+        "the store stops",
     )?;
-    holds(
-        regs == start(4, 9, 0),
-        "a stopped store leaves the machine as it was",
-    )?;
-    holds(
-        memory.words == words,
-        "a stopped store leaves the machine as it was",
-    )?;
+    holds(regs == start(4, 9, 0), "the registers of a stopped store")?;
+    holds(memory.words == words, "the memory of a stopped store")?;
     Ok(())
 }
 
@@ -409,12 +388,9 @@ fn a_store_sets_the_bits_of_its_mask(_rt: HostRuntime) -> Result<(), Fail> {
     let mut memory = holding([0, 0, 0x1122_3344, 0]);
     holds(
         memory.store(2, 0xaabb_ccdd, 0x00ff_0000) == Ok(()),
-        "a store sets the bits of its mask",
+        "a store under a mask",
     )?;
-    holds(
-        memory.load(2) == 0x11bb_3344,
-        "a store sets the bits of its mask",
-    )?;
+    holds(memory.load(2) == 0x11bb_3344, "the word under a mask")?;
     Ok(())
 }
 
@@ -426,11 +402,11 @@ fn bytes_are_read_from_any_address(_rt: HostRuntime) -> Result<(), Fail> {
     read_bytes(&memory, 3, &mut six);
     holds(
         six == [0x11, 0xdd, 0xcc, 0xbb, 0xaa, 0x04],
-        "bytes are read from any address",
+        "six bytes from 3",
     )?;
     let mut last = [7; 1];
     read_bytes(&memory, 15, &mut last);
-    holds(last == [0x80], "bytes are read from any address")?;
+    holds(last == [0x80], "the last byte")?;
     read_bytes(&memory, 16, &mut []);
     Ok(())
 }
@@ -442,27 +418,27 @@ fn bytes_are_written_to_any_address(_rt: HostRuntime) -> Result<(), Fail> {
     let mut memory = holding(words);
     holds(
         write_bytes(&mut memory, 3, &[1, 2, 3, 4, 5, 6]) == Ok(()),
-        "bytes are written to any address",
+        "a write of six bytes to 3",
     )?;
     holds(
         memory.words == [0x0122_3344, 0x0504_0302, 0x0102_0306, 0x8000_0000],
-        "bytes are written to any address",
+        "the words after six bytes to 3",
     )?;
     holds(
         write_bytes(&mut memory, 13, &[7, 8]) == Ok(()),
-        "bytes are written to any address",
+        "a write of two bytes to 13",
     )?;
     holds(
         memory.words[3] == 0x8008_0700,
-        "bytes are written to any address",
+        "the last word after two bytes to 13",
     )?;
     holds(
         write_bytes(&mut memory, 16, &[]) == Ok(()),
-        "bytes are written to any address",
+        "a write of nothing",
     )?;
     holds(
         memory.words[3] == 0x8008_0700,
-        "bytes are written to any address",
+        "the last word after a write of nothing",
     )?;
     Ok(())
 }
@@ -475,7 +451,7 @@ fn a_stopped_write_says_so(_rt: HostRuntime) -> Result<(), Fail> {
     };
     holds(
         write_bytes(&mut memory, 0, &[1, 2, 3, 4, 5]) == Err(Stopped),
-        "a stopped write says so",
+        "a write that stops",
     )?;
     Ok(())
 }
@@ -487,24 +463,26 @@ fn a_step_runs_the_word_at_any_pc(_rt: HostRuntime) -> Result<(), Fail> {
     let mut regs = start(7, 0, 2);
     holds(
         step(&mut regs, &mut memory) == Ok(Stepped::Retired),
-        "a step runs the word at any pc",
+        "addi x5, x6, 1 at 2",
     )?;
     holds(
         regs == with_x5(8, 7, 0, 6),
-        "a step runs the word at any pc",
+        "registers after addi x5, x6, 1 at 2",
     )?;
     Ok(())
 }
 
 #[test]
 fn only_an_ecall_is_a_call(_rt: HostRuntime) -> Result<(), Fail> {
-    // An ECALL, an EBREAK, ADDI x5, x6, 1 and a word that codes nothing.
     let memory = holding([0x0000_0073, 0x0010_0073, 0x0013_0293, 0]);
-    for (pc, want) in [(0, true), (4, false), (8, false), (12, false), (16, false)] {
-        holds(
-            is_call(&start(0, 0, pc), &memory) == want,
-            "only an ecall is a call",
-        )?;
+    for (name, pc, want) in [
+        ("ecall", 0, true),
+        ("ebreak", 4, false),
+        ("addi x5, x6, 1", 8, false),
+        ("a word that codes nothing", 12, false),
+        ("no word", 16, false),
+    ] {
+        holds(is_call(&start(0, 0, pc), &memory) == want, name)?;
     }
     Ok(())
 }

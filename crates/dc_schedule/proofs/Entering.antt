@@ -1,23 +1,14 @@
 -- The entries of lines, behind those that were read.
-use Rattle.std.proofs.Common.{◌≡◌, ◌∙◌, ◌+◌, ◌<◌, ◌≤◌, ℕ, suc, Bool, false, List, [], ◌∷◌, ◌++◌, length, Result, Ok, Err, is_err, is_ok, ap, sym, refl, arith, if◌then◌else◌, append_assoc, add-one}
+use Rattle.std.proofs.Common.{◌≡◌, ◌∙◌, ◌+◌, ◌<◌, ◌≤◌, ℕ, suc, Bool, List, [], ◌∷◌, ◌++◌, length, Result, Ok, Err, ap, sym, refl, arith, append_assoc, add-one}
 use Rattle.std.proofs.lemmas.Bool.{lt-ltb, le-ltb}
 use Rattle.dc_model.specs.declared.entry.Entry.{Entry}
 use Rattle.dc_words.specs.Texts.{lines_of}
+use Rattle.dc_words.proofs.Results.{prefixed}
 use Rattle.dc_words.proofs.Splitting.{lines_some}
 use Rattle.dc_schedule.specs.Entries.{clock_after}
 use Rattle.dc_schedule.specs.Schedules.{entry_of, schedule_from, with_front}
 use Rattle.dc_schedule.specs.declared.fault.ScheduleFault.{ScheduleFault}
 use Rattle.dc_schedule.specs.declared.fault.ScheduleKind.TheVariants.{TooMany}
-
--- with these entries in front
-abbrev pub prefixed : List Entry → Result (List Entry) ScheduleFault → Result (List Entry) ScheduleFault
-prefixed front (Ok entries) = Ok (front ++ entries)
-prefixed front (Err fault) = Err fault
-
--- what a vector holds after a push that was no failure
-pub pushed : {T E X : Type 0} (xs ys : List X) (r : Result T E) → false ≡ is_err r → (if is_ok r then xs else ys) ≡ xs
-pushed xs ys (Ok v) e = refl
-pushed xs ys (Err v) e = absurd (let never : ⊥ = cc in never)
 
 -- a line after the last one that is read
 one_more : (stops : Bool) (n number last : ℕ) (lines : List (List ℕ)) → 0 < length lines → 1000000 < number

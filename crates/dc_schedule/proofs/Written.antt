@@ -1,7 +1,7 @@
 -- What is read is a schedule, and its text is the one that was read.
 use Rattle.std.proofs.Common.{◌≡◌, ◌∙◌, ◌+◌, ◌^◌, ◌<◌, ◌≤◌, ◌&&◌, ◌⊎◌, inl, inr, ℕ, suc, Bool, true, false, List, [], ◌∷◌, ◌++◌, All, length, Result, Ok, Err, IfOk, Vec, bytes_eq, codes, ap, sym, subst, refl, arith, if◌then◌else◌, nat_lt, append_assoc}
 use Rattle.std.specs.declared.alloc.Global.{Global}
-use Rattle.std.proofs.lemmas.Bool.{ltb-true, ltb-false}
+use Rattle.std.proofs.lemmas.Bool.{and_parts, ltb-true, ltb-false}
 use Rattle.std.proofs.lemmas.List.Elements.{All-nil, All-cons}
 use Rattle.std.proofs.lemmas.Slice.Eq.{bytes_eq-Decides}
 use Rattle.dc_model.specs.declared.entry.Entry.{Entry}
@@ -16,10 +16,6 @@ use Rattle.dc_schedule.specs.declared.fault.ReadError.{ReadError}
 use Rattle.dc_schedule.specs.declared.fault.ScheduleFault.{ScheduleFault}
 use Rattle.dc_schedule.specs.declared.fault.ScheduleKind.{ScheduleKind}
 use Rattle.dc_schedule.specs.declared.fault.ScheduleKind.TheVariants.{Form, Process, ClockFell, TooMany}
-
-and_parts : (a b : Bool) → (a && b) ≡ true → (a ≡ true) × (b ≡ true)
-and_parts true b h = (refl, h)
-and_parts false b h = absurd (let never : ⊥ = cc in never)
 
 -- an entry of fields, by the tests that it passed
 turn_tests : (f b k : Bool) (entry made : Entry) → ◌≡◌ {A = Result Entry ScheduleKind} (if f then (if b then (if k then Err ClockFell else Ok made) else Err Process) else Err Form) (Ok entry)

@@ -88,7 +88,8 @@ hex_end : (bytes : List ℕ) (b : ℕ) → hex_of (bytes ++ b ∷ []) ≡ hex_of
 hex_end [] b = refl
 hex_end (c ∷ bytes) b = ap (λ xs. hex_byte c ++ xs) (hex_end bytes b) ∙ sym (append_assoc (hex_byte c) (hex_of bytes) (hex_byte b))
 
-hex_length : (bytes : List ℕ) → length (hex_of bytes) ≡ 2 * length bytes
+-- two digits for each byte
+pub hex_length : (bytes : List ℕ) → length (hex_of bytes) ≡ 2 * length bytes
 hex_length [] = refl
 hex_length (b ∷ bytes) = omega (arith, hex_length bytes)
 

@@ -4,4 +4,5 @@ pub mod Bytes
 pub mod Splitting
 pub mod Joining
 pub mod Reading
+pub mod Results
 mod Unhexing

@@ -1,10 +1,10 @@
 -- A number has one text.
-use Rattle.std.proofs.Common.{◌≡◌, ◌∙◌, ℕ, ◌+◌, ◌^◌, ◌<◌, ◌≤◌, ◌⊎◌, inl, inr, ◌&&◌, ◌||◌, ◌==◌, not, Bool, true, false, List, []}
+use Rattle.std.proofs.Common.{◌≡◌, ◌∙◌, ℕ, ◌+◌, ◌^◌, ◌<◌, ◌≤◌, ◌⊎◌, inl, inr, ◌||◌, ◌==◌, not, Bool, true, false, List, []}
 use Rattle.std.proofs.Common.{◌∷◌, length, get_or, nat_le, Ok, Err, if◌then◌else◌, arith, ap, sym, refl, decimal, zero, suc}
 use Rattle.std.specs.Char.{digit_value}
 use Rattle.std.specs.List.{list_all}
 use Rattle.std.specs.Str.Parse.{digits_value, AllDigits}
-use Rattle.std.proofs.lemmas.Bool.{leb-true, le-leb, eq-eqb}
+use Rattle.std.proofs.lemmas.Bool.{and_parts, leb-true, le-leb, eq-eqb}
 use Rattle.std.proofs.lemmas.Bool.Decides.{nat_tests}
 use Rattle.std.proofs.lemmas.Str.{digit_value_digit}
 use Rattle.std.proofs.lemmas.Str.Parse.{IsNumeralModel, digit_from_value}
@@ -15,10 +15,6 @@ use Rattle.dc_words.specs.declared.numbers.NumberFault.TheVariants.{Range, NotNu
 -- the digits and the value that std's lemmas speak of are these
 own : IsNumeralModel (AllDigits 10) (digits_value 10)
 own = record { to = λ _ d. d; from = λ _ d. d; same = λ _ _. refl }
-
-and_parts : (a b : Bool) → (a && b) ≡ true → (a ≡ true) × (b ≡ true)
-and_parts true b h = (refl, h)
-and_parts false b h = absurd (let e : ⊥ = cc in e)
 
 digit_bounds : (c : ℕ) → is_digit c ≡ true → (48 ≤ c) × (c ≤ 57)
 digit_bounds c h = grind (arith, nat_tests)

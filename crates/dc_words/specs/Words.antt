@@ -1,5 +1,5 @@
 -- Words as four bytes, the lowest first.
-use Rattle.std.specs.Prelude.{ℕ, ◌+◌, ◌*◌, ◌/◌, ◌%◌, ◌^◌, ◌<◌, List, [], ◌∷◌, slice_index}
+use Rattle.std.specs.Prelude.{ℕ, ◌+◌, ◌-◌, ◌*◌, ◌/◌, ◌%◌, ◌^◌, ◌<◌, List, [], ◌∷◌, bit_and, bit_or, slice_index}
 use Rattle.std.specs.List.{AllByRecursion, flat_map}
 
 -- the word of four bytes
@@ -30,3 +30,7 @@ bytes_in words = flat_map word_bytes words
 -- each is below this
 abbrev pub AllBelow : ℕ → List ℕ → Type 0
 AllBelow bound xs = AllByRecursion (λ x. x < bound) xs
+
+-- a word whose bits of the mask are another's
+abbrev pub masked : ℕ → ℕ → ℕ → ℕ
+masked old new mask = bit_or (bit_and old (2 ^ 32 - 1 - mask)) (bit_and new mask)

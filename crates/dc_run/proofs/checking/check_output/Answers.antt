@@ -12,4 +12,4 @@ pub returns-in-Err-clause-refused : goal.returns-in-Err-clause-refused
 returns-in-Err-clause-refused g c = λ refusal is. for_known _ (λ files here. unfound_exact files (names_view c.args.names.now) c.in-Err.verdict c.idle.result.verdict refusal c.idle.ensures.verdict (c.in-Err.ensures.told files here) is)
 
 pub returns-in-Err-clause-opened : goal.returns-in-Err-clause-opened
-returns-in-Err-clause-opened g c = for_known _ (λ files here. unfound_opened files (names_view c.args.names.now) c.in-Err.verdict c.idle.result.verdict c.idle.ensures.verdict c.in-Err.ensures.closed (c.in-Err.ensures.told files here))
+returns-in-Err-clause-opened g c = for_known _ (λ files here. unfound_opened files (names_view c.args.names.now) c.in-Err.verdict c.idle.result.verdict c.idle.ensures.verdict c.in-Err.ensures.early.0 (c.in-Err.ensures.told files here))

@@ -6,10 +6,10 @@ use Rattle.dc_run.proofs.Openings.{refused_exact, refused_opened}
 use Rattle.dc_run.proofs.program.run_plan.Goals as goal
 
 pub returns-in-Err-clause-opened : goal.returns-in-Err-clause-opened
-returns-in-Err-clause-opened g c = refused_opened _ c.args.plan.now c.in-Err.verdict _ c.idle.ensures.verdict c.in-Err.ensures.closed c.in-Err.ensures.told
+returns-in-Err-clause-opened g c = refused_opened _ c.args.plan.now c.in-Err.verdict _ c.idle.ensures.verdict c.in-Err.ensures.early.0 c.in-Err.ensures.told
 
 pub returns-in-Err-clause-refused : goal.returns-in-Err-clause-refused
-returns-in-Err-clause-refused g c = refused_exact _ c.args.plan.now c.in-Err.verdict _ c.idle.ensures.verdict c.in-Err.ensures.closed c.in-Err.ensures.told
+returns-in-Err-clause-refused g c = refused_exact _ c.args.plan.now c.in-Err.verdict _ c.idle.ensures.verdict c.in-Err.ensures.early.0 c.in-Err.ensures.told
 
 pub returns-in-Ok-carry_out-clause-headline : goal.returns-in-Ok-carry_out-clause-headline
 returns-in-Ok-carry_out-clause-headline g c = λ opened. reported_for _ c.args.plan.now (setting_of c.in-Ok.setting) c.reported.result _ _ c.in-Ok.ensures.told

@@ -1,7 +1,7 @@
 use Rattle.std.proofs.Common.{◌≡◌, ◌+◌, length}
 use Rattle.dc_media.specs.Told.{Becomes}
 use Rattle.dc_rv32.specs.Stores.{BreakOff, Follow, touched}
-use Rattle.dc_rv32.specs.Words.{with_bytes}
+use Rattle.dc_rv32.specs.Bytes.{with_bytes}
 use Rattle.dc_words.specs.Words.{bytes_in}
 use Rattle.dc_rv32.proofs.bytes.write_bytes.Given as goal
 

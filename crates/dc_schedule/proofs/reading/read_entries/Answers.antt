@@ -1,5 +1,6 @@
 use Rattle.std.proofs.Common.{rules, arith, sym, ◌∙◌}
-use Rattle.dc_schedule.proofs.Entering.{line_read, pushed, too_many_lines}
+use Rattle.dc_words.proofs.Results.{pushed}
+use Rattle.dc_schedule.proofs.Entering.{line_read, too_many_lines}
 use Rattle.dc_schedule.proofs.reading.read_entries.Goals as goal
 
 pub returns-then-line-gt-ENTRIES : goal.returns-then-line-gt-ENTRIES

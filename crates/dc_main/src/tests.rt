@@ -1,11 +1,15 @@
-//! Each case comes to what it says.
+//! Calls of the program over files, devices and sinks in memory: each case of text comes to what it says.
 
-use crate::case::{holds, is_read, number, numbers, says, text, value};
-use crate::cases::{ANSWERS, CALLS, CHECKS, COMMANDS, GUESTS, PLANS, RUNS, SCHEDULES, SOURCES};
-use crate::files::{called, coded, library, words};
+mod case;
+mod cases;
+mod files;
+
+use case::{holds, is_read, number, numbers, says, text, value};
+use cases::{ANSWERS, CALLS, CHECKS, COMMANDS, GUESTS, PLANS, RUNS, SCHEDULES, SOURCES};
 use dc_memmedia::{MemLibrary, MemSink};
 use dc_model::{Idle, Mark};
 use dc_run::{Outcome, conclude};
+use files::{called, coded, library, words};
 use std::alloc::Global;
 use std::test::Fail;
 

@@ -2,7 +2,7 @@
 
 ghost use Rattle.std.specs.Prelude.{◌≤◌, length};
 
-use crate::case::{holds, number, numbers, says, text, value};
+use crate::tests::case::{holds, number, numbers, says, text, value};
 use dc_armed::Armed;
 use dc_memmedia::{MemDisks, MemKeeps, MemLibrary, MemSink};
 use dc_run::{Outcome, dc};
