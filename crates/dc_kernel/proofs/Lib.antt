@@ -4,3 +4,4 @@ pub mod Written
 pub mod Read
 pub mod Entries
 pub mod Kernels
+pub mod Logged

@@ -1,9 +1,9 @@
 ghost use Rattle.std.specs.Prelude.{◌≡◌, ◌<◌, ◌≤◌, ◌*◌, ◌∷◌, None, Ok, OnErr, OnOk, IsOk, drop, length, map, slice_index, slice_set, take, true};
 ghost use Rattle.std.specs.List.{list_all};
-ghost use Rattle.dc_kernel.specs.Faults.{kernel_fault, is_entry, is_slot};
+ghost use Rattle.dc_kernel.specs.Faults.{kernel_fault, is_entry};
 ghost use Rattle.dc_kernel.specs.Kernels.{IsKernel};
 ghost use Rattle.dc_kernel.specs.Kernels as seen;
-ghost use Rattle.dc_kernel.specs.Layout.{entries_at, entry_words, parts, slot_words};
+ghost use Rattle.dc_kernel.specs.Layout.{entries_at, entry_words, length_at, message_room, parts, slot_words};
 ghost use Rattle.dc_kernel.specs.Readings.{kernel_in, link_in, message_in, received_in, regs_in, status_in, refusal};
 ghost use Rattle.dc_kernel.specs.Texts.{text_of};
 
@@ -41,9 +41,9 @@ fn regs_in(words: &[u32]) -> Regs
 }
 
 /// The message in a slot.
-fn message_in(slot: &[u32]) -> Message
+pub fn message_in(slot: &[u32]) -> Message
     requires long { length slot.now ≡ slot_words }
-    requires slot { is_slot slot.now ≡ true }
+    requires short { slice_index slot.now length_at ≤ message_room }
     ensures { result ≡ message_in slot.now }
 {
     Message::new(&slot_bytes(slot)[..slot[LENGTH_AT] as usize])

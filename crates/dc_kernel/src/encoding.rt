@@ -2,7 +2,7 @@ ghost use Rattle.std.specs.Prelude.{◌≡◌, ◌<◌, ◌≤◌, ◌*◌, None
 ghost use Rattle.std.specs.List.{AllByRecursion};
 ghost use Rattle.dc_kernel.specs.Faults.{kernel_fault};
 ghost use Rattle.dc_kernel.specs.Kernels.{IsKernel, IsLink, IsMessage};
-ghost use Rattle.dc_kernel.specs.Layout.{commit_at, entry_words, kernel_words, slot_count, slot_words};
+ghost use Rattle.dc_kernel.specs.Layout.{commit_at, entry_words, kernel_words, n_at, p_at, slot_count, slot_words};
 ghost use Rattle.dc_kernel.specs.Texts.{entries_text, entry_text, header_text, slot_text, slots_text, status_code, status_word, text_of};
 ghost use Rattle.dc_links.specs.Links.{link_to};
 
@@ -37,7 +37,7 @@ fn status_code(status: Status) -> u32
 }
 
 /// Writes a message into its slot.
-fn write_slot(message: &Message, slot: &mut [u32])
+pub fn write_slot(message: &Message, slot: &mut [u32])
     requires { length slot.old ≡ slot_words }
     ensures text { slot.new ≡ slot_text message.now }
     ensures message { IsMessage message.now }
@@ -116,6 +116,7 @@ impl Kernel {
         ensures text { to.new ≡ text_of self.now }
         ensures kernel { IsKernel self.now.n self.now.p self.now }
         ensures commit { slice_index to.new commit_at ≡ self.now.commit }
+        ensures process { (slice_index to.new n_at ≡ self.now.n) × (slice_index to.new p_at ≡ self.now.p) }
         ensures faultless { kernel_fault self.now.n self.now.p to.new ≡ None }
     {
         to[..REGISTERS_AT].copy_from_slice(&self.header());

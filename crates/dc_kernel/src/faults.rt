@@ -19,16 +19,16 @@ pub enum KernelFault {
     Status,
 }
 
-/// What is wrong with a stored checkpoint.
+/// The first thing that is wrong with a stored checkpoint, in the order of testing.
 #[derive(Clone, Copy, Debug, PartialEq, Eq, Error)]
 pub enum StoreFault {
-    /// Its header.
+    /// Its header, or its size.
     #[error("header")]
     Header,
-    /// The log record of that number.
+    /// The record of that number: the undo records, from 0 on, and behind the most of them that there can be those of the log.
     #[error("record {0}")]
     Record(u32),
-    /// Its kernel.
+    /// The text of its kernel, or the number of its commit.
     #[error("kernel")]
     Kernel,
 }

@@ -8,6 +8,7 @@ mod faults;
 mod kernel;
 mod laws;
 mod layout;
+mod records;
 mod saved;
 mod status;
 #[cfg(test)]
@@ -15,7 +16,10 @@ mod tests;
 
 pub use faults::{CheckFault, KernelFault, StoreFault};
 pub use kernel::Kernel;
-pub use laws::{kernels_are_told_by_their_texts, texts_are_those_of_kernels};
-pub use layout::kernel_words;
-pub use saved::{LogRecord, Saved};
+pub use laws::{
+    kernels_are_told_by_their_texts, records_are_told_by_their_texts, texts_are_those_of_kernels,
+};
+pub use layout::{COMMIT_AT, N_AT, P_AT, kernel_words};
+pub use records::{LogRecord, RECORD_WORDS};
+pub use saved::Saved;
 pub use status::Status;

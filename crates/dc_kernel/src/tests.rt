@@ -2,6 +2,8 @@
 
 ghost use Rattle.std.specs.Prelude.{◌≤◌, ◌<◌};
 
+mod records;
+
 use crate::{CheckFault, Kernel, KernelFault, LogRecord, Saved, Status, StoreFault, kernel_words};
 use dc_isa::Regs;
 use dc_links::Message;

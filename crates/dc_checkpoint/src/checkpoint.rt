@@ -1,0 +1,370 @@
+ghost use Rattle.std.specs.Prelude.{◌≡◌, ◌≢◌, ◌⊎◌, ◌<◌, ◌≤◌, ◌+◌, ◌*◌, ℕ, List, Option, Ok, Err, false, length, IfOk, IfSome, IsErrOf, IsSome, OnOk, slice_index, slice_set, vec_capacity};
+ghost use Rattle.dc_media.specs.Told.{Becomes};
+ghost use Rattle.dc_kernel.specs.Kernels.{IsKernel};
+ghost use Rattle.dc_kernel.specs.Records.{IsRecord};
+ghost use Rattle.dc_words.specs.Words.{masked};
+ghost use Rattle.dc_checkpoint.specs.Calls.{AreAll, AreAmong, AreBelow, AreNoHigher, IsCounted, IsMaking, IsSameStore, IsUnrefused, Narrows};
+ghost use Rattle.dc_checkpoint.specs.States.{Form, Gives, IsForm, IsLogged, IsSaved, IsText, Reading, form_in, number_in, unlogged};
+
+use dc_kernel::{CheckFault, LogRecord, Saved, StoreFault};
+use dc_media::{MakeFault, STORES};
+use std::alloc::Global;
+
+/// A recoverable store of one process's state: its memory in words, the text of its kernel, and the events that were logged since
+/// its last commit. It lies on a device that is lent to each call.
+///
+/// After a stop the device holds one of several images. What an image stands for depends on the *decided number*, which the store
+/// of process 0 holds: it is a state, or the refusal that a recovery under that number would answer. Where the device does not
+/// tell its content, nothing is said of images.
+///
+/// After a call that was stopped, failed or refused, after `fall`, and after a `format` that was stopped, only `decided`, `recover`
+/// and `fall` may be called until a `recover` is Ok; between an Ok `prepare` and its `finish` only `load`, `decide` and `decided`
+/// besides. All room is taken by `format`; no other call takes memory.
+///
+/// The protocols that decide when a process commits, and two-phase commit, are those of Lowell and Chen, *Discount Checking*
+/// (1998) and *Exploring failure transparency and the limits of generic recovery* (2000).
+pub trait Checkpoint: Sized {
+    /// What the store lies on.
+    type Device;
+
+    /// The number of its device.
+    ghost place: { Self → ℕ };
+
+    /// How many words its memory has.
+    ghost size: { Self → ℕ };
+
+    /// Whose it is.
+    ghost form: { Self → Form };
+
+    /// The number of its last commit.
+    ghost number: { Self → ℕ };
+
+    /// How many events were logged since.
+    ghost logged: { Self → ℕ };
+
+    /// Of decided numbers below this one nothing is said.
+    ghost floor: { Self → ℕ };
+
+    /// What the handle needs of the lent device at each call.
+    ghost lent: { Self → Self.Device → Type 0 };
+
+    /// The handle may go on: the device is as its last call left it, nothing is prepared, and no recovery is owed.
+    ghost ready: { Self → Self.Device → Type 0 };
+
+    /// A state is prepared under this number, and not finished.
+    ghost prepared: { Self → Self.Device → ℕ → Type 0 };
+
+    /// It may decide on this number.
+    ghost decidable: { Self → Self.Device → ℕ → Type 0 };
+
+    /// The decided number is one that only `decide` and `commit` may change.
+    ghost steady: { Self → Self.Device → Type 0 };
+
+    /// What an image of the store may stand for, under a decided number.
+    ghost leaves: { Self → Self.Device → ℕ → Reading → Type 0 };
+
+    /// The decided number that an image may hold.
+    ghost numbers: { Self → Self.Device → ℕ → Type 0 };
+
+    /// The memory as it is now, where it is told.
+    ghost contents: { Self → Self.Device → Option (List ℕ) };
+
+    /// The content of the device of this number is told.
+    ghost told: { Self.Device → ℕ → Type 0 };
+
+    /// How many calls of it were stopped.
+    ghost stops: { Self.Device → ℕ → ℕ };
+
+    /// How many calls of it failed.
+    ghost faults: { Self.Device → ℕ → ℕ };
+
+    /// The device of this number is as it was.
+    ghost untouched: { Self.Device → Self.Device → ℕ → Type 0 };
+
+    /// Whether the second is a later state of the first: what was lent to it stays lent to it.
+    ghost continues: { Self.Device → Self.Device → Type 0 };
+
+    /// Makes the device's store and writes the first state. The second value says whether the making was stopped; the handle is
+    /// handed out all the same, and owes a recovery then.
+    fn format(
+        alloc: Global,
+        dev: &mut Self::Device,
+        p: u32,
+        memory: Vec<u32>,
+        kernel: Vec<u32>,
+    ) -> Result<(Self, bool), MakeFault>
+        requires place { p < STORES }
+        requires form { IsForm (form_in kernel.items) }
+        requires process { (form_in kernel.items).p ≡ p }
+        requires text { IsText (form_in kernel.items) kernel.items }
+        requires number { 1 ≤ number_in kernel.items }
+        requires pages { (pages : ℕ) × (length memory.items ≡ 1024 * pages) × (pages ≤ 256) }
+        ensures same { IfOk result (λ made. (place made.0 ≡ p) × (size made.0 ≡ length memory.items) × (form made.0 ≡ form_in kernel.items)) }
+        ensures lent { IfOk result (λ made. lent made.0 dev.new) }
+        ensures ready { IfOk result (λ made. made.1 ≡ false → ready made.0 dev.new) }
+        ensures memory { IfOk result (λ made. made.1 ≡ false → IfSome (contents made.0 dev.new) (λ words. words ≡ memory.items)) }
+        ensures number { IfOk result (λ made. made.1 ≡ false → (number made.0 ≡ number_in kernel.items) × (logged made.0 ≡ 0)) }
+        ensures floor { IfOk result (λ made. floor made.0 ≡ 0) }
+        ensures stands { IfOk result (λ made. (d : ℕ) (reading : Reading) → leaves made.0 dev.new d reading → reading ≡ Ok (unlogged memory.items kernel.items)) }
+        ensures numbers { IfOk result (λ made. AreAll 0 (numbers made.0 dev.new)) }
+        ensures steady { IfOk result (λ made. steady made.0 dev.new) }
+        ensures counts { IsMaking told stops faults p dev.old dev.new result }
+        ensures others { (q : ℕ) → q ≢ p → untouched dev.old dev.new q }
+        ensures continues { continues dev.old dev.new };
+
+    /// The memory's word at an index.
+    fn load(&self, dev: &Self::Device, i: u32) -> u32
+        requires at { i < size self.now }
+        requires lent { lent self.now dev.now }
+        requires awake { ready self.now dev.now ⊎ ((g : ℕ) × prepared self.now dev.now g) }
+        ensures { IfSome (contents self.now dev.now) (λ words. result ≡ slice_index words i) };
+
+    /// Sets the bits of a word of memory that the mask has. Each image stands for what one stood for.
+    fn store(&mut self, dev: &mut Self::Device, i: u32, w: u32, mask: u32) -> Result<(), CheckFault>
+        requires at { i < size self.old }
+        requires lent { lent self.old dev.old }
+        requires ready { ready self.old dev.old }
+        ensures same { IsSameStore place size form self.old self.new }
+        ensures lent { lent self.new dev.new }
+        ensures ready { OnOk result (ready self.new dev.new) }
+        ensures memory { OnOk result (Becomes (contents self.old dev.old) (contents self.new dev.new) (λ before after. after ≡ slice_set before i (masked (slice_index before i) w mask))) }
+        ensures number { OnOk result ((number self.new ≡ number self.old) × (logged self.new ≡ logged self.old)) }
+        ensures floor { floor self.new ≤ floor self.old }
+        ensures stands { Narrows (floor self.old) (leaves self.old dev.old) (leaves self.new dev.new) }
+        ensures steady { steady self.old dev.old → steady self.new dev.new }
+        ensures numbers { steady self.old dev.old → AreAmong (numbers self.old dev.old) (numbers self.new dev.new) }
+        ensures no_higher { AreNoHigher (numbers self.old dev.old) (numbers self.new dev.new) }
+        ensures unrefused { IsUnrefused result }
+        ensures counts { IsCounted told stops faults (place self.old) dev.old dev.new result }
+        ensures others { (q : ℕ) → q ≢ place self.old → untouched dev.old dev.new q }
+        ensures continues { continues dev.old dev.new };
+
+    /// Commits the memory as it is now, with this text of the kernel and nothing logged. Refused, each image stands for the old
+    /// state or the new one.
+    fn commit(&mut self, dev: &mut Self::Device, kernel: &[u32]) -> Result<(), CheckFault>
+        requires lent { lent self.old dev.old }
+        requires ready { ready self.old dev.old }
+        requires text { IsText (form self.old) kernel.now }
+        requires number { number self.old < number_in kernel.now }
+        ensures same { IsSameStore place size form self.old self.new }
+        ensures lent { lent self.new dev.new }
+        ensures ready { OnOk result (ready self.new dev.new) }
+        ensures memory { OnOk result (Becomes (contents self.old dev.old) (contents self.new dev.new) (λ before after. after ≡ before)) }
+        ensures number { OnOk result ((number self.new ≡ number_in kernel.now) × (logged self.new ≡ 0)) }
+        ensures floor { floor self.new ≤ floor self.old }
+        ensures stands { OnOk result ((d : ℕ) (reading : Reading) → floor self.old ≤ d → leaves self.new dev.new d reading → IsSaved (contents self.old dev.old) kernel.now reading) }
+        ensures between { (d : ℕ) (reading : Reading) → floor self.old ≤ d → leaves self.new dev.new d reading → leaves self.old dev.old d reading ⊎ IsSaved (contents self.old dev.old) kernel.now reading }
+        ensures no_higher { AreNoHigher (numbers self.old dev.old) (numbers self.new dev.new) }
+        ensures unrefused { IsUnrefused result }
+        ensures counts { IsCounted told stops faults (place self.old) dev.old dev.new result }
+        ensures others { (q : ℕ) → q ≢ place self.old → untouched dev.old dev.new q }
+        ensures continues { continues dev.old dev.new };
+
+    /// Logs an event. Refused, each image stands for the state without it or with it.
+    fn append_log(&mut self, dev: &mut Self::Device, rec: &LogRecord) -> Result<(), CheckFault>
+        requires lent { lent self.old dev.old }
+        requires ready { ready self.old dev.old }
+        requires record { IsRecord (form self.old).n rec.now }
+        requires room { logged self.old < 64 }
+        ensures same { IsSameStore place size form self.old self.new }
+        ensures lent { lent self.new dev.new }
+        ensures ready { OnOk result (ready self.new dev.new) }
+        ensures memory { OnOk result (Becomes (contents self.old dev.old) (contents self.new dev.new) (λ before after. after ≡ before)) }
+        ensures number { OnOk result ((number self.new ≡ number self.old) × (logged self.new ≡ logged self.old + 1)) }
+        ensures floor { floor self.new ≤ floor self.old }
+        ensures stands { OnOk result ((d : ℕ) (reading : Reading) → floor self.old ≤ d → leaves self.new dev.new d reading → IsLogged (leaves self.old dev.old d) rec.now reading) }
+        ensures between { (d : ℕ) (reading : Reading) → floor self.old ≤ d → leaves self.new dev.new d reading → leaves self.old dev.old d reading ⊎ IsLogged (leaves self.old dev.old d) rec.now reading }
+        ensures steady { steady self.old dev.old → steady self.new dev.new }
+        ensures numbers { steady self.old dev.old → AreAmong (numbers self.old dev.old) (numbers self.new dev.new) }
+        ensures no_higher { AreNoHigher (numbers self.old dev.old) (numbers self.new dev.new) }
+        ensures unrefused { IsUnrefused result }
+        ensures counts { IsCounted told stops faults (place self.old) dev.old dev.new result }
+        ensures others { (q : ℕ) → q ≢ place self.old → untouched dev.old dev.new q }
+        ensures continues { continues dev.old dev.new };
+
+    /// Prepares the memory as it is now, with this text of the kernel and nothing logged, under the number `g`: it counts once `g`
+    /// is decided. Refused, the old state still counts under each number below.
+    fn prepare(&mut self, dev: &mut Self::Device, kernel: &[u32], g: u32) -> Result<(), CheckFault>
+        requires lent { lent self.old dev.old }
+        requires ready { ready self.old dev.old }
+        requires text { IsText (form self.old) kernel.now }
+        requires number { (number self.old < g) × (number_in kernel.now ≡ g) }
+        ensures same { IsSameStore place size form self.old self.new }
+        ensures lent { lent self.new dev.new }
+        ensures prepared { OnOk result (prepared self.new dev.new g) }
+        ensures decidable { OnOk result (decidable self.new dev.new g) }
+        ensures memory { OnOk result (Becomes (contents self.old dev.old) (contents self.new dev.new) (λ before after. after ≡ before)) }
+        ensures floor { floor self.new ≤ floor self.old }
+        ensures old_state { (d : ℕ) (reading : Reading) → floor self.old ≤ d → d < g → leaves self.new dev.new d reading → leaves self.old dev.old d reading }
+        ensures new_state { OnOk result ((d : ℕ) (reading : Reading) → g ≤ d → leaves self.new dev.new d reading → IsSaved (contents self.old dev.old) kernel.now reading) }
+        ensures steady { steady self.old dev.old → AreBelow g (numbers self.old dev.old) → steady self.new dev.new }
+        ensures numbers { steady self.old dev.old → AreBelow g (numbers self.old dev.old) → AreAmong (numbers self.old dev.old) (numbers self.new dev.new) }
+        ensures no_higher { AreNoHigher (numbers self.old dev.old) (numbers self.new dev.new) }
+        ensures unrefused { IsUnrefused result }
+        ensures counts { IsCounted told stops faults (place self.old) dev.old dev.new result }
+        ensures others { (q : ℕ) → q ≢ place self.old → untouched dev.old dev.new q }
+        ensures continues { continues dev.old dev.new };
+
+    /// Decides on the number `g`, in the store of process 0. Refused, the decided number of each image is an old one or `g`.
+    fn decide(&mut self, dev: &mut Self::Device, g: u32) -> Result<(), CheckFault>
+        requires first { (form self.old).p ≡ 0 }
+        requires lent { lent self.old dev.old }
+        requires awake { ready self.old dev.old ⊎ prepared self.old dev.old g }
+        requires decidable { decidable self.old dev.old g }
+        ensures same { IsSameStore place size form self.old self.new }
+        ensures lent { lent self.new dev.new }
+        ensures ready { OnOk result (ready self.old dev.old → ready self.new dev.new) }
+        ensures prepared { OnOk result (prepared self.old dev.old g → prepared self.new dev.new g) }
+        ensures memory { OnOk result (Becomes (contents self.old dev.old) (contents self.new dev.new) (λ before after. after ≡ before)) }
+        ensures number { OnOk result ((number self.new ≡ number self.old) × (logged self.new ≡ logged self.old)) }
+        ensures floor { floor self.new ≤ floor self.old }
+        ensures stands { Narrows (floor self.old) (leaves self.old dev.old) (leaves self.new dev.new) }
+        ensures steady { steady self.old dev.old → AreBelow g (numbers self.old dev.old) → steady self.new dev.new }
+        ensures decided { OnOk result (AreBelow g (numbers self.old dev.old) → AreAll g (numbers self.new dev.new)) }
+        ensures between { (e : ℕ) → numbers self.new dev.new e → numbers self.old dev.old e ⊎ (e ≡ g) }
+        ensures unrefused { IsUnrefused result }
+        ensures counts { IsCounted told stops faults (place self.old) dev.old dev.new result }
+        ensures others { (q : ℕ) → q ≢ place self.old → untouched dev.old dev.new q }
+        ensures continues { continues dev.old dev.new };
+
+    /// Goes on from the state that was prepared under `g`, once that is decided.
+    fn finish(&mut self, dev: &mut Self::Device, g: u32) -> Result<(), CheckFault>
+        requires lent { lent self.old dev.old }
+        requires prepared { prepared self.old dev.old g }
+        ensures same { IsSameStore place size form self.old self.new }
+        ensures lent { lent self.new dev.new }
+        ensures ready { OnOk result (ready self.new dev.new) }
+        ensures memory { OnOk result (Becomes (contents self.old dev.old) (contents self.new dev.new) (λ before after. after ≡ before)) }
+        ensures number { OnOk result ((number self.new ≡ g) × (logged self.new ≡ 0)) }
+        ensures floor { OnOk result (floor self.new ≤ g) }
+        ensures stands { Narrows g (leaves self.old dev.old) (leaves self.new dev.new) }
+        ensures steady { steady self.old dev.old → steady self.new dev.new }
+        ensures numbers { steady self.old dev.old → AreAmong (numbers self.old dev.old) (numbers self.new dev.new) }
+        ensures no_higher { AreNoHigher (numbers self.old dev.old) (numbers self.new dev.new) }
+        ensures unrefused { IsUnrefused result }
+        ensures counts { IsCounted told stops faults (place self.old) dev.old dev.new result }
+        ensures others { (q : ℕ) → q ≢ place self.old → untouched dev.old dev.new q }
+        ensures continues { continues dev.old dev.new };
+
+    /// The decided number that the store of process 0 holds, the same in each image from now on; 0 where nothing was decided.
+    fn decided(&mut self, dev: &mut Self::Device) -> Result<u32, CheckFault>
+        requires first { (form self.old).p ≡ 0 }
+        requires lent { lent self.old dev.old }
+        ensures same { IsSameStore place size form self.old self.new }
+        ensures lent { lent self.new dev.new }
+        ensures ready { OnOk result (ready self.old dev.old → ready self.new dev.new) }
+        ensures prepared { OnOk result ((g : ℕ) → prepared self.old dev.old g → prepared self.new dev.new g) }
+        ensures decidable { OnOk result ((g : ℕ) → decidable self.old dev.old g → decidable self.new dev.new g) }
+        ensures memory { OnOk result (Becomes (contents self.old dev.old) (contents self.new dev.new) (λ before after. after ≡ before)) }
+        ensures number { OnOk result ((number self.new ≡ number self.old) × (logged self.new ≡ logged self.old)) }
+        ensures floor { floor self.new ≤ floor self.old }
+        ensures decided { IfOk result (λ d. AreAll d (numbers self.new dev.new)) }
+        ensures stands { Narrows 0 (leaves self.old dev.old) (leaves self.new dev.new) }
+        ensures steady { steady self.old dev.old → steady self.new dev.new }
+        ensures numbers { AreAmong (numbers self.old dev.old) (numbers self.new dev.new) }
+        ensures unrefused { IsUnrefused result }
+        ensures counts { IsCounted told stops faults (place self.old) dev.old dev.new result }
+        ensures others { (q : ℕ) → q ≢ place self.old → untouched dev.old dev.new q }
+        ensures continues { continues dev.old dev.new };
+
+    /// Reads what the store stands for under a decided number, and leaves it standing for that, whatever the device holds and
+    /// whoever wrote it. Where its content is no checkpoint it says why: exactly what the store stands for.
+    fn recover(
+        &mut self,
+        dev: &mut Self::Device,
+        decided: u32,
+        saved: &mut Saved,
+    ) -> Result<(), CheckFault>
+        requires lent { lent self.old dev.old }
+        requires process { (saved.old.kernel.n ≡ (form self.old).n) × (saved.old.kernel.p ≡ (form self.old).p) }
+        requires room { 64 ≤ vec_capacity saved.old.log }
+        ensures same { IsSameStore place size form self.old self.new }
+        ensures lent { lent self.new dev.new }
+        ensures process { (saved.new.kernel.n ≡ saved.old.kernel.n) × (saved.new.kernel.p ≡ saved.old.kernel.p) }
+        ensures room { 64 ≤ vec_capacity saved.new.log }
+        ensures ready { OnOk result (ready self.new dev.new) }
+        ensures gives { OnOk result ((reading : Reading) → leaves self.new dev.new decided reading → Gives (contents self.new dev.new) saved.new reading) }
+        ensures kernel { OnOk result (IsKernel (form self.old).n (form self.old).p saved.new.kernel) }
+        ensures number { OnOk result ((number self.new ≡ saved.new.kernel.commit) × (logged self.new ≡ length saved.new.log.items)) }
+        ensures log { OnOk result ((length saved.new.log.items ≤ 64) × (saved.new.position ≡ saved.new.kernel.position)) }
+        ensures floor { OnOk result (floor self.new ≤ decided) }
+        ensures stands { (reading : Reading) → leaves self.new dev.new decided reading → leaves self.old dev.old decided reading }
+        ensures refused { (fault : StoreFault) → IsErrOf result (CheckFault.Refused fault) → (reading : Reading) → leaves self.old dev.old decided reading → reading ≡ Err fault }
+        ensures steady { steady self.old dev.old → AreAll decided (numbers self.old dev.old) → steady self.new dev.new }
+        ensures numbers { steady self.old dev.old → AreAll decided (numbers self.old dev.old) → AreAmong (numbers self.old dev.old) (numbers self.new dev.new) }
+        ensures no_higher { AreNoHigher (numbers self.old dev.old) (numbers self.new dev.new) }
+        ensures counts { IsCounted told stops faults (place self.old) dev.old dev.new result }
+        ensures others { (q : ℕ) → q ≢ place self.old → untouched dev.old dev.new q }
+        ensures continues { continues dev.old dev.new };
+
+    /// Drops what is volatile. It makes no call of the device, and a recovery is owed.
+    fn fall(&mut self)
+        ensures same { IsSameStore place size form self.old self.new }
+        ensures lent { (dev : Self.Device) → lent self.old dev → lent self.new dev }
+        ensures stands { (dev : Self.Device) → Narrows 0 (leaves self.old dev) (leaves self.new dev) }
+        ensures steady { (dev : Self.Device) → steady self.old dev → steady self.new dev }
+        ensures numbers { (dev : Self.Device) → AreAmong (numbers self.old dev) (numbers self.new dev) };
+
+    /// A ready store stands for the same under each decided number from its floor on.
+    ghost settled: { (c : Self) (dev : Self.Device) → ready c dev → (d e : ℕ) (reading : Reading) → floor c ≤ d → floor c ≤ e → leaves c dev d reading → leaves c dev e reading };
+
+    /// A told store stands for something under each decided number.
+    ghost some_reading: { (c : Self) (dev : Self.Device) → told dev (place c) → (d : ℕ) → (reading : Reading) × leaves c dev d reading };
+
+    /// It has a decided number.
+    ghost some_number: { (c : Self) (dev : Self.Device) → told dev (place c) → (e : ℕ) × numbers c dev e };
+
+    /// The memory's length is the store's size.
+    ghost contents_long: { (c : Self) (dev : Self.Device) → lent c dev → IfSome (contents c dev) (λ words. length words ≡ size c) };
+
+    /// The memory is told only where the device is.
+    ghost contents_told: { (c : Self) (dev : Self.Device) → IsSome (contents c dev) → told dev (place c) };
+
+    /// A ready store on a told device tells its memory.
+    ghost told_contents: { (c : Self) (dev : Self.Device) → ready c dev → told dev (place c) → IsSome (contents c dev) };
+
+    /// A device is as it was where nothing was called.
+    ghost untouched_self: { (dev : Self.Device) (q : ℕ) → untouched dev dev q };
+
+    /// It is as it was where it stayed so twice.
+    ghost untouched_on: { (old between new : Self.Device) (q : ℕ) → untouched old between q → untouched between new q → untouched old new q };
+
+    /// What is as it was, was as it is.
+    ghost untouched_back: { (old new : Self.Device) (q : ℕ) → untouched old new q → untouched new old q };
+
+    /// An untouched device tells on what it told.
+    ghost told_still: { (old new : Self.Device) (q : ℕ) → untouched old new q → told old q → told new q };
+
+    /// Its counts stay.
+    ghost counts_same: { (old new : Self.Device) (q : ℕ) → untouched old new q → (stops new q ≡ stops old q) × (faults new q ≡ faults old q) };
+
+    /// A handle over it has what it needs.
+    ghost lent_still: { (c : Self) (old new : Self.Device) → untouched old new (place c) → lent c old → lent c new };
+
+    /// It may go on.
+    ghost ready_still: { (c : Self) (old new : Self.Device) → untouched old new (place c) → ready c old → ready c new };
+
+    /// What was prepared is.
+    ghost prepared_still: { (c : Self) (old new : Self.Device) (g : ℕ) → untouched old new (place c) → prepared c old g → prepared c new g };
+
+    /// What could be decided can be.
+    ghost decidable_still: { (c : Self) (old new : Self.Device) (g : ℕ) → untouched old new (place c) → decidable c old g → decidable c new g };
+
+    /// The decided number is still one that only `decide` and `commit` may change.
+    ghost steady_still: { (c : Self) (old new : Self.Device) → untouched old new (place c) → steady c old → steady c new };
+
+    /// The store stands for what it stood for.
+    ghost leaves_still: { (c : Self) (old new : Self.Device) (d : ℕ) (reading : Reading) → untouched old new (place c) → leaves c old d reading → leaves c new d reading };
+
+    /// Its decided number is what it was.
+    ghost numbers_still: { (c : Self) (old new : Self.Device) (e : ℕ) → untouched old new (place c) → numbers c old e → numbers c new e };
+
+    /// Its memory is what it was.
+    ghost contents_still: { (c : Self) (old new : Self.Device) → untouched old new (place c) → contents c new ≡ contents c old };
+
+    /// A device continues itself.
+    ghost continues_self: { (dev : Self.Device) → continues dev dev };
+
+    /// What continues a later state continues the first.
+    ghost continues_on: { (old between new : Self.Device) → continues old between → continues between new → continues old new };
+}

@@ -1,0 +1,8 @@
+//! What a recoverable store of one process's state promises, whatever it is made of: wherever a call was stopped, what the store
+//! then holds stands for the state before or the state after, and a recovery gives exactly that.
+#![tactic(auto)]
+
+mod checkpoint;
+
+pub use checkpoint::Checkpoint;
+pub use dc_kernel::{CheckFault, LogRecord, Saved, StoreFault};

@@ -1,0 +1,125 @@
+-- What a joint commit comes to: stopped while stores are prepared, while the first one decides, or later.
+use Rattle.std.proofs.Common.{◌≡◌, ◌⊎◌, ℕ, List, length, slice_get, Some, arith, ◌∙◌, inl, inr, ⊎_elim}
+use Rattle.std.proofs.lemmas.Option.{slice_get_within}
+use Rattle.dc_checkpoint.specs.Calls.{AreAll, AreBelow, IsSameStore}
+use Rattle.dc_checkpoint.specs.declared.checkpoint.Checkpoint as checkpoint
+use Rattle.dc_twophase.specs.Commits.{AllNew, AllOld, HasRoom, IsBeside, IsDecided, IsDeciding, IsPrepared, IsUndecided}
+use Rattle.dc_twophase.specs.Stores.{At, AtPair, EachPair, Moment}
+use Rattle.dc_twophase.proofs.Calling.{AreSameStores}
+use Rattle.dc_twophase.proofs.Pairs.{before_it, pair_then}
+use Rattle.dc_twophase.proofs.Preparing.{same_then}
+
+-- what holds wherever it ends
+pub record IsOutcome {C D : Type 0} (store : checkpoint.Ghosts C D) (text : ℕ → List ℕ) (g : ℕ) (old new : Moment C D) : Type 0 where
+  pub same : EachPair old.stores new.stores (λ i. IsSameStore store.place store.size store.form)
+  pub lent : EachPair old.stores new.stores (λ i b c. store.lent b old.dev → store.lent c new.dev)
+  pub between : HasRoom store g old → At 0 new.stores (λ c. (d : ℕ) → store.numbers c new.dev d → AllOld store old new d ⊎ AllNew store text old new d)
+  pub numbers : HasRoom store g old → AtPair 0 old.stores new.stores (λ b c. (e : ℕ) → store.numbers c new.dev e → store.numbers b old.dev e ⊎ (e ≡ g))
+  pub steady : HasRoom store g old → At 0 new.stores (λ c. store.steady c new.dev)
+
+-- the calls that prepare were made
+pub record ArePreparing {C D : Type 0} (store : checkpoint.Ghosts C D) (g : ℕ) (old mid : Moment C D) : Type 0 where
+  pub long : length mid.stores ≡ length old.stores
+  pub undecided : EachPair old.stores mid.stores (λ i. IsUndecided store g old.dev mid.dev)
+
+-- the call that decides was made
+pub record AreDeciding {C D : Type 0} (store : checkpoint.Ghosts C D) (text : ℕ → List ℕ) (g : ℕ) (old mid late : Moment C D) : Type 0 where
+  pub first : ArePreparing store g old mid
+  pub prepared : EachPair old.stores mid.stores (λ i. IsPrepared store (text i) g old.dev mid.dev)
+  pub long : length late.stores ≡ length mid.stores
+  pub beside : EachPair mid.stores late.stores (λ i. IsBeside store mid.dev late.dev)
+  pub deciding : AtPair 0 mid.stores late.stores (IsDeciding store g mid.dev late.dev)
+
+-- the calls that finish were made
+pub record AreFinishing {C D : Type 0} (store : checkpoint.Ghosts C D) (text : ℕ → List ℕ) (g : ℕ) (old mid late new : Moment C D) : Type 0 where
+  pub second : AreDeciding store text g old mid late
+  pub decided : AtPair 0 mid.stores late.stores (λ b c. AreBelow g (store.numbers b mid.dev) → AreAll g (store.numbers c late.dev))
+  pub long : length new.stores ≡ length late.stores
+  pub finished : EachPair late.stores new.stores (λ i. IsDecided store g late.dev new.dev)
+
+module _ {C D : Type 0} {store : checkpoint.Ghosts C D} {g : ℕ} where
+  pub same_prepared : {old mid : Moment C D} → ArePreparing store g old mid → AreSameStores store old.stores mid.stores
+  same_prepared first = record { long = first.long; placed = λ i b c before now. (first.undecided i b c before now).same.place_same }
+
+  -- the numbers of the first store when all are prepared
+  lows : {old mid : Moment C D} → ArePreparing store g old mid → HasRoom store g old → (b y : C) → slice_get old.stores 0 ≡ Some b → slice_get mid.stores 0 ≡ Some y → AreBelow g (store.numbers y mid.dev)
+  lows {old} {mid} first room b y before now e has = room.below b before e ((first.undecided 0 b y before now).numbers (room.stays b before) (room.below b before) e has)
+
+module _ {C D : Type 0} {store : checkpoint.Ghosts C D} {text : ℕ → List ℕ} {g : ℕ} where
+  pub after_preparing : {old mid : Moment C D} → ArePreparing store g old mid → IsOutcome store text g old mid
+  after_preparing {old} {mid} first = record {
+    same = λ i b c before now. (first.undecided i b c before now).same;
+    lent = λ i b c before now. (first.undecided i b c before now).lent;
+    between = λ room z now d has.
+        let b = before_it old.stores mid.stores 0 z first.long now in
+        let was = (first.undecided 0 b.0 z b.1 now).numbers (room.stays b.0 b.1) (room.below b.0 b.1) d has in
+        inl (λ i x y before here reading. (first.undecided i x y before here).old_state d reading (room.over b.0 b.1 d was i x before) (room.below b.0 b.1 d was));
+    numbers = λ room b z before now e has. inl ((first.undecided 0 b z before now).numbers (room.stays b before) (room.below b before) e has);
+    steady = λ room z now.
+        let b = before_it old.stores mid.stores 0 z first.long now in
+        (first.undecided 0 b.0 z b.1 now).steady (room.stays b.0 b.1) (room.below b.0 b.1);
+  }
+
+  steady_late : {old mid late : Moment C D} → AreDeciding store text g old mid late → HasRoom store g old → At 0 late.stores (λ c. store.steady c late.dev)
+  steady_late {old} {mid} {late} second room z now =
+      let y = before_it mid.stores late.stores 0 z second.long now in
+      let b = before_it old.stores mid.stores 0 y.0 second.first.long y.1 in
+      (second.deciding y.0 z y.1 now).steady ((second.first.undecided 0 b.0 y.0 b.1 y.1).steady (room.stays b.0 b.1) (room.below b.0 b.1)) (lows second.first room b.0 y.0 b.1 y.1)
+
+  -- once g is decided each stands for its new state
+  new_late : {old mid late : Moment C D} → AreDeciding store text g old mid late → HasRoom store g old → AllNew store text old late g
+  new_late {old} {mid} {late} second room i b z before now reading left =
+      let y = before_it mid.stores late.stores i z second.long now in
+      let low = slice_get_within old.stores i b before in
+      (second.prepared i b y.0 before y.1).new_state g reading (omega arith)
+      ((second.beside i y.0 z y.1 now).stands g reading (omega (arith, room.under i b before, (second.first.undecided i b y.0 before y.1).floor)) left)
+
+  pub after_deciding : {old mid late : Moment C D} → AreDeciding store text g old mid late → IsOutcome store text g old late
+  after_deciding {old} {mid} {late} second = record {
+    same = pair_then old.stores mid.stores late.stores second.first.long (λ i b y z was now. same_then was.same now.same) second.first.undecided second.beside;
+    lent = pair_then old.stores mid.stores late.stores second.first.long (λ i b y z was now is. now.lent (was.lent is)) second.first.undecided second.beside;
+    between = λ room z now d has.
+        let y = before_it mid.stores late.stores 0 z second.long now in
+        let b = before_it old.stores mid.stores 0 y.0 second.first.long y.1 in
+        ⊎_elim
+        (λ was. let was₀ = (second.first.undecided 0 b.0 y.0 b.1 y.1).numbers (room.stays b.0 b.1) (room.below b.0 b.1) d was in
+        inl (λ i x w before here reading left.
+        let v = before_it mid.stores late.stores i w second.long here in
+        let held = second.first.undecided i x v.0 before v.1 in
+        let low = room.over b.0 b.1 d was₀ i x before in
+        held.old_state d reading low (room.below b.0 b.1 d was₀) ((second.beside i v.0 w v.1 here).stands d reading (omega (arith, low, held.floor)) left)))
+        (λ same. inr (rw same (new_late second room)))
+        ((second.deciding y.0 z y.1 now).between d has);
+    numbers = λ room b z before now e has.
+        let y = before_it mid.stores late.stores 0 z second.long now in
+        ⊎_elim
+        (λ was. inl ((second.first.undecided 0 b y.0 before y.1).numbers (room.stays b before) (room.below b before) e was))
+        (λ same. inr same)
+        ((second.deciding y.0 z y.1 now).between e has);
+    steady = steady_late second;
+  }
+
+  pub all_decided : {old mid late new : Moment C D} → AreFinishing store text g old mid late new → HasRoom store g old → At 0 new.stores (λ c. AreAll g (store.numbers c new.dev))
+  all_decided {old} {mid} {late} {new} third room z now e has =
+      let x = before_it late.stores new.stores 0 z third.long now in
+      let y = before_it mid.stores late.stores 0 x.0 third.second.long x.1 in
+      let b = before_it old.stores mid.stores 0 y.0 third.second.first.long y.1 in
+      third.decided y.0 x.0 y.1 x.1 (lows third.second.first room b.0 y.0 b.1 y.1) e
+      ((third.finished 0 x.0 z x.1 now).numbers (steady_late third.second room x.0 x.1) e has)
+
+  pub all_new : {old mid late new : Moment C D} → AreFinishing store text g old mid late new → HasRoom store g old → At 0 new.stores (λ c. (d : ℕ) → store.numbers c new.dev d → AllNew store text old new d)
+  all_new {old} {mid} {late} {new} third room z now d has = rw (all_decided third room z now d has) (λ i b w before here reading left.
+      let x = before_it late.stores new.stores i w third.long here in
+      new_late third.second room i b x.0 before x.1 reading ((third.finished i x.0 w x.1 here).stands g reading (omega arith) left))
+
+  pub after_finishing : {old mid late new : Moment C D} → AreFinishing store text g old mid late new → IsOutcome store text g old new
+  after_finishing {old} {mid} {late} {new} third = let earlier = after_deciding third.second in let long = third.second.long ∙ third.second.first.long in record {
+    same = pair_then old.stores late.stores new.stores long (λ i b y z was now. same_then was now.same) earlier.same third.finished;
+    lent = pair_then old.stores late.stores new.stores long (λ i b y z was now is. now.lent (was is)) earlier.lent third.finished;
+    between = λ room z now d has. inr (all_new third room z now d has);
+    numbers = λ room b z before now e has. inr (all_decided third room z now e has);
+    steady = λ room z now. let x = before_it late.stores new.stores 0 z third.long now in (third.finished 0 x.0 z x.1 now).steady (steady_late third.second room x.0 x.1);
+  }
+
+  pub same_decided : {old mid late : Moment C D} → AreDeciding store text g old mid late → AreSameStores store old.stores late.stores
+  same_decided second = record { long = second.long ∙ second.first.long; placed = λ i b c before now. ((after_deciding second).same i b c before now).place_same }

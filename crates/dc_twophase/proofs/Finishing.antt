@@ -1,0 +1,84 @@
+-- What a store keeps while each is finished, and beside the one that decides.
+use Rattle.std.proofs.Common.{◌+◌, ℕ, arith}
+use Rattle.dc_checkpoint.specs.declared.checkpoint.Checkpoint as checkpoint
+use Rattle.dc_twophase.specs.Commits.{IsBeside, IsCommitted, IsDecided, IsSameMemory}
+use Rattle.dc_twophase.specs.Stores.{At, AtPair}
+use Rattle.dc_twophase.proofs.Laws.{Laws}
+use Rattle.dc_twophase.proofs.Preparing.{becomes_then, memory_still, same_start, same_then}
+use Rattle.dc_twophase.proofs.Walking.{IsLasting, IsTurn, IsWalk, Turn, walk_less, walk_step}
+
+module _ {C D : Type 0} {store : checkpoint.Ghosts C D} (laws : Laws store) where
+  pub beside_still : (old new : D) (b : C) → store.untouched old new (store.place b) → IsBeside store old new b b
+  beside_still old new b still = record {
+    same = same_start b;
+    lent = laws.lent_still b old new still;
+    floor = omega arith;
+    stands = λ d reading low. laws.leaves_still b new old d reading (laws.untouched_back old new (store.place b) still);
+  }
+
+  pub decided_still : (g : ℕ) (old new : D) (b : C) → store.untouched old new (store.place b) → IsDecided store g old new b b
+  decided_still g old new b still = let back = laws.untouched_back old new (store.place b) still in record {
+    same = same_start b;
+    lent = laws.lent_still b old new still;
+    stands = λ d reading high. laws.leaves_still b new old d reading back;
+    steady = laws.steady_still b old new still;
+    numbers = λ st e. laws.numbers_still b new old e back;
+  }
+
+  committed_still : (g : ℕ) (old new : D) (c : C) → store.untouched old new (store.place c) → IsCommitted store g old c → IsCommitted store g new c
+  committed_still g old new c still was = record { ready = laws.ready_still c old new still was.ready; number = was.number; logged = was.logged; floor = was.floor }
+
+module _ {C D : Type 0} {store : checkpoint.Ghosts C D} {g : ℕ} where
+  decided_then : {old mid new : D} {a b c : C} → IsDecided store g old mid a b → IsDecided store g mid new b c → IsDecided store g old new a c
+  decided_then was now = record {
+    same = same_then was.same now.same;
+    lent = λ is. now.lent (was.lent is);
+    stands = λ d reading high left. was.stands d reading high (now.stands d reading high left);
+    steady = λ st. now.steady (was.steady st);
+    numbers = λ st e has. was.numbers st e (now.numbers (was.steady st) e has);
+  }
+
+-- what holds of a store that was finished
+abbrev pub Finishing : {C D : Type 0} → checkpoint.Ghosts C D → ℕ → D → ℕ → D → C → C → Type 0
+Finishing store g old = λ i dev b c. IsDecided store g old dev b c × IsCommitted store g dev c × IsSameMemory store old dev b c
+
+-- it lasts
+module _ {C D : Type 0} {store : checkpoint.Ghosts C D} (laws : Laws store) (g : ℕ) (old : D) where
+  decided_lasts : IsLasting store (λ i dev. IsDecided store g old dev)
+  decided_lasts = record {
+    placed = λ i dev b c is. is.same.place_same;
+    lasts = λ i mid new b c still was. decided_then was (decided_still laws g mid new c still);
+  }
+
+  pub finishing_lasts : IsLasting store (Finishing store g old)
+  finishing_lasts = record {
+    placed = λ i dev b c is. is.0.same.place_same;
+    lasts = λ i mid new b c still was. (
+      decided_lasts.lasts i mid new b c still was.0,
+      committed_still laws g mid new c still was.1,
+      becomes_then (store.contents b old) (store.contents c mid) (store.contents c new) was.2 (memory_still laws mid new c still),
+    );
+  }
+
+-- a turn of the loop
+module _ {C D : Type 0} {store : checkpoint.Ghosts C D} {g : ℕ} (laws : Laws store) (turn : Turn C D) where
+  decided_from : AtPair turn.k turn.mid.stores turn.new.stores (IsDecided store g turn.mid.dev turn.new.dev)
+      → AtPair turn.k turn.mid.stores turn.new.stores (λ b c. store.untouched turn.old.dev turn.mid.dev (store.place b) → IsDecided store g turn.old.dev turn.new.dev b c)
+  decided_from now b c before here still = decided_then (decided_still laws g turn.old.dev turn.mid.dev b still) (now b c before here)
+
+  pub finishing_step : IsTurn store turn → AtPair turn.k turn.mid.stores turn.new.stores (IsDecided store g turn.mid.dev turn.new.dev)
+      → At turn.k turn.new.stores (IsCommitted store g turn.new.dev) → AtPair turn.k turn.mid.stores turn.new.stores (IsSameMemory store turn.mid.dev turn.new.dev)
+      → IsWalk store (Finishing store g turn.old.dev) turn.k turn.old turn.mid → IsWalk store (Finishing store g turn.old.dev) (turn.k + 1) turn.old turn.new
+  finishing_step is kept made memory walk =
+      walk_step store laws (Finishing store g turn.old.dev) (finishing_lasts laws g turn.old.dev) turn is
+      (λ b c before here still. (
+        decided_from kept b c before here still,
+        made c here,
+        becomes_then (store.contents b turn.old.dev) (store.contents b turn.mid.dev) (store.contents c turn.new.dev) (memory_still laws turn.old.dev turn.mid.dev b still) (memory b c before here),
+      )) walk
+
+  pub finishing_stop : IsTurn store turn → AtPair turn.k turn.mid.stores turn.new.stores (IsDecided store g turn.mid.dev turn.new.dev)
+      → IsWalk store (Finishing store g turn.old.dev) turn.k turn.old turn.mid → IsWalk store (λ i dev. IsDecided store g turn.old.dev dev) (turn.k + 1) turn.old turn.new
+  finishing_stop is kept walk =
+      walk_step store laws (λ i dev. IsDecided store g turn.old.dev dev) (decided_lasts laws g turn.old.dev) turn is (decided_from kept)
+      (walk_less (λ i dev. IsDecided store g turn.old.dev dev) (λ i dev b c all. all.0) walk)

@@ -1,0 +1,11 @@
+pub mod Asking
+pub mod Calling
+pub mod Committing
+pub mod Counting
+pub mod Laws
+pub mod Pairs
+pub mod Preparing
+pub mod Finishing
+pub mod Recovering
+pub mod Walking
+pub mod Three

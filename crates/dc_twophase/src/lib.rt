@@ -1,0 +1,15 @@
+//! Commits and recoveries of all processes together, over stores of any kind.
+//!
+//! A joint commit has two phases: each store is prepared, then the one of process 0 decides, and only then each is finished. So
+//! wherever it was stopped, all stand for their old states or all for their new ones.
+#![tactic(auto)]
+
+mod commit;
+mod faults;
+mod recover;
+#[cfg(test)]
+mod tests;
+
+pub use commit::commit_all;
+pub use faults::JointFault;
+pub use recover::recover_all;

@@ -1,0 +1,11 @@
+pub mod Calls
+pub mod Faults
+pub mod Handles
+pub mod Laws
+pub mod Logs
+pub mod Making
+pub mod Marks
+pub mod Parts
+pub mod Standing
+pub mod Undo
+pub mod Whole
