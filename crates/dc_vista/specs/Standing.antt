@@ -30,6 +30,7 @@ ready_word = 1145263665
 abbrev pub id_of : Shape → List ℕ
 id_of shape = 1 ∷ shape.size ∷ shape.form.n ∷ shape.form.p ∷ []
 
+-- whether two lists have the same words
 abbrev pub same_words : List ℕ → List ℕ → Bool
 same_words [] [] = true
 same_words (a ∷ xs) (b ∷ ys) = a == b && same_words xs ys
@@ -47,6 +48,7 @@ is_new b d = not (b.prepared == b.finished) && nat_le b.prepared d
 abbrev pub standing : Parts → ℕ → List ℕ
 standing b d = if is_new b d then b.body else undone b.count b.numbers b.lines b.body
 
+-- the greater of two numbers
 abbrev pub greater : ℕ → ℕ → ℕ
 greater a b = if nat_le a b then b else a
 
@@ -62,6 +64,7 @@ text_in shape body = take (kernel_words shape.form.n) (drop shape.size body)
 abbrev pub log_in : List ℕ → List ℕ → List (List ℕ)
 log_in text log = tagged 64 (number_in text) log
 
+-- whether there is no fault
 abbrev pub is_none : Option KernelFault → Bool
 is_none None = true
 is_none (Some _) = false

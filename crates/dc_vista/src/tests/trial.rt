@@ -74,15 +74,23 @@ fn is_list(alloc: Global, got: &[u64], want: &str, what: &str) -> Result<(), Fai
     holds(got == want.as_slice(), what)
 }
 
-/// A line of a case, where it tells a call.
+/// What begins a line of a case that tells no call.
+const KEYS: [&str; 6] = ["segment ", "try ", "calls ", "under ", "old ", "new "];
+
+/// A line of a case: a call with its answer, or one that begins with a key.
 fn line_holds<T: Trial>(trial: &mut T, alloc: Global, line: &str) -> Result<(), Fail>
     requires { T.fits trial.old }
     ensures { T.fits trial.new }
 {
     match line.split_once(" = ") {
         Some((call, want)) => answers(trial, alloc, call, want),
-        None => Ok(()),
+        None => holds(KEYS.iter().any(|key| line.starts_with(*key)), line),
     }
+}
+
+/// A case without its first line, which is a title or tells the segment.
+fn told(case: &str) -> &str {
+    case.split_once('\n').unwrap_or(("", "no lines")).1
 }
 
 /// Each call of a case has its answer.
@@ -90,7 +98,7 @@ pub fn lines_hold<T: Trial>(trial: &mut T, alloc: Global, case: &str) -> Result<
     requires { T.fits trial.old }
     ensures { T.fits trial.new }
 {
-    for line in case.lines() {
+    for line in told(case).lines() {
         line_holds(trial, alloc, line)?;
     }
     Ok(())
