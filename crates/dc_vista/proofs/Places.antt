@@ -1,6 +1,6 @@
 -- Reading the log, place by place.
 use Rattle.std.proofs.Common.{◌≡◌, ◌≢◌, ◌+◌, ◌-◌, ◌*◌, ◌<◌, ◌≤◌, ◌==◌, ◌&&◌, ℕ, zero, suc, Bool, true, false, nat_lt, List, [], ◌∷◌, ◌++◌, map, length, get_or, set, take, drop, refl, sym, ◌∙◌, ap, arith, Option, None, Some, IfSome, Err, if◌then◌else◌, add-one, length-drop}
-use Rattle.std.proofs.lemmas.Bool.{eq-eqb, lt-ltb, ne_eqb}
+use Rattle.std.proofs.lemmas.Bool.{eq-eqb, le-ltb, lt-ltb, ne_eqb}
 use Rattle.std.proofs.lemmas.List.{drop-drop, get_or-drop, length-map, map-append, take_all}
 use Rattle.dc_kernel.specs.Records.{is_record, record_in}
 use Rattle.dc_kernel.specs.declared.faults.StoreFault.TheVariants as fault
@@ -40,9 +40,6 @@ below_step j number log low =
     ∙ ap (λ t. nat_lt t number && all_below (64 - (j + 1)) number (drop 22 (drop (22 * j) log))) (tag_of j log)
     ∙ ap (λ xs. nat_lt (get_or log (22 * j) 0) number && all_below (64 - (j + 1)) number xs) (next_place j log)
 
-not_less : (a b : ℕ) → b ≤ a → nat_lt a b ≡ false
-not_less a b le = grind arith
-
 pub below_more : (from j number tag : ℕ) (told : Option Parts) → j < 64 → tag < number → IfSome told (λ b. tag ≡ get_or b.log (22 * j) 0)
     → IfSome told (λ b. all_below (64 - from) number (drop (22 * from) b.log) ≡ all_below (64 - j) number (drop (22 * j) b.log))
     → IfSome told (λ b. all_below (64 - from) number (drop (22 * from) b.log) ≡ all_below (64 - (j + 1)) number (drop (22 * (j + 1)) b.log))
@@ -55,7 +52,7 @@ pub below_not : (from j number tag : ℕ) (told : Option Parts) → j < 64 → n
     → IfSome told (λ b. all_below (64 - from) number (drop (22 * from) b.log) ≡ all_below (64 - j) number (drop (22 * j) b.log)) → IfSome told (λ b. false ≡ all_below (64 - from) number (drop (22 * from) b.log))
 below_not from j number tag None low high read was = tt
 below_not from j number tag (Some b) low high read was = sym (was ∙ below_step j number b.log low
-    ∙ ap (λ t. t && all_below (64 - (j + 1)) number (drop (22 * (j + 1)) b.log)) (ap (λ t. nat_lt t number) (sym read) ∙ not_less tag number high))
+    ∙ ap (λ t. t && all_below (64 - (j + 1)) number (drop (22 * (j + 1)) b.log)) (ap (λ t. nat_lt t number) (sym read) ∙ le-ltb tag number high))
 
 pub below_all : (from j number : ℕ) (told : Option Parts) → j ≡ 64
     → IfSome told (λ b. all_below (64 - from) number (drop (22 * from) b.log) ≡ all_below (64 - j) number (drop (22 * j) b.log)) → IfSome told (λ b. true ≡ all_below (64 - from) number (drop (22 * from) b.log))

@@ -124,10 +124,6 @@ copied_length : (k from to : ℕ) (ws : List ℕ) → length (copied k from to w
 copied_length zero from to ws = refl
 copied_length (suc k) from to ws = length-set (copied k from to ws) (to + k) (get_or ws (from + k) 0) ∙ copied_length k from to ws
 
-pub laid_length : (k from : ℕ) (source : List ℕ) (to : ℕ) (words : List ℕ) → length (laid k from source to words) ≡ length words
-laid_length zero from source to words = refl
-laid_length (suc k) from source to words = length-set (laid k from source to words) (to + k) (get_or source (from + k) 0) ∙ laid_length k from source to words
-
 pub kept_at : (q line j : ℕ) → line < q → (k : ℕ) (ws : List ℕ) → k ≤ 16 → length ws ≡ 1424 + 33 * q → parts_of q (copied k (16 + 16 * line) (1424 + 17 * q + 16 * j) ws) ≡ with_undo line j k (parts_of q ws)
 kept_at q line j low zero ws few size = refl
 kept_at q line j low (suc k) ws few size =

@@ -3,13 +3,14 @@ use Rattle.std.proofs.Common.{nat_le, not, ◌&&◌, ◌==◌, ◌≡◌, ◌≢
 use Rattle.std.proofs.lemmas.Bool.{cases_lt, ne_eqb}
 use Rattle.dc_media.specs.Told.{Becomes}
 use Rattle.dc_checkpoint.specs.States.{Reading, IsSaved, number_in}
+use Rattle.dc_vista.specs.Laws.{not_new}
 use Rattle.dc_vista.specs.Parts.{Parts, Turns}
 use Rattle.dc_kernel.specs.Records.{record_in}
 use Rattle.dc_vista.specs.Logs.{tagged}
 use Rattle.dc_vista.specs.Standing.{Shape, StandsFor, Numbers, greater, is_new, least, memory_of, reading, standing, text_in}
 use Rattle.dc_vista.specs.Undo.{undone}
 use Rattle.dc_vista.specs.Whole.{Agrees, IsMine, IsNext, IsPrepared, IsPreparedAs, IsReady, IsZero, Same, Since}
-use Rattle.dc_vista.proofs.Steps.{step, same_reading, new_settled}
+use Rattle.dc_vista.proofs.Steps.{step, same_reading}
 use Rattle.dc_vista.proofs.Wholes.{reading_whole, whole_next, none_logged}
 use Rattle.dc_vista.proofs.Commits.{IsCommitting, sound_zero, reading_zero, text_written}
 
@@ -43,7 +44,7 @@ module _ (sh : Shape) where
   pub prepared_old : (g d : ℕ) (b : Parts) → b.prepared ≡ b.finished → d < g → reading sh (record b { prepared = g }) d ≡ reading sh b d
   prepared_old g d b settled low =
       let now : is_new (record b { prepared = g }) d ≡ false = is_old (record b { prepared = g }) d low in
-      let was : is_new b d ≡ false = new_settled b d settled in
+      let was : is_new b d ≡ false = not_new b d settled in
       same_reading sh b (record b { prepared = g }) d refl refl refl (rw (now, was) refl) (rw (now, was) refl) refl
 
   pub prepared_zero : (since : Since) (g : ℕ) (text : List ℕ) (x b : Parts) → IsNext sh since g text → IsCommitting sh since text x b → IsPrepared sh g 0 (record b { prepared = g })

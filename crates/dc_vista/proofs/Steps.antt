@@ -1,10 +1,11 @@
 -- What each write of a part does to what the segment stands for.
-use Rattle.std.proofs.Common.{nat_lt, ◌≡◌, ◌≢◌, ℕ, suc, ◌+◌, ◌*◌, ◌/◌, ◌%◌, ◌<◌, ◌≤◌, Bool, true, false, List, length, get_or, set, refl, sym, ◌∙◌, ap, subst, arith, inl, inr, get_or-set_other, get_or-set_same, ⊎_elim, Option, None, Some, IfSome, OnOk, Result, Ok, Err, add-one, cond, length-set, slice_get, ◌==◌}
+use Rattle.std.proofs.Common.{nat_lt, ◌≡◌, ◌≢◌, ℕ, suc, ◌+◌, ◌*◌, ◌/◌, ◌%◌, ◌<◌, ◌≤◌, Bool, true, false, List, length, get_or, set, refl, sym, ◌∙◌, ap, subst, arith, inl, inr, get_or-set_other, get_or-set_same, ⊎_elim, Option, None, Some, IfSome, OnOk, Result, Ok, Err, add-one, cond, length-set, slice_get}
 use Rattle.std.specs.List.{count_by}
 use Rattle.std.proofs.lemmas.Option.{slice_get_within, slice_get-get_or, get_or_from_slice_get}
 use Rattle.std.proofs.lemmas.List.Sums.{sum_by-set, count_by-le-length}
-use Rattle.std.proofs.lemmas.Bool.{cases_eq}
+use Rattle.std.proofs.lemmas.Bool.{cases_eq, le-ltb}
 use Rattle.dc_media.specs.Told.{Becomes}
+use Rattle.dc_vista.specs.Laws.{not_new}
 use Rattle.dc_vista.specs.Parts.{Parts, Turns, Copies, laid, with_undo}
 use Rattle.dc_vista.specs.Undo.{undo_fault, first_wrong, undone, back}
 use Rattle.dc_vista.specs.Whole.{Agrees, IsReady, IsWhole, Same, Since, Stays, more}
@@ -17,20 +18,11 @@ step P Q f old None goes turns has = tt
 step P Q f None (Some a) goes turns has = absurd turns
 step P Q f (Some b) (Some a) goes turns has = rw turns (goes b has)
 
-eqb_same : (n : ℕ) → (n == n) ≡ true
-eqb_same n = grind arith
-
-not_less : (a b : ℕ) → b ≤ a → nat_lt a b ≡ false
-not_less a b le = grind arith
-
-pub new_settled : (b : Parts) (d : ℕ) → b.prepared ≡ b.finished → is_new b d ≡ false
-new_settled b d settled = rw (settled, eqb_same b.finished) refl
-
 pub standing-settled : (b : Parts) (d : ℕ) → b.prepared ≡ b.finished → standing b d ≡ undone b.count b.numbers b.lines b.body
-standing-settled b d settled = rw (new_settled b d settled) refl
+standing-settled b d settled = rw (not_new b d settled) refl
 
 pub least-settled : (b : Parts) (d : ℕ) → b.prepared ≡ b.finished → least b d ≡ b.finished
-least-settled b d settled = rw (new_settled b d settled) refl
+least-settled b d settled = rw (not_new b d settled) refl
 
 -- another mark than the one that was set
 mark_other : (touched : List Bool) (i j : ℕ) → j ≢ i → slice_get (set touched i true) j ≡ Some true → slice_get touched j ≡ Some true
@@ -139,8 +131,8 @@ module _ (sh : Shape) (since : Since) where
 
   count_sound : (line : ℕ) → line < sh.lines → since.count < sh.lines → (b : Parts) → HasLine line b → undo_fault sh.lines (since.count + 1) b.numbers ≡ None
   count_sound line low room b has =
-      let old : first_wrong sh.lines since.count b.numbers ≡ None = rw (has.agrees.count_is, not_less sh.lines since.count (omega arith)) at has.agrees.sound in
-      rw (not_less sh.lines (since.count + 1) (omega arith), add-one since.count) (wrong-more sh.lines since.count b.numbers old (omega (arith, low, has.number_is)))
+      let old : first_wrong sh.lines since.count b.numbers ≡ None = rw (has.agrees.count_is, le-ltb sh.lines since.count (omega arith)) at has.agrees.sound in
+      rw (le-ltb sh.lines (since.count + 1) (omega arith), add-one since.count) (wrong-more sh.lines since.count b.numbers old (omega (arith, low, has.number_is)))
 
   pub count_same : (line : ℕ) → line < sh.lines → since.count < sh.lines → (b : Parts) → HasLine line b → Same sh b (record b { count = since.count + 1 })
   count_same line low room b has d = same_reading sh b (record b { count = since.count + 1 }) d refl refl (count_sound line low room b has ∙ sym has.agrees.sound) refl
@@ -208,7 +200,3 @@ body_ready sh since i w (Ok x) old new marked turns ready = record {
   counts = ready.counts;
   agrees = step (Agrees sh since) (Agrees sh since) (λ b. record b { body = set b.body i w }) old new (body_agrees sh since i w marked) turns ready.agrees;
 }
-
-pub same_numbers : (sh : Shape) (b : Parts) (d e : ℕ) → b.prepared ≡ b.finished → reading sh b d ≡ reading sh b e
-unfolding reading
-same_numbers sh b d e settled = rw (new_settled b d settled, new_settled b e settled) refl

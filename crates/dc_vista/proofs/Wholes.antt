@@ -1,6 +1,6 @@
 -- What a segment stands for whose words are whole.
-use Rattle.std.proofs.Common.{nat_lt, nat_le, ◌&&◌, ◌≡◌, ◌≢◌, ℕ, zero, suc, ◌+◌, ◌<◌, ◌≤◌, Bool, true, false, List, [], ◌∷◌, map, length, get_or, refl, ◌∙◌, ap, arith, ⊎_elim, Option, None, Ok, ◌==◌, take, drop}
-use Rattle.std.proofs.lemmas.Bool.{cases_eq, eq-eqb, ne_eqb, lt-ltb, ltb-true}
+use Rattle.std.proofs.Common.{nat_lt, nat_le, ◌&&◌, ◌≡◌, ◌≢◌, ℕ, zero, suc, ◌+◌, ◌<◌, ◌≤◌, Bool, true, List, [], ◌∷◌, map, length, get_or, refl, ◌∙◌, ap, arith, ⊎_elim, Option, None, Ok, take, drop}
+use Rattle.std.proofs.lemmas.Bool.{and_parts, cases_eq, eq-eqb, ne_eqb, lt-ltb, ltb-true}
 use Rattle.dc_checkpoint.specs.States.{Reading, IsText, number_in}
 use Rattle.dc_vista.specs.Parts.{Parts}
 use Rattle.dc_kernel.specs.Records.{record_in}
@@ -9,36 +9,28 @@ use Rattle.dc_vista.specs.Standing.{Shape, reading, settled, read_as, or_record,
 use Rattle.dc_vista.specs.Undo.{back, mapped, undo_fault}
 use Rattle.dc_vista.specs.Whole.{IsMine, IsWhole}
 
-both_true : (a b : Bool) → (a && b) ≡ true → (a ≡ true) × (b ≡ true)
-both_true true true is = (refl, refl)
-both_true true false is = absurd cc
-both_true false b is = absurd cc
-
 true_both : (a b : Bool) → a ≡ true → b ≡ true → (a && b) ≡ true
 true_both a b x y = rw (x, y) refl
-
-less_true : (a b : ℕ) → a < b → nat_lt a b ≡ true
-less_true a b low = lt-ltb a b low
 
 -- tags
 pub all_mono : (n tag more : ℕ) (log : List ℕ) → tag ≤ more → all_below n tag log ≡ true → all_below n more log ≡ true
 all_mono zero tag more log le is = refl
 all_mono (suc n) tag more log le is =
-    let p = both_true (nat_lt (get_or log 0 0) tag) (all_below n tag (drop 22 log)) is in
-    true_both (nat_lt (get_or log 0 0) more) (all_below n more (drop 22 log)) (less_true (get_or log 0 0) more (omega (arith, ltb-true (get_or log 0 0) tag p.0, le))) (all_mono n tag more (drop 22 log) le p.1)
+    let p = and_parts (nat_lt (get_or log 0 0) tag) (all_below n tag (drop 22 log)) is in
+    true_both (nat_lt (get_or log 0 0) more) (all_below n more (drop 22 log)) (lt-ltb (get_or log 0 0) more (omega (arith, ltb-true (get_or log 0 0) tag p.0, le))) (all_mono n tag more (drop 22 log) le p.1)
 
 pub behind_all : (n tag more : ℕ) (log : List ℕ) → tag < more → lower_behind n tag log ≡ true → all_below n more log ≡ true
 behind_all zero tag more log low is = refl
 behind_all (suc n) tag more log low is = ⊎_elim
     (λ same. let rest : lower_behind n tag (drop 22 log) ≡ true = rw (eq-eqb (get_or log 0 0) tag same) at is in
-    true_both (nat_lt (get_or log 0 0) more) (all_below n more (drop 22 log)) (less_true (get_or log 0 0) more (omega (arith, same, low))) (behind_all n tag more (drop 22 log) low rest))
+    true_both (nat_lt (get_or log 0 0) more) (all_below n more (drop 22 log)) (lt-ltb (get_or log 0 0) more (omega (arith, same, low))) (behind_all n tag more (drop 22 log) low rest))
     (λ other. all_mono (suc n) tag more log (omega (arith, low)) (rw (ne_eqb (get_or log 0 0) tag other) at is))
     (cases_eq (get_or log 0 0) tag)
 
 pub all_none : (n tag : ℕ) (log : List ℕ) → all_below n tag log ≡ true → (tagged n tag log ≡ []) × (lower_behind n tag log ≡ true)
 all_none zero tag log is = (refl, refl)
 all_none (suc n) tag log is =
-    let p = both_true (nat_lt (get_or log 0 0) tag) (all_below n tag (drop 22 log)) is in
+    let p = and_parts (nat_lt (get_or log 0 0) tag) (all_below n tag (drop 22 log)) is in
     let ne : get_or log 0 0 ≢ tag = omega (arith, ltb-true (get_or log 0 0) tag p.0) in
     (rw (ne_eqb (get_or log 0 0) tag ne) refl, rw (ne_eqb (get_or log 0 0) tag ne) is)
 
@@ -59,11 +51,8 @@ pub none_logged : (sh : Shape) (number logged low next : ℕ) (body log : List �
 none_logged sh number logged low next body log whole later = (all_none 64 next log (behind_all 64 number next log later whole.behind)).0
 
 -- the reading of whole words
-same_number : (n : ℕ) → (n == n) ≡ true
-same_number n = grind arith
-
 read_mine : (sh : Shape) (undo : Option ℕ) (r : Reading) → read_as sh ready_word (id_of sh) undo r ≡ or_record 0 undo r
-read_mine sh undo r = rw (same_number sh.size, same_number sh.form.n, same_number sh.form.p) refl
+read_mine sh undo r = rw (eq-eqb sh.size sh.size refl, eq-eqb sh.form.n sh.form.n refl, eq-eqb sh.form.p sh.form.p refl) refl
 
 settled_whole : (sh : Shape) (number logged low : ℕ) (body log : List ℕ) → IsWhole sh number logged low body log → settled sh low body log ≡ Ok (record { memory = take sh.size body; kernel = text_in sh body; log = map record_in (tagged 64 number log) })
 settled_whole sh number logged low body log whole =

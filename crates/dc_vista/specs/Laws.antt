@@ -1,5 +1,6 @@
 -- Laws of what a segment stands for.
-use Rattle.std.proofs.Common.{◌≡◌, ◌≤◌, ◌*◌, ◌==◌, ℕ, List, Option, None, Some, IfSome, IsSome, length, take, drop, refl, sym, ◌∙◌, ap, subst, arith, true, false, length-drop, length-take-le}
+use Rattle.std.proofs.Common.{◌≡◌, ◌≤◌, ◌*◌, ℕ, List, Option, None, Some, IfSome, IsSome, length, take, drop, refl, sym, ◌∙◌, ap, subst, arith, false, length-drop, length-take-le}
+use Rattle.std.proofs.lemmas.Bool.{eq-eqb}
 use Rattle.dc_media.specs.Told.{Device, IsSameStore}
 use Rattle.dc_checkpoint.specs.States.{Reading}
 use Rattle.dc_vista.specs.Parts.{Parts, parts, parts_of, segment_words}
@@ -7,11 +8,9 @@ use Rattle.dc_vista.specs.Standing.{Numbers, Shape, StandsFor, is_new, memory_of
 use Rattle.dc_vista.specs.Whole.{IsReady, Since}
 use Rattle.dc_vista.specs.declared.frame.Frame.{Frame}
 
-same_number : (n : ℕ) → (n == n) ≡ true
-same_number n = grind arith
-
-not_new : (b : Parts) (d : ℕ) → b.prepared ≡ b.finished → is_new b d ≡ false
-not_new b d same = rw (same, same_number b.finished) refl
+-- nothing that is prepared counts where all that was is finished
+pub not_new : (b : Parts) (d : ℕ) → b.prepared ≡ b.finished → is_new b d ≡ false
+not_new b d same = rw (same, eq-eqb b.finished b.finished refl) refl
 
 same_reading : (shape : Shape) (b : Parts) (d e : ℕ) → b.prepared ≡ b.finished → reading shape b d ≡ reading shape b e
 unfolding reading

@@ -13,7 +13,19 @@ use std::test::Fail;
 const REFUSALS: &str = "\
 stopped 0
 stopped 1
+stopped 2
+stopped 3
+stopped 4
+stopped 5
+stopped 6
 stopped 7
+stopped 8
+stopped 9
+stopped 10
+stopped 11
+stopped 12
+stopped 13
+stopped 14
 stopped 15
 stopped 16
 failed 0
