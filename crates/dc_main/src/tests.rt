@@ -17,10 +17,13 @@ use std::test::Fail;
 fn letter(mark: &Mark) -> u8 {
     match *mark {
         Mark::Idle(Idle::Ended) => b'i',
+        Mark::Idle(Idle::LinkFull) => b'f',
         Mark::Stepped => b's',
         Mark::Showed(k) if k < 10 => b'0' + k as u8,
         Mark::Showed(_) => b'+',
         Mark::Recovered(_) => b'r',
+        Mark::Stopped => b'x',
+        Mark::Marked => b'm',
     }
 }
 

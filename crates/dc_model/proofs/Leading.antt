@@ -1,13 +1,13 @@
 -- Where marks lead, nothing is behind: each process stands at the end of its acts, and the lines are the visible records.
-use Rattle.std.proofs.Common.{◌≡◌, ◌≢◌, ◌∙◌, ◌+◌, ◌<◌, ◌≤◌, ℕ, suc, List, [], ◌∷◌, ◌++◌, length, map, refl, ap, sym, subst, arith, true, Option, Some, None, slice_get, IsSomeAnd, ⊎_elim}
+use Rattle.std.proofs.Common.{◌≡◌, ◌≢◌, ◌∙◌, ◌+◌, ◌<◌, ◌≤◌, ℕ, suc, List, [], ◌∷◌, ◌++◌, length, map, refl, ap, sym, subst, arith, true, false, Option, Some, None, slice_get, IsSomeAnd, ⊎_elim}
 use Rattle.std.proofs.lemmas.Bool.{cases_eq}
 use Rattle.dc_model.specs.Guests.{Answer, Event, Guests}
-use Rattle.dc_model.specs.Process.{Local, local, moved, fits, shows, shown, visible_of}
+use Rattle.dc_model.specs.Process.{Local, local, moved, fits, oldest, shows, shown, visible_of}
 use Rattle.dc_model.specs.Runs.{Given, own, state, visibles, IsRun}
 use Rattle.dc_model.specs.Guests.Event.{AtEnd, AtVisible}
 use Rattle.dc_model.specs.World.{put, reported}
 use Rattle.dc_model.specs.Drawn.{draws, DrawnFrom, Drawn}
-use Rattle.dc_model.specs.Core.{Status, Core, opened_core, oldest, stands, coming_at, drawn, after_event, after_turn, mark_of, Turned, LeadsTo}
+use Rattle.dc_model.specs.Core.{Status, Core, opened_core, stands, coming_at, drawn, after_event, after_turn, mark_of, Turned, LeadsTo}
 use Rattle.dc_model.specs.Repeats.{Note, noted, notes, numbers, NotSince, RepeatsFollow}
 use Rattle.dc_model.specs.Led.{IsLed}
 use Rattle.dc_model.specs.declared.act.Taken.{Taken}
@@ -17,30 +17,9 @@ use Rattle.dc_model.specs.declared.mark.Mark.{Mark}
 use Rattle.dc_model.specs.declared.visible.Visible.{Visible}
 use Rattle.dc_model.proofs.Own.{own_yes, own_no, put_self, put_other, oldest_all}
 use Rattle.dc_model.proofs.Reports.{reported_run}
+use Rattle.dc_model.proofs.Rising.{TurnsBelow, below_end, below_later, drawn_end}
 use Rattle.dc_model.proofs.Draws.{drawn_fits, drawn_mail, draws_act}
 use Rattle.dc_model.proofs.Thinning.{visibles_distinct, distinct_thin, distinct_agree}
-
--- the turns of the acts are below this one
-abbrev pub TurnsBelow : ℕ → List Taken → Type 0
-TurnsBelow turn [] = Unit {0}
-TurnsBelow turn (x ∷ acts) = (x.t < turn) × TurnsBelow turn acts
-
--- one act more at the end, and a later turn
-below_end : (turn : ℕ) (acts : List Taken) (x : Taken) → TurnsBelow turn acts → x.t < turn → TurnsBelow turn (acts ++ x ∷ [])
-below_end turn [] x below at = (at, tt)
-below_end turn (y ∷ acts) x below at = (below.0, below_end turn acts x below.1 at)
-
-below_later : (turn later : ℕ) (acts : List Taken) → turn ≤ later → TurnsBelow turn acts → TurnsBelow later acts
-below_later turn later [] le below = tt
-below_later turn later (x ∷ acts) le below = (omega (arith, below.0), below_later turn later acts le below.1)
-
--- acts that were drawn, with one that was drawn after them
-drawn_end : (n : ℕ) (schedule : List Entry) (from : ℕ) (acts : List Taken) (x : Taken)
-    → DrawnFrom n schedule from acts → TurnsBelow x.t acts → from ≤ x.t
-    → draws n (slice_get schedule x.t) x ≡ true → DrawnFrom n schedule from (acts ++ x ∷ [])
-drawn_end n schedule from [] x ok below le at = (le, at, tt)
-drawn_end n schedule from (y ∷ acts) x ok below le at =
-    (ok.0, ok.1, drawn_end n schedule (suc y.t) acts x ok.2 below.1 (omega (arith, below.0)) at)
 
 -- what holds wherever marks have led: no process is behind, and no number to come was noted since its process recovered
 pub record Follows {Mc : Type 0} (G : Guests Mc) (schedule : List Entry) (marks : List Mark) (c : Core) : Type 0 where
@@ -50,8 +29,8 @@ pub record Follows {Mc : Type 0} (G : Guests Mc) (schedule : List Entry) (marks 
   pub below : TurnsBelow (length marks) (reported c.acts)
   pub is_drawn : Drawn G.count schedule (reported c.acts)
   pub numbered : map (λ x. (x.p, x.k)) c.lines ≡ numbers (notes schedule marks)
-  pub fresh : (p k : ℕ) → (state G c.acts p).visible ≤ k → NotSince p k (notes schedule marks)
-  pub follow : RepeatsFollow (notes schedule marks)
+  pub fresh : (p k : ℕ) → (state G c.acts p).visible ≤ k → NotSince false p k (notes schedule marks)
+  pub follow : RepeatsFollow false (notes schedule marks)
 
 -- with no mark
 follows_open : {Mc : Type 0} (G : Guests Mc) (schedule : List Entry) → Follows G schedule [] opened_core
@@ -78,11 +57,11 @@ module _ (p k0 word clock : ℕ) (o : Option Entry) (is : o ≡ Some (Turn (reco
   numbered_more (AtVisible body) same = rw is (ap (λ w. (p, k0) ∷ w) same)
   numbered_more _ same = rw is same
 
-  fresh_more : (e : Event) (q k : ℕ) → (p ≡ q → shows e ≡ 1 → k0 ≢ k) → NotSince q k ns → NotSince q k (noted o (mark_of e k0) ++ ns)
+  fresh_more : (e : Event) (q k : ℕ) → (p ≡ q → shows e ≡ 1 → k0 ≢ k) → NotSince false q k ns → NotSince false q k (noted o (mark_of e k0) ++ ns)
   fresh_more (AtVisible body) q k apart before = rw is ((λ same. apart same refl), before)
   fresh_more _ q k apart before = rw is before
 
-  follow_more : (e : Event) → NotSince p k0 ns → RepeatsFollow ns → RepeatsFollow (noted o (mark_of e k0) ++ ns)
+  follow_more : (e : Event) → NotSince false p k0 ns → RepeatsFollow false ns → RepeatsFollow false (noted o (mark_of e k0) ++ ns)
   follow_more (AtVisible body) new before = rw is (new, before)
   follow_more _ new before = rw is before
 

@@ -1,5 +1,6 @@
 pub mod Own
 pub mod Reports
-mod Draws
-mod Thinning
+pub mod Draws
+pub mod Thinning
+pub mod Rising
 pub mod Leading

@@ -18,14 +18,14 @@ Distinct [] = Unit {0}
 Distinct (x ∷ records) = (find x.p x.k records ≡ None) × Distinct records
 
 -- a record with another number is passed over
-find_off : (x : Visible) (records : List Visible) (p k : ℕ) → (x.p ≡ p → x.k ≢ k) → find p k (x ∷ records) ≡ find p k records
+pub find_off : (x : Visible) (records : List Visible) (p k : ℕ) → (x.p ≡ p → x.k ≢ k) → find p k (x ∷ records) ≡ find p k records
 find_off x records p k apart = ⊎_elim
     (λ e. rw (ne_eqb x.k k (apart e), and-false (x.p == p)) refl)
     (λ ne. rw (ne_eqb x.p p ne) refl)
     (cases_eq x.p p)
 
 -- and so is what an event shows under another number
-misses : (q j : ℕ) (e : Event) (records : List Visible) (p k : ℕ)
+pub misses : (q j : ℕ) (e : Event) (records : List Visible) (p k : ℕ)
     → (q ≡ p → shows e ≡ 1 → j ≢ k) → find p k (visible_of q j e ++ records) ≡ find p k records
 misses q j (AtVisible body) records p k apart = find_off (record { p = q; k = j; body = body }) records p k (λ e. apart e refl)
 misses q j _ records p k apart = refl
@@ -40,7 +40,7 @@ unseen_self G x acts p k same before past =
     ∙ before
 
 -- no record has a number that its process has not come to
-unseen : {Mc : Type 0} (G : Guests Mc) (acts : List Given) (p k : ℕ) → (state G acts p).visible ≤ k → find p k (visibles G acts) ≡ None
+pub unseen : {Mc : Type 0} (G : Guests Mc) (acts : List Given) (p k : ℕ) → (state G acts p).visible ≤ k → find p k (visibles G acts) ≡ None
 unseen G [] p k past = refl
 unseen G (x ∷ acts) p k past = ⊎_elim
     (λ same.
@@ -66,7 +66,7 @@ visibles_distinct G (x ∷ acts) =
     distinct_at x.p l.visible (comes G l x.answer) (visibles G acts) (unseen G acts x.p l.visible (omega arith)) (visibles_distinct G acts)
 
 -- the first record of a list is the last of the reversed one
-reverse_end : (y : Visible) (records : List Visible) → reverse (y ∷ records) ≡ reverse records ++ y ∷ []
+pub reverse_end : (y : Visible) (records : List Visible) → reverse (y ∷ records) ≡ reverse records ++ y ∷ []
 reverse_end y records = reverse-append (y ∷ []) records
 
 -- whether the first record is kept or not, the last one stays last
@@ -76,7 +76,7 @@ kept_end true y x more less e = e
 kept_end false y x more less e = ap (λ records. y ∷ records) e
 
 -- a new record at the end is kept
-thin_end : (before records : List Visible) (x : Visible)
+pub thin_end : (before records : List Visible) (x : Visible)
     → find x.p x.k (reverse records ++ before) ≡ None → thin_after before (records ++ x ∷ []) ≡ thin_after before records ++ x ∷ []
 thin_end before [] x new = rw new refl
 thin_end before (y ∷ records) x new =

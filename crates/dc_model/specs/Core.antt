@@ -1,9 +1,9 @@
 -- The core of a run, and what one entry does to it. Its lists have the last first.
 use Rattle.std.specs.Prelude.{◌≡◌, ◌==◌, ◌+◌, ◌%◌, ℕ, suc, List, [], ◌∷◌, ◌++◌, ◌||◌, if◌then◌else◌, length, slice_get, nat_lt, Option, Some, None, IsSomeAnd}
-use Rattle.dc_model.specs.Guests.{Event, Answer, Guests}
+use Rattle.dc_model.specs.Guests.{Event, Answer, Guests, input_answer, receive_answer}
 use Rattle.dc_model.specs.Guests.Event.{AtEnd, AtClock, AtRandom, AtInput, AtReceive, AtVisible}
 use Rattle.dc_model.specs.Guests.Answer.{Plain, Clock, Random, InputNone, InputNext, InputEnd, ReceiveNone, ReceiveFrom}
-use Rattle.dc_model.specs.Process.{Local, local, shown}
+use Rattle.dc_model.specs.Process.{Local, at_position, shown}
 use Rattle.dc_model.specs.Runs.{Given, own}
 use Rattle.dc_model.specs.World.{put}
 use Rattle.dc_model.specs.declared.entry.Entry.{Entry}
@@ -27,15 +27,6 @@ pub record Core : Type 0 where
 abbrev pub opened_core : Core
 opened_core = record { acts = []; lines = []; procs = λ p. record { position = 0 } }
 
--- the first r answers
-abbrev pub oldest : ℕ → List Answer → List Answer
-oldest r [] = []
-oldest r (a ∷ answers) = if nat_lt (length answers) r then a ∷ answers else oldest r answers
-
--- a process at a position: after its first answers, as many as that
-abbrev pub at_position : {Mc : Type 0} → Guests Mc → ℕ → ℕ → List Answer → Local Mc
-at_position G p i answers = local G p (oldest i answers)
-
 -- where a process stands
 abbrev pub stands : {Mc : Type 0} → Guests Mc → Core → ℕ → Local Mc
 stands G c p = at_position G p (c.procs p).position (own p c.acts)
@@ -43,16 +34,6 @@ stands G c p = at_position G p (c.procs p).position (own p c.acts)
 -- what it is about to do there
 abbrev pub coming_at : {Mc : Type 0} → Guests Mc → Core → ℕ → Event
 coming_at G c p = G.next (stands G c p).machine
-
--- what a request for input is answered: the next input, or that there is none
-abbrev pub input_answer : Option (List ℕ) → Answer
-input_answer None = InputEnd
-input_answer (Some bytes) = InputNext bytes
-
--- what a request for a message of s is answered: its next message, or that there is none yet
-abbrev pub receive_answer : ℕ → Option (List ℕ) → Answer
-receive_answer s None = ReceiveNone
-receive_answer s (Some message) = ReceiveFrom s message
 
 -- the answer that a turn's word and clock draw: an odd word takes input; the word names the sender, n is nobody
 abbrev pub drawn_answer : {Mc : Type 0} → Guests Mc → Core → ℕ → ℕ → ℕ → Event → Answer

@@ -1,5 +1,5 @@
 -- Guests as any deterministic machines: what one is about to do, what it is told there, and how it goes on.
-use Rattle.std.specs.Prelude.{ℕ, List, Bool, true, false}
+use Rattle.std.specs.Prelude.{ℕ, List, Bool, true, false, ◌||◌, Option, Some, None}
 use Rattle.dc_model.specs.declared.visible.Body.{Body}
 
 -- what a guest is about to do: nothing more, or an event of one of the seven kinds
@@ -42,6 +42,10 @@ abbrev pub is_receive : Event → Bool
 is_receive AtReceive = true
 is_receive _ = false
 
+-- a request, for input or for a message: its answer can be logged
+abbrev pub is_request : Event → Bool
+is_request e = is_input e || is_receive e
+
 -- a reading of the clock
 abbrev pub is_clock : Event → Bool
 is_clock AtClock = true
@@ -58,3 +62,28 @@ is_sure AtInternal = true
 is_sure (AtVisible body) = true
 is_sure (AtSend to message) = true
 is_sure _ = false
+
+-- what users see
+abbrev pub is_visible : Event → Bool
+is_visible (AtVisible body) = true
+is_visible _ = false
+
+-- what another process gets
+abbrev pub is_send : Event → Bool
+is_send (AtSend to message) = true
+is_send _ = false
+
+-- an answer that tells nothing
+abbrev pub is_plain : Answer → Bool
+is_plain Plain = true
+is_plain _ = false
+
+-- what a request for input is answered: the next input, or that there is none
+abbrev pub input_answer : Option (List ℕ) → Answer
+input_answer None = InputEnd
+input_answer (Some bytes) = InputNext bytes
+
+-- what a request for a message of s is answered: its next message, or that there is none yet
+abbrev pub receive_answer : ℕ → Option (List ℕ) → Answer
+receive_answer s None = ReceiveNone
+receive_answer s (Some message) = ReceiveFrom s message

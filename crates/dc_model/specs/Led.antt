@@ -1,5 +1,5 @@
 -- What follows where marks lead to a core.
-use Rattle.std.specs.Prelude.{◌≡◌, List, Some, reverse}
+use Rattle.std.specs.Prelude.{◌≡◌, false, List, Some, reverse}
 use Rattle.dc_model.specs.Guests.{Guests}
 use Rattle.dc_model.specs.World.{run, reported, world_of, thin}
 use Rattle.dc_model.specs.Drawn.{Drawn}
@@ -13,4 +13,4 @@ pub record IsLed {Mc : Type 0} (G : Guests Mc) (schedule : List Entry) (marks : 
   pub acts_run : run G (reported c.acts) ≡ Some (world_of G c.acts)
   pub acts_drawn : Drawn G.count schedule (reported c.acts)
   pub lines_shown : thin (reverse c.lines) ≡ (world_of G c.acts).visibles
-  pub repeats_equal : RepeatsEqual schedule marks c.lines
+  pub repeats_equal : RepeatsEqual false schedule marks c.lines

@@ -56,6 +56,15 @@ abbrev pub local : {Mc : Type 0} → Guests Mc → ℕ → List Answer → Local
 local G p [] = begun G p
 local G p (a ∷ answers) = moved G (local G p answers) a
 
+-- the first r answers
+abbrev pub oldest : ℕ → List Answer → List Answer
+oldest r [] = []
+oldest r (a ∷ answers) = if nat_lt (length answers) r then a ∷ answers else oldest r answers
+
+-- a process at a position: after its first answers, as many as that
+abbrev pub at_position : {Mc : Type 0} → Guests Mc → ℕ → ℕ → List Answer → Local Mc
+at_position G p i answers = local G p (oldest i answers)
+
 -- what is handed over is the next input
 abbrev pub is_next_input : List ℕ → Option (List ℕ) → Bool
 is_next_input bytes None = false

@@ -55,8 +55,20 @@ row_of Cbndv2pc kind since = record { before = at_visible kind && since.any; log
 abbrev pub rule_of : Protocol → Kind → Since → Rule
 rule_of protocol kind since = let row = row_of protocol kind since in record row { after = row.after || (since.eighth && not row.before) }
 
--- each commit is one of all processes together
-abbrev pub IsGlobal : Protocol → Type 0
-IsGlobal Cpv2pc = Unit {0}
-IsGlobal Cbndv2pc = Unit {0}
-IsGlobal _ = ⊥
+-- whether each commit is one of all processes together
+abbrev pub is_global : Protocol → Bool
+is_global Cpv2pc = true
+is_global Cbndv2pc = true
+is_global _ = false
+
+-- whether answers are logged
+abbrev pub has_log : Protocol → Bool
+has_log CandLog = true
+has_log CbndvsLog = true
+has_log _ = false
+
+-- whether each nondeterministic event is logged or has a commit after it
+abbrev pub is_cand : Protocol → Bool
+is_cand Cand = true
+is_cand CandLog = true
+is_cand _ = false

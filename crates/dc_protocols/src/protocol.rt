@@ -1,5 +1,5 @@
-ghost use Rattle.std.specs.Prelude.{◌↔◌, IsTrue};
-ghost use Rattle.dc_protocols.specs.Rules.{IsGlobal};
+ghost use Rattle.std.specs.Prelude.{◌≡◌};
+ghost use Rattle.dc_protocols.specs.Rules as rules;
 
 /// A rule on when a process commits and what it logs.
 #[derive(Clone, Copy, Debug, PartialEq, Eq)]
@@ -50,7 +50,7 @@ pub struct Rule {
 
 /// Whether all processes commit together.
 pub fn is_global(protocol: Protocol) -> bool
-    ensures { IsTrue result ↔ IsGlobal protocol }
+    ensures { result ≡ rules.is_global protocol }
 {
     matches!(protocol, Protocol::Cpv2pc | Protocol::Cbndv2pc)
 }

@@ -68,7 +68,7 @@ module _ (setting : Setting) (guest : Guest) (inputs : List (List ℕ)) (place s
       thinned = ap thin (append-nil (reverse r.core.lines)) ∙ well.lines_shown;
       written = r.shows;
     };
-    repeats_equal = subst (RepeatsEqual setting.schedule (reverse marks)) (sym (ap reverse (append-nil (reverse r.core.lines)) ∙ reverse-reverse r.core.lines)) well.repeats_equal;
+    repeats_equal = subst (RepeatsEqual false setting.schedule (reverse marks)) (sym (ap reverse (append-nil (reverse r.core.lines)) ∙ reverse-reverse r.core.lines)) well.repeats_equal;
     core_led = record { led = r.led; acts_are = r.acts_are; lines_are = sym (append-nil (reverse r.core.lines)) };
     ending = ending;
   }
@@ -98,7 +98,7 @@ is_cut_off setting acts marks lines before after t =
         thinned = ap thin (sym records) ∙ well.lines_shown;
         written = Becomes-weaker before after _ _ (λ x y wrote. (t.shows.0, t.shows.1, wrote)) t.shows.2;
       };
-      repeats_equal = subst (RepeatsEqual setting.schedule (mark.Showed t.torn.k ∷ reverse marks)) (sym back) well.repeats_equal;
+      repeats_equal = subst (RepeatsEqual false setting.schedule (mark.Showed t.torn.k ∷ reverse marks)) (sym back) well.repeats_equal;
       core_led = record { led = t.led; acts_are = t.acts_are; lines_are = records };
       ending = (t.early, refl);
     }

@@ -4,7 +4,7 @@ use Rattle.std.proofs.lemmas.List.{append-nil, reverse-append, length-reverse}
 use Rattle.std.proofs.lemmas.Option.{slice_get_within}
 use Rattle.dc_media.specs.Told.{Becomes}
 use Rattle.dc_media.proofs.Becoming.{Becomes-then}
-use Rattle.dc_model.specs.Core.{Core, opened_core, LeadsTo, Turned, stands, coming_at, drawn, drawn_answer, after_event, after_turn, mark_of, receive_answer}
+use Rattle.dc_model.specs.Core.{Core, opened_core, LeadsTo, Turned, stands, coming_at, drawn, drawn_answer, after_event, after_turn, mark_of}
 use Rattle.dc_guest.specs.Answers.{effect_of}
 use Rattle.dc_guest.specs.declared.effect.Effect.{Effect}
 use Rattle.dc_guest.specs.declared.effect.Effect.TheVariants.{Nothing, Shows, Sends}
@@ -12,7 +12,7 @@ use Rattle.dc_guest.specs.Guest.{Guest, guests_of, started, coming, after_answer
 use Rattle.dc_elf.specs.Images.{Image}
 use Rattle.dc_acts.specs.Lines.{text_of, visible_line}
 use Rattle.dc_model.specs.World.{act_of, reported}
-use Rattle.dc_model.specs.Guests.{Answer, Event, Guests}
+use Rattle.dc_model.specs.Guests.{Answer, Event, Guests, receive_answer}
 use Rattle.dc_model.specs.Process.{took_input, Local, moved, shown, shows, visible_of}
 use Rattle.dc_model.specs.Guests.Event.{AtEnd, AtInternal, AtClock, AtRandom, AtInput, AtReceive, AtVisible, AtSend}
 use Rattle.dc_model.specs.Guests.{Answer as answer}

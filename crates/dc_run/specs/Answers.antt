@@ -2,9 +2,8 @@
 use Rattle.std.specs.Prelude.{ℕ, ◌%◌, ◌==◌, List, Option, if◌then◌else◌, slice_get}
 use Rattle.dc_events.specs.declared.event.Kind.{Kind}
 use Rattle.dc_events.specs.declared.event.Kind.TheVariants as kind
-use Rattle.dc_model.specs.Core.{input_answer}
 use Rattle.dc_model.specs.declared.entry.Turn.{Turn}
-use Rattle.dc_model.specs.Guests.{Answer}
+use Rattle.dc_model.specs.Guests.{Answer, input_answer}
 use Rattle.dc_model.specs.Guests.Answer.{Plain, Clock, Random, InputNone, ReceiveNone}
 use Rattle.dc_run.specs.declared.draw.Draw as declared
 

@@ -1,5 +1,5 @@
 -- What a call of the program promises of a run that was opened.
-use Rattle.std.specs.Prelude.{◌≡◌, ◌≢◌, ◌⊎◌, ◌<◌, ℕ, List, [], ◌∷◌, ◌++◌, length, reverse, take, Option, Some}
+use Rattle.std.specs.Prelude.{◌≡◌, ◌≢◌, ◌⊎◌, ◌<◌, ℕ, false, List, [], ◌∷◌, ◌++◌, length, reverse, take, Option, Some}
 use Rattle.dc_acts.specs.Reports.{report_text}
 use Rattle.dc_media.specs.Causes.{Rose}
 use Rattle.dc_media.specs.Told.{Becomes}
@@ -99,7 +99,7 @@ pub record IsHeadline (setting : Setting) (run : Account) (before after : Option
   pub acts_run : run_of (guests setting) run.acts ≡ Some world
   pub acts_drawn : Drawn 1 setting.schedule run.acts
   pub lines_shown : LinesShown whole torn run.lines world.visibles before after
-  pub repeats_equal : RepeatsEqual setting.schedule (marked torn run.marks) (reverse (whole ++ torn))
+  pub repeats_equal : RepeatsEqual false setting.schedule (marked torn run.marks) (reverse (whole ++ torn))
   pub core_led : CoreLed setting (marked torn run.marks) core run.acts (whole ++ torn)
   pub ending : IsEnding (guests setting) setting.schedule run.verdict run.marks world torn
 

@@ -1,0 +1,5 @@
+pub mod Links
+pub mod Saving
+pub mod Composing
+pub mod Entries
+pub mod Together

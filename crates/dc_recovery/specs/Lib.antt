@@ -1,0 +1,12 @@
+pub mod Systems
+pub mod Saves
+pub mod Core
+pub mod Parts
+pub mod Answers
+pub mod Turned
+pub mod Invariant
+pub mod Promise
+pub mod Kept
+pub mod Recoveries
+pub mod Unstopped
+pub mod Alone
