@@ -1,6 +1,6 @@
-ghost use Rattle.std.specs.Prelude.{◌≡◌, ◌≤◌, ◌<◌, ◌*◌, ◌%◌, ◌^◌, ℕ, List, false, IfErr, IfOk, IfSome, OnErr, OnOk, Some, length};
+ghost use Rattle.std.specs.Prelude.{◌≡◌, ◌≤◌, ◌<◌, ◌*◌, ◌%◌, ◌^◌, ℕ, List, false, IfErr, IfOk, IfSome, OnErr, OnOk, Some, length, slice_index};
 ghost use Rattle.dc_guest.specs.Answers.{answer_of, effect_of};
-ghost use Rattle.dc_guest.specs.Guest.{after_next, call_at, event_of, machine_over, next_of, over, started};
+ghost use Rattle.dc_guest.specs.Guest.{after_next, call_at, ends, event_of, machine_over, next_of, over, started};
 ghost use Rattle.dc_guest.specs.Nexts.{IfRetired, IfWaits, IsSameGuest, IsSentBy, NextFits, Waits, called_by, stored_by};
 ghost use Rattle.dc_media.specs.Told.{Becomes};
 ghost use Rattle.dc_model.specs.Guests.Answer.{Plain};
@@ -28,14 +28,14 @@ pub struct Guest {
 }
 
 impl Model for Guest {
-    ghost use Rattle.std.specs.Prelude.{◌≡◌, ◌%◌};
+    ghost use Rattle.std.specs.Prelude.{◌≡◌, ◌%◌, slice_index};
     ghost use Rattle.dc_guest.specs.Guest.{Bare};
 
     ghost Value = { Bare };
 
     ghost view = { λ g. record { number = g.number; count = g.count; registers = g.regs.x; pc = g.regs.pc; ended = g.ended } };
 
-    ghost invariant = { λ g. g.regs.pc % 4 ≡ 0 };
+    ghost invariant = { λ g. (g.regs.pc % 4 ≡ 0) × (slice_index g.regs.x 0 ≡ 0) };
 }
 
 impl Guest {
@@ -53,6 +53,29 @@ impl Guest {
             regs: Regs { x, pc: entry },
             ended: false,
         }
+    }
+
+    /// Guest `number` of `count` at these registers.
+    pub fn at(number: u32, count: u32, regs: Regs, ended: bool) -> Guest
+        requires aligned { regs.pc % 4 ≡ 0 }
+        requires zero { slice_index regs.x 0 ≡ 0 }
+        ensures { result ≡ record { number = number; count = count; registers = regs.x; pc = regs.pc; ended = ended } }
+    {
+        Guest {
+            number,
+            count,
+            regs,
+            ended,
+        }
+    }
+
+    /// Its registers.
+    pub fn regs(&self) -> &Regs
+        ensures regs { result.now ≡ record { x = self.now.registers; pc = self.now.pc } }
+        ensures aligned { result.now.pc % 4 ≡ 0 }
+        ensures zero { slice_index result.now.x 0 ≡ 0 }
+    {
+        &self.regs
     }
 
     /// Whether it has ended.
@@ -119,6 +142,7 @@ impl Guest {
         ensures effect { IfOk result (λ effect. IfSome (B.told bus.old) (λ words. effect ≡ effect_of (event_of next.now (machine_over self.old words)))) }
         ensures sent { IfOk result (IsSentBy next.now) }
         ensures taken { OnOk result (Becomes (B.told bus.old) (B.told bus.new) (λ before after. over self.new after ≡ after_next next.now (answer_of answer.now) (over self.old before))) }
+        ensures ended { OnOk result (self.new.ended ≡ ends next.now) }
         ensures same { IsSameGuest self.old self.new }
         ensures kept { OnErr result (self.new ≡ self.old) }
 
@@ -129,12 +153,40 @@ impl Guest {
         ensures refused { IfErr result (λ why. BreakOff B.made B.refused (stored_by next.now (answer_of answer.now)) bus.old bus.new why) }
     {
         let effect = self.effect(bus, next);
-        match *next {
-            Next::Retire => {}
-            Next::Trap(_) => self.ended = true,
-            Next::Call(call) => self.take_call(bus, call, answer)?,
-        }
+        self.advance(bus, next, answer)?;
         Ok(effect)
+    }
+
+    /// Goes past a call or a trap that waits, with its answer: `take` without what others see of it, for a caller that asked before.
+    pub fn advance<B: Bus>(
+        &mut self,
+        bus: &mut B,
+        next: &Next,
+        answer: &Answer,
+    ) -> Result<(), B::Stop>
+        requires runs { self.old.ended ≡ false }
+        requires live { B.live bus.old }
+        requires waits { Waits next.now }
+        requires fits { NextFits (4 * B.count bus.old) self.old.number self.old.count next.now }
+        ensures taken { OnOk result (Becomes (B.told bus.old) (B.told bus.new) (λ before after. over self.new after ≡ after_next next.now (answer_of answer.now) (over self.old before))) }
+        ensures ended { OnOk result (self.new.ended ≡ ends next.now) }
+        ensures same { IsSameGuest self.old self.new }
+        ensures kept { OnErr result (self.new ≡ self.old) }
+
+        // what became of the memory
+        ensures count { B.count bus.new ≡ B.count bus.old }
+        ensures live { OnOk result (B.live bus.new) }
+        ensures made { OnOk result (Follow B.made (stored_by next.now (answer_of answer.now)) bus.old bus.new) }
+        ensures refused { IfErr result (λ why. BreakOff B.made B.refused (stored_by next.now (answer_of answer.now)) bus.old bus.new why) }
+    {
+        match *next {
+            Next::Retire => Ok(()),
+            Next::Trap(_) => {
+                self.ended = true;
+                Ok(())
+            }
+            Next::Call(call) => self.take_call(bus, call, answer),
+        }
     }
 
     /// The call that its registers make.
@@ -146,8 +198,8 @@ impl Guest {
         read_call(&self.regs, bus.size(), self.number, self.count)
     }
 
-    /// What others see of a call or a trap.
-    fn effect<B: Bus>(&self, bus: &B, next: &Next) -> Effect
+    /// What others see of a call or a trap that waits.
+    pub fn effect<B: Bus>(&self, bus: &B, next: &Next) -> Effect
         requires live { B.live bus.now }
         requires fits { NextFits (4 * B.count bus.now) self.now.number self.now.count next.now }
         ensures effect { IfSome (B.told bus.now) (λ words. result ≡ effect_of (event_of next.now (machine_over self.now words))) }
@@ -172,6 +224,7 @@ impl Guest {
         requires live { B.live bus.old }
         requires fits { NextFits (4 * B.count bus.old) self.old.number self.old.count (Next.Call call) }
         ensures taken { OnOk result (Becomes (B.told bus.old) (B.told bus.new) (λ before after. over self.new after ≡ after_next (Next.Call call) (answer_of answer.now) (over self.old before))) }
+        ensures ended { OnOk result (self.new.ended ≡ ends (Next.Call call)) }
         ensures same { IsSameGuest self.old self.new }
         ensures kept { OnErr result (self.new ≡ self.old) }
         ensures count { B.count bus.new ≡ B.count bus.old }

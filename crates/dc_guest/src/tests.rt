@@ -3,6 +3,7 @@ ghost use Rattle.std.specs.Prelude.{Some, length, refl};
 use crate::{Answer, Effect, Guest};
 use dc_calls::Call;
 use dc_events::{Kind, Next};
+use dc_isa::Regs;
 use dc_links::Message;
 use dc_model::Body;
 use dc_rv32::Bus;
@@ -187,4 +188,17 @@ fn an_answer_is_of_its_kind(_rt: HostRuntime) -> Result<(), Fail> {
     holds(!input.may_answer(Kind::Receive), "no message")?;
     holds(input.inputs() == 1, "one input")?;
     holds(input.act() == dc_model::Act::InputNext, "its act")
+}
+
+#[test]
+fn a_guest_stands_where_its_registers_say(_rt: HostRuntime) -> Result<(), Fail> {
+    let mut x = [0; 32];
+    x[10] = 7;
+    let guest = Guest::at(1, 2, Regs { x, pc: 8 }, true);
+    let regs = guest.regs();
+    if guest.has_ended() && regs.pc == 8 && regs.x[10] == 7 {
+        Ok(())
+    } else {
+        Err(Fail::new("another place"))
+    }
 }

@@ -1,2 +1,10 @@
+pub mod Calls
+pub mod Following
 pub mod Processes
+pub mod Carried
+pub mod Events
+pub mod Turns
+pub mod Ups
+pub mod Downs
+pub mod Tests
 pub mod Worlds

@@ -1,7 +1,7 @@
 -- What the code of one process holds, and what its store may stand for. A process is the fold of its own answers, and needs no world.
-use Rattle.std.specs.Prelude.{◌≡◌, ◌==◌, ◌<◌, ◌≤◌, ◌-◌, ◌⊎◌, ℕ, List, Bool, true, false, Option, IfSome, Ok, if◌then◌else◌, drop, length, map, slice_index}
+use Rattle.std.specs.Prelude.{◌≡◌, ◌==◌, ◌<◌, ◌≤◌, ◌+◌, ◌-◌, ◌⊎◌, ℕ, List, [], Bool, true, false, Option, IfSome, Ok, if◌then◌else◌, drop, length, map, slice_index}
 use Rattle.dc_calls.specs.declared.call.Call.TheVariants.{Exit}
-use Rattle.dc_checkpoint.specs.States.{Reading}
+use Rattle.dc_checkpoint.specs.States.{Form, Reading}
 use Rattle.dc_events.specs.declared.event.Next.{Next}
 use Rattle.dc_events.specs.declared.event.Next.TheVariants as next
 use Rattle.dc_guest.specs.Guest.{Guest, next_of}
@@ -123,3 +123,25 @@ pub record IsOver (S : System Guest) (p : ℕ) (answers : List Answer) (st : Sta
   pub going : IsGoing answers st
   pub process : IsProcess S p answers st memory held
   pub stands : Stands S.guests p answers (slice_index held.others) st leaves
+
+-- whose a store of the process is
+abbrev pub form_of : Kernel → Form
+form_of kernel = record { n = kernel.n; p = kernel.p }
+
+-- a copy of what was received
+abbrev pub IsCopied : Kernel → List ℕ → Type 0
+IsCopied kernel based = (s : ℕ) → s < kernel.n → slice_index based s ≡ slice_index kernel.received s
+
+-- a process and the handle of its store belong together
+pub record IsPaired (held : Held) (form : Form) (number logged : ℕ) : Type 0 where
+  pub form_is : form ≡ form_of held.kernel
+  pub number_is : number ≡ held.kernel.commit
+  pub logged_is : logged + held.log_left ≡ 64
+
+-- the kernel of the next commit
+abbrev pub next_commit : Kernel → Kernel
+next_commit kernel = record kernel { commit = kernel.commit + 1 }
+
+-- what is held after it
+abbrev pub committed_held : Held → List ℕ → Held
+committed_held held based = record { kernel = next_commit held.kernel; unread = []; own = false; log_left = 64; based = based; others = held.others }

@@ -1,12 +1,25 @@
 //! One process over its store: what its code holds and what its store may stand for, at a place of the theory of recovery.
 //!
-//! So far these are definitions, laws and lemmas. A call on a process has to show what it did to that process and to its store,
-//! with no world in sight; `proofs/Entries.antt` and `proofs/Together.antt` prove that a world of such processes then goes where the
-//! theory allows.
+//! A process takes turns, commits and logs by its protocol, falls, and comes back at exactly what its store stands for. Each call shows
+//! what it did to that process and to its store, with no world in sight, over any `Checkpoint`; `proofs/Entries.antt` and
+//! `proofs/Together.antt` prove that a world of such processes then goes where the theory allows.
 #![tactic(auto)]
 
+mod committing;
+mod down;
+mod holding;
 mod laws;
+mod lent;
+mod logging;
+mod noting;
+mod shown;
+mod stepping;
 #[cfg(test)]
 mod tests;
+mod turning;
+mod up;
 
+pub use down::Down;
 pub use laws::processes_stand;
+pub use shown::Shown;
+pub use up::Up;

@@ -1,0 +1,144 @@
+-- What a recovery gives: a process at one of the saves that its store stood for.
+use Rattle.std.proofs.Common.{◌≡◌, ◌∙◌, ◌<◌, ◌≤◌, ◌+◌, ℕ, suc, List, [], ◌∷◌, map, false, Option, None, Some, Ok, Err, IfSome, IsSome, refl, sym, ap, subst, inl, ⊎_elim, length, arith, slice_index, drop}
+use Rattle.dc_checkpoint.specs.States.{Gives, IsGiven, Reading, State}
+use Rattle.dc_guest.specs.Guest.{Guest}
+use Rattle.dc_kernel.proofs.Kernels.{one_kernel}
+use Rattle.dc_kernel.specs.Kernels.{IsKernel, Kernel}
+use Rattle.dc_kernel.specs.Layout.{n_at, p_at}
+use Rattle.dc_kernel.specs.Texts.{text_of}
+use Rattle.dc_kernel.specs.declared.records.LogRecord.{LogRecord}
+use Rattle.dc_kernel.specs.declared.saved.Saved.{Saved}
+use Rattle.dc_links.specs.Links.{link_to, number_of_first}
+use Rattle.dc_model.specs.Guests.{Answer, Guests}
+use Rattle.dc_model.specs.Process.{Local, at_position, local, oldest}
+use Rattle.dc_proc.specs.Downs.{IsRisen}
+use Rattle.dc_proc.specs.Processes.{Held, IsAt, IsKernelAt, IsProcess, IsStoredSave, Stands, Stored, logged_of, reading_of}
+use Rattle.dc_recovery.proofs.Spans.{oldest_length, oldest_twice}
+use Rattle.dc_recovery.specs.Core.{Status, Which, save_of}
+use Rattle.dc_recovery.specs.Core.Which.{Older, Newer}
+use Rattle.dc_recovery.specs.Parts.{risen}
+use Rattle.dc_recovery.specs.Saves.{Save, reach}
+use Rattle.dc_recovery.specs.Systems.{System}
+
+-- one text, one kernel
+n_told : (k : Kernel) → slice_index (text_of k) n_at ≡ k.n
+unfolding text_of
+n_told k = refl
+
+p_told : (k : Kernel) → slice_index (text_of k) p_at ≡ k.p
+unfolding text_of
+p_told k = refl
+
+same_kernel : (n p m q : ℕ) (a b : Kernel) → IsKernel n p a → IsKernel m q b → text_of a ≡ text_of b → a ≡ b
+same_kernel n p m q a b ia ib same = one_kernel n p a b ia (record {
+  n_is = sym (n_told b) ∙ ap (λ t. slice_index t n_at) (sym same) ∙ n_told a ∙ ia.n_is;
+  p_is = sym (p_told b) ∙ ap (λ t. slice_index t p_at) (sym same) ∙ p_told a ∙ ia.p_is;
+  process = ib.process;
+  links_are = ib.links_are;
+}) same
+
+abbrev state_in : State → Reading → State
+state_in d (Ok s) = s
+state_in d (Err e) = d
+
+abbrev some_in : List ℕ → Option (List ℕ) → List ℕ
+some_in d None = d
+some_in d (Some x) = x
+
+mapped : (l : List LogRecord) → length (map logged_of l) ≡ length l
+mapped [] = refl
+mapped (y ∷ l) = ap suc (mapped l)
+
+module _ (S : System Guest) (room : S.log_room ≡ 64) (p : ℕ) (answers : List Answer) (others : ℕ → ℕ) (st : Status) (memory : Option (List ℕ)) (saved : Saved) (h : Held) (leaves : Reading → Type 0) (m q : ℕ)
+    (given_kernel : IsKernel m q saved.kernel) (gives : (r : Reading) → leaves r → Gives memory saved r)
+    (kernel_is : h.kernel ≡ saved.kernel) (unread_is : h.unread ≡ saved.log.items) (own_is : h.own ≡ false) (left_is : h.log_left + length saved.log.items ≡ 64)
+    (based_is : (s : ℕ) → s < saved.kernel.n → slice_index h.based s ≡ slice_index saved.kernel.received s)
+    (others_are : (r : ℕ) → r < saved.kernel.n → slice_index h.others r ≡ number_of_first (link_to saved.kernel.links r)) where
+  abbrev G : Guests Guest
+  G = S.guests
+
+  module _ (k : Which) (x : Stored) (state : State) (within : reach S p answers (save_of k st) ≤ length answers) (is : IsStoredSave G p answers others (save_of k st) x)
+      (state_is : Ok state ≡ reading_of x) (given : IsGiven memory saved state) where
+    abbrev s : Save
+    s = save_of k st
+
+    abbrev kept : List Answer
+    kept = oldest (reach S p answers s) answers
+
+    parts : state ≡ record { memory = x.words; kernel = text_of x.kernel; log = x.log }
+    parts = ap (state_in state) state_is
+
+    same : x.kernel ≡ saved.kernel
+    same = same_kernel G.count p m q x.kernel saved.kernel is.kernel_ok given_kernel (sym (ap (λ (z : State). z.kernel) parts) ∙ given.kernel_is)
+
+    log_same : x.log ≡ saved.log.items
+    log_same = sym (ap (λ (z : State). z.log) parts) ∙ given.log_is
+
+    at_reach : s.position ≤ reach S p answers s
+    at_reach = omega arith
+
+    local_same : at_position G p s.position answers ≡ at_position G p s.position kept
+    local_same = ap (λ ds. local G p ds) (sym (oldest_twice s.position (reach S p answers s) answers at_reach))
+
+    count_is : saved.kernel.n ≡ G.count
+    count_is = ap (λ (z : Kernel). z.n) (sym same) ∙ is.kernel_ok.n_is
+
+    kernel_at : IsKernelAt G.count p s.position (at_position G p s.position kept) x.words saved.kernel
+    kernel_at = subst (λ z. IsKernelAt G.count p s.position (at_position G p s.position kept) x.words z) same (subst (λ (l : Local Guest). IsKernelAt G.count p s.position l x.words x.kernel) local_same is.kernel_is)
+
+    first_at : (r : ℕ) → r < G.count → slice_index h.others r ≡ number_of_first (link_to saved.kernel.links r)
+    first_at r less = others_are r (subst (λ n. r < n) (sym count_is) less)
+
+    at_words : IsAt S p kept (risen s) x.words h
+    at_words = record {
+      kernel_is = subst (λ z. IsKernelAt G.count p s.position (at_position G p s.position kept) x.words z) (sym kernel_is) kernel_at;
+      kept = λ r less. ap (λ (z : Kernel). (link_to z.links r).kept) kernel_is ∙ (kernel_at.links r less).kept ∙ ap (λ n. drop n ((at_position G p s.position kept).sent r)) (sym (first_at r less));
+      unread_is = ap (map logged_of) (unread_is ∙ sym log_same) ∙ is.log_is;
+      own_is = own_is;
+      left_is = let e = ap (λ l. length l) log_same in let f = ap (λ l. length l) is.log_is in let l = mapped x.log in omega (arith, left_is, e, f, l, room);
+      based_is = λ r less. based_is r (subst (λ n. r < n) (sym count_is) less) ∙ kernel_at.received r less;
+    }
+
+    memory_is : memory ≡ Some x.words
+    memory_is = given.memory_is ∙ ap (λ (z : State). Some z.memory) parts
+
+    reading_same : (r : Reading) → leaves r → r ≡ reading_of (record { words = x.words; kernel = saved.kernel; log = x.log })
+    reading_same r l = by_reading r (gives r l)
+      where
+        by_reading : (r : Reading) → Gives memory saved r → r ≡ reading_of (record { words = x.words; kernel = saved.kernel; log = x.log })
+        by_reading (Err e) g = absurd g
+        by_reading (Ok z) g = let w : z.memory ≡ x.words = ap (some_in []) (sym g.memory_is ∙ memory_is) in let t : z.kernel ≡ text_of saved.kernel = g.kernel_is in let l : z.log ≡ x.log = g.log_is ∙ sym log_same in
+            ap (λ ws. Ok (record { memory = ws; kernel = z.kernel; log = z.log })) w ∙ ap (λ ks. Ok (record { memory = x.words; kernel = ks; log = z.log })) t ∙ ap (λ ls. Ok (record { memory = x.words; kernel = text_of saved.kernel; log = ls })) l
+
+    risen_by : IsRisen S p answers st memory h leaves
+    risen_by = record {
+      which = k;
+      over = record {
+        going = record { up = refl; one = refl; from = omega arith; within = subst (λ n. s.position ≤ n) (sym (oldest_length (reach S p answers s) answers within)) at_reach };
+        process = subst (λ o. IsProcess S p kept (risen s) o h) (sym memory_is) at_words;
+        stands = λ r l. inl (
+          record { words = x.words; kernel = saved.kernel; log = x.log },
+          reading_same r l,
+          record {
+            kernel_ok = record { n_is = count_is; p_is = ap (λ (z : Kernel). z.p) (sym same) ∙ is.kernel_ok.p_is; process = given_kernel.process; links_are = given_kernel.links_are };
+            kernel_is = kernel_at;
+            first = λ r less. let e = first_at r less in omega (arith, e);
+            log_is = is.log_is;
+          },
+        );
+      };
+    }
+
+  -- of some image that is left
+  pub risen_from : (before : Reading → Type 0) → Stands G p answers others st before → ((r : Reading) → leaves r → before r) → ((k : Which) → reach S p answers (save_of k st) ≤ length answers)
+      → (r : Reading) → leaves r → IsRisen S p answers st memory h leaves
+  risen_from before stood less within (Err e) l = absurd (gives (Err e) l)
+  risen_from before stood less within (Ok state) l = ⊎_elim
+      (λ x. risen_by Older x.0 state (within Older) x.2 x.1 (gives (Ok state) l))
+      (λ x. risen_by Newer x.0 state (within Newer) x.2 x.1 (gives (Ok state) l))
+      (stood (Ok state) (less (Ok state) l))
+
+-- where the memory is told
+pub where_told : {A P : Type 0} (o : Option A) → (IsSome o → P) → IfSome o (λ x. P)
+where_told None f = tt
+where_told (Some x) f = f refl

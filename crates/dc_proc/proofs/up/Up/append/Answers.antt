@@ -1,0 +1,14 @@
+use Rattle.std.proofs.Common.{◌-◌, refl, arith}
+use Rattle.dc_proc.proofs.Logs.{log_torn, over_logged}
+use Rattle.dc_proc.proofs.Texts.{any_err}
+use Rattle.dc_proc.specs.Carried.{system}
+use Rattle.dc_proc.specs.Ups.{held}
+use Rattle.dc_proc.proofs.up.Up.append.Goals as goal
+
+pub returns-in_err-append_log-clause-torn : goal.returns-in_err-append_log-clause-torn
+returns-in_err-append_log-clause-torn g c = any_err c.from_residual.result (λ images inputs protocol p answers st d from over.
+    log_torn (system images inputs protocol).guests p answers _ c.args.rec.now st _ _ over.going.one over.stands (λ r l. c.in_err-append_log.ensures.between d r from l))
+
+pub returns-clause-goes : goal.returns-clause-goes
+returns-clause-goes g c images inputs protocol p answers st d from over = over_logged (system images inputs protocol) p answers st (held c.args.self.now) c.args.rec.now _ _ _ _ (c.args.self.now.log_left - 1) _ over refl (omega (arith, c.requires.room))
+    c.in_ok-append_log.ensures.memory (λ r l. c.in_ok-append_log.ensures.stands d r from l)

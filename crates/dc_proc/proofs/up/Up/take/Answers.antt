@@ -1,0 +1,164 @@
+use Rattle.std.proofs.Common.{◌≡◌, ◌∙◌, ◌≤◌, Some, IfSome, ap, sym, subst, rules, refl, arith, slice_index, true}
+use Rattle.dc_events.specs.Kinds.{kind_of}
+use Rattle.dc_guest.specs.Answers.{answer_of, effect_of, may_answer}
+use Rattle.dc_guest.specs.Guest.{Bare, event_of, machine_over, next_of, over}
+use Rattle.dc_kernel.specs.Kernels.{Kernel}
+use Rattle.dc_proc.proofs.Adding.{answer_there, over_added}
+use Rattle.dc_proc.proofs.Buses.{call_ok}
+use Rattle.dc_proc.proofs.Moving.{over_next}
+use Rattle.dc_proc.proofs.Stopped.{first_at, log_at_inputs, over_as, record_is, same_twice, second_at, stands_as, still, stopped_after, stopped_before, stopped_event, stopped_log, told_at, unstopped}
+use Rattle.dc_proc.proofs.Taken.{acts_same, append_kernel, commit_bare, shown_here, whole_next}
+use Rattle.dc_proc.proofs.Texts.{any_err}
+use Rattle.dc_proc.specs.Calls.{done, on}
+use Rattle.dc_proc.specs.Carried.{system}
+use Rattle.dc_proc.specs.Following.{DeviceLaws, call_then}
+use Rattle.dc_proc.specs.Processes.{IsAt, IsOver, Stands, logged_of}
+use Rattle.dc_proc.specs.Turns.{acts_with}
+use Rattle.dc_proc.specs.Ups.{held}
+use Rattle.dc_recovery.specs.Alone.{answers_alone}
+use Rattle.dc_recovery.specs.Parts.{fallen, first_of, passed, second_of, sets_own, torn, torn_log}
+use Rattle.dc_recovery.specs.Parts.Place.{Nowhere}
+use Rattle.dc_recovery.specs.Saves.{answer_at}
+use Rattle.dc_proc.proofs.up.Up.take.Goals as goal
+
+pub commit_if-requires-2-clause-whole : goal.commit_if-requires-2-clause-whole
+commit_if-requires-2-clause-whole g c = whole_next c.append_if.new.self c.note_event-shown.new.self c.in_ok-append_if.ensures.whole (ap (λ (b : Bare). b.ended) (c.in_ok-append_if.ensures.guest ∙ c.in_ok-commit_if.ensures.guest) ∙ c.requires.runs) c.args.next.now (answer_of c.args.answer.now) c.effect-effect.result (search rules) (search rules) (search rules) (search rules) (search rules)
+
+pub returns-clause-acts : goal.returns-clause-acts
+returns-clause-acts g c = c.add_act.ensures.acts ∙ acts_same c.args.acts.now.items c.args.self.now.kernel c.commit_if.new.self.kernel c.args.t (answer_of c.args.answer.now)
+    (commit_bare c.rule-asked.result.before c.args.self.now c.commit_if.new.self c.commit_if.new.self.based.items c.in_ok-commit_if.ensures.held c.in_ok-commit_if.ensures.kept)
+
+pub returns-in_err-append_if-clause-call : goal.returns-in_err-append_if-clause-call
+returns-in_err-append_if-clause-call g c = let laws : DeviceLaws g.C.Checkpoint = record {
+  untouched_self = g.met.C.Checkpoint.untouched_self;
+  untouched_on = g.met.C.Checkpoint.untouched_on;
+  continues_self = g.met.C.Checkpoint.continues_self;
+  continues_on = g.met.C.Checkpoint.continues_on;
+} in
+    let both = call_then g.C.Checkpoint laws c.append_if.result (on c.args.store.now c.args.dev.now) (on c.commit_if.new.store c.commit_if.new.dev) (on c.append_if.new.store c.append_if.new.dev) c.in_ok-commit_if.ensures.call c.append_if.ensures.call in search rules
+
+pub returns-in_err-advance-clause-call : goal.returns-in_err-advance-clause-call
+returns-in_err-advance-clause-call g c = let laws : DeviceLaws g.C.Checkpoint = record {
+  untouched_self = g.met.C.Checkpoint.untouched_self;
+  untouched_on = g.met.C.Checkpoint.untouched_on;
+  continues_self = g.met.C.Checkpoint.continues_self;
+  continues_on = g.met.C.Checkpoint.continues_on;
+} in
+    let both = call_then g.C.Checkpoint laws done (on c.args.store.now c.args.dev.now) (on c.commit_if.new.store c.commit_if.new.dev) (on c.append_if.new.store c.append_if.new.dev) c.in_ok-commit_if.ensures.call c.in_ok-append_if.ensures.call in
+    let all = call_then g.C.Checkpoint laws c.advance.result (on c.args.store.now c.args.dev.now) (on c.append_if.new.store c.append_if.new.dev) (on c.advance.new.store c.advance.new.dev) both c.advance.ensures.stores.call in search rules
+
+pub returns-in_err-commit_if-2-clause-call : goal.returns-in_err-commit_if-2-clause-call
+returns-in_err-commit_if-2-clause-call g c = let laws : DeviceLaws g.C.Checkpoint = record {
+  untouched_self = g.met.C.Checkpoint.untouched_self;
+  untouched_on = g.met.C.Checkpoint.untouched_on;
+  continues_self = g.met.C.Checkpoint.continues_self;
+  continues_on = g.met.C.Checkpoint.continues_on;
+} in
+    let both = call_then g.C.Checkpoint laws done (on c.args.store.now c.args.dev.now) (on c.commit_if.new.store c.commit_if.new.dev) (on c.append_if.new.store c.append_if.new.dev) c.in_ok-commit_if.ensures.call c.in_ok-append_if.ensures.call in
+    let three = call_then g.C.Checkpoint laws done (on c.args.store.now c.args.dev.now) (on c.append_if.new.store c.append_if.new.dev) (on c.advance.new.store c.advance.new.dev) both c.in_ok-advance.ensures.stores.call in
+    let all = call_then g.C.Checkpoint laws c.commit_if-2.result (on c.args.store.now c.args.dev.now) (on c.advance.new.store c.advance.new.dev) (on c.commit_if-2.new.store c.commit_if-2.new.dev) three c.commit_if-2.ensures.call in search rules
+
+pub returns-clause-call : goal.returns-clause-call
+returns-clause-call g c = let laws : DeviceLaws g.C.Checkpoint = record {
+  untouched_self = g.met.C.Checkpoint.untouched_self;
+  untouched_on = g.met.C.Checkpoint.untouched_on;
+  continues_self = g.met.C.Checkpoint.continues_self;
+  continues_on = g.met.C.Checkpoint.continues_on;
+} in
+    let both = call_then g.C.Checkpoint laws done (on c.args.store.now c.args.dev.now) (on c.commit_if.new.store c.commit_if.new.dev) (on c.append_if.new.store c.append_if.new.dev) c.in_ok-commit_if.ensures.call c.in_ok-append_if.ensures.call in
+    let three = call_then g.C.Checkpoint laws done (on c.args.store.now c.args.dev.now) (on c.append_if.new.store c.append_if.new.dev) (on c.advance.new.store c.advance.new.dev) both c.in_ok-advance.ensures.stores.call in
+    call_ok g.C.Checkpoint (on c.args.store.now c.args.dev.now) (on c.commit_if-2.new.store c.commit_if-2.new.dev) _ (call_then g.C.Checkpoint laws done (on c.args.store.now c.args.dev.now) (on c.advance.new.store c.advance.new.dev) (on c.commit_if-2.new.store c.commit_if-2.new.dev) three c.in_ok-commit_if-2.ensures.call)
+
+pub returns-clause-shown : goal.returns-clause-shown
+returns-clause-shown g c = shown_here _ c.args.next.now c.effect-effect.result c.args.self.now.guest c.args.self.now.kernel c.append_if.new.self.kernel _ c.effect-effect.ensures.effect
+    (append_kernel c.rule-asked.result.log c.commit_if.new.self c.append_if.new.self _ c.in_ok-append_if.ensures.held c.in_ok-append_if.ensures.kept ∙ commit_bare c.rule-asked.result.before c.args.self.now c.commit_if.new.self c.commit_if.new.self.based.items c.in_ok-commit_if.ensures.held c.in_ok-commit_if.ensures.kept) (search rules)
+
+pub returns-in_err-commit_if-clause-stopped : goal.returns-in_err-commit_if-clause-stopped
+returns-in_err-commit_if-clause-stopped g c = any_err c.from_residual.result (λ images inputs p answers st d words from told stood alone.
+    let here : IsAt (system images inputs c.args.self.now.protocol) p answers st words (held c.args.self.now) = told_at (λ ws. IsAt (system images inputs c.args.self.now.protocol) p answers st ws (held c.args.self.now)) (g.C.Checkpoint.contents c.args.store.now c.args.dev.now) words told stood.process in
+    let found : c.args.next.now ≡ next_of (over c.args.self.now.guest words) = told_at (λ ws. c.args.next.now ≡ next_of (over c.args.self.now.guest ws)) (g.C.Checkpoint.contents c.args.store.now c.args.dev.now) words told c.requires.found in
+    stopped_before images inputs c.args.self.now.protocol p answers st (answer_of c.args.answer.now) words c.args.self.now c.requires.whole here c.requires.runs stood.going c.requires.sender c.args.next.now c.kind-kind.result c.rule-asked.result c.replays-replay.result found c.kind-kind.ensures c.rule-asked.ensures c.replays-replay.ensures (slice_index c.args.self.now.others.items) (g.C.Checkpoint.leaves c.commit_if.new.store c.commit_if.new.dev d) (record { before = c.args.acts.now.items; more = acts_with c.args.acts.now.items c.args.self.now.kernel c.args.t (answer_of c.args.answer.now); after = c.args.acts.now.items }) c.in_err-commit_if.ensures.due (c.in_err-commit_if.ensures.torn images inputs c.args.self.now.protocol p answers st d from stood) refl)
+
+pub returns-in_err-append_if-clause-stopped : goal.returns-in_err-append_if-clause-stopped
+returns-in_err-append_if-clause-stopped g c = any_err c.from_residual-in_err-append_if.result (λ images inputs p answers st d words from told stood alone.
+    let here : IsAt (system images inputs c.args.self.now.protocol) p answers st words (held c.args.self.now) = told_at (λ ws. IsAt (system images inputs c.args.self.now.protocol) p answers st ws (held c.args.self.now)) (g.C.Checkpoint.contents c.args.store.now c.args.dev.now) words told stood.process in
+    let found : c.args.next.now ≡ next_of (over c.args.self.now.guest words) = told_at (λ ws. c.args.next.now ≡ next_of (over c.args.self.now.guest ws)) (g.C.Checkpoint.contents c.args.store.now c.args.dev.now) words told c.requires.found in
+    let over1 = over_added (system images inputs c.args.self.now.protocol) p answers st (first_of c.rule-asked.result.before st) (answer_of c.args.answer.now) (g.C.Checkpoint.contents c.commit_if.new.store c.commit_if.new.dev) (held c.commit_if.new.self) (g.C.Checkpoint.leaves c.commit_if.new.store c.commit_if.new.dev d) (c.in_ok-commit_if.ensures.goes images inputs c.args.self.now.protocol p answers st d from stood) in
+    let from1 : g.C.Checkpoint.floor c.commit_if.new.store ≤ d = omega (arith, from, c.in_ok-commit_if.ensures.call.floor_less) in
+    let bare1 = commit_bare c.rule-asked.result.before c.args.self.now c.commit_if.new.self c.commit_if.new.self.based.items c.in_ok-commit_if.ensures.held c.in_ok-commit_if.ensures.kept in
+    let kinds : may_answer (answer_of c.args.answer.now) c.kind-kind.result ≡ true = subst (λ k. may_answer (answer_of c.args.answer.now) k ≡ true) (sym c.kind-kind.ensures) (told_at (λ ws. may_answer (answer_of c.args.answer.now) (kind_of c.args.next.now) ≡ true) (g.C.Checkpoint.contents c.args.store.now c.args.dev.now) words told c.requires.kind) in
+    let logs : c.rule-asked.result.log ≡ true → logged_of c.record_of-rec.result ≡ (record { position = st.position; answer = (answer_of c.args.answer.now) }) = λ due. c.record_of-rec.ensures.logged (log_at_inputs c.args.self.now.protocol c.kind-kind.result _ c.rule-asked.result c.rule-asked.ensures due) kinds
+    ∙ ap (λ i. record { position = i; answer = (answer_of c.args.answer.now) }) (ap (λ (k : Kernel). k.position) bare1 ∙ here.kernel_is.position) in
+    stopped_log images inputs c.args.self.now.protocol p answers st (answer_of c.args.answer.now) words c.args.self.now c.requires.whole here c.requires.runs stood.going c.requires.sender c.args.next.now c.kind-kind.result c.rule-asked.result c.replays-replay.result found c.kind-kind.ensures c.rule-asked.ensures c.replays-replay.ensures (slice_index c.args.self.now.others.items) (g.C.Checkpoint.leaves c.append_if.new.store c.append_if.new.dev d) (record { before = c.args.acts.now.items; more = acts_with c.args.acts.now.items c.args.self.now.kernel c.args.t (answer_of c.args.answer.now); after = c.add_act.new.acts.items }) c.in_err-append_if.ensures.due
+    (stands_as (system images inputs c.args.self.now.protocol) p (answers_alone answers st (answer_of c.args.answer.now) Nowhere) (torn_log (record { position = st.position; answer = (answer_of c.args.answer.now) }) (first_of c.rule-asked.result.before st)) (g.C.Checkpoint.leaves c.append_if.new.store c.append_if.new.dev d) c.commit_if.new.self.others.items c.args.self.now.others.items c.in_ok-commit_if.ensures.same.others_same
+    (subst (λ y. Stands (system images inputs c.args.self.now.protocol).guests p (answers_alone answers st (answer_of c.args.answer.now) Nowhere) (slice_index c.commit_if.new.self.others.items) (torn_log y (first_of c.rule-asked.result.before st)) (g.C.Checkpoint.leaves c.append_if.new.store c.append_if.new.dev d)) (logs c.in_err-append_if.ensures.due) (c.in_err-append_if.ensures.torn images inputs c.args.self.now.protocol p (answers_alone answers st (answer_of c.args.answer.now) Nowhere) (first_of c.rule-asked.result.before st) d from1 over1)))
+    (c.add_act.ensures.acts ∙ acts_same c.args.acts.now.items c.args.self.now.kernel c.commit_if.new.self.kernel c.args.t (answer_of c.args.answer.now) bare1))
+
+pub returns-in_err-advance-clause-stopped : goal.returns-in_err-advance-clause-stopped
+returns-in_err-advance-clause-stopped g c = any_err c.from_residual-in_err-advance.result (λ images inputs p answers st d words from told stood alone.
+    let here : IsAt (system images inputs c.args.self.now.protocol) p answers st words (held c.args.self.now) = told_at (λ ws. IsAt (system images inputs c.args.self.now.protocol) p answers st ws (held c.args.self.now)) (g.C.Checkpoint.contents c.args.store.now c.args.dev.now) words told stood.process in
+    let found : c.args.next.now ≡ next_of (over c.args.self.now.guest words) = told_at (λ ws. c.args.next.now ≡ next_of (over c.args.self.now.guest ws)) (g.C.Checkpoint.contents c.args.store.now c.args.dev.now) words told c.requires.found in
+    let over1 = over_added (system images inputs c.args.self.now.protocol) p answers st (first_of c.rule-asked.result.before st) (answer_of c.args.answer.now) (g.C.Checkpoint.contents c.commit_if.new.store c.commit_if.new.dev) (held c.commit_if.new.self) (g.C.Checkpoint.leaves c.commit_if.new.store c.commit_if.new.dev d) (c.in_ok-commit_if.ensures.goes images inputs c.args.self.now.protocol p answers st d from stood) in
+    let from1 : g.C.Checkpoint.floor c.commit_if.new.store ≤ d = omega (arith, from, c.in_ok-commit_if.ensures.call.floor_less) in
+    let bare1 = commit_bare c.rule-asked.result.before c.args.self.now c.commit_if.new.self c.commit_if.new.self.based.items c.in_ok-commit_if.ensures.held c.in_ok-commit_if.ensures.kept in
+    let kinds : may_answer (answer_of c.args.answer.now) c.kind-kind.result ≡ true = subst (λ k. may_answer (answer_of c.args.answer.now) k ≡ true) (sym c.kind-kind.ensures) (told_at (λ ws. may_answer (answer_of c.args.answer.now) (kind_of c.args.next.now) ≡ true) (g.C.Checkpoint.contents c.args.store.now c.args.dev.now) words told c.requires.kind) in
+    let logs : c.rule-asked.result.log ≡ true → logged_of c.record_of-rec.result ≡ (record { position = st.position; answer = (answer_of c.args.answer.now) }) = λ due. c.record_of-rec.ensures.logged (log_at_inputs c.args.self.now.protocol c.kind-kind.result _ c.rule-asked.result c.rule-asked.ensures due) kinds
+    ∙ ap (λ i. record { position = i; answer = (answer_of c.args.answer.now) }) (ap (λ (k : Kernel). k.position) bare1 ∙ here.kernel_is.position) in
+    let over2 = over_as (system images inputs c.args.self.now.protocol) p (answers_alone answers st (answer_of c.args.answer.now) Nowhere) (g.C.Checkpoint.contents c.append_if.new.store c.append_if.new.dev) (held c.append_if.new.self) (g.C.Checkpoint.leaves c.append_if.new.store c.append_if.new.dev d) (second_of c.rule-asked.result.log (logged_of c.record_of-rec.result) (first_of c.rule-asked.result.before st)) (second_of c.rule-asked.result.log (record { position = st.position; answer = (answer_of c.args.answer.now) }) (first_of c.rule-asked.result.before st)) (record_is c.rule-asked.result.log (logged_of c.record_of-rec.result) (record { position = st.position; answer = (answer_of c.args.answer.now) }) (first_of c.rule-asked.result.before st) logs)
+    (c.in_ok-append_if.ensures.goes images inputs c.args.self.now.protocol p (answers_alone answers st (answer_of c.args.answer.now) Nowhere) (first_of c.rule-asked.result.before st) d from1 over1) in
+    let from2 : g.C.Checkpoint.floor c.append_if.new.store ≤ d = omega (arith, from1, c.in_ok-append_if.ensures.call.floor_less) in
+    stopped_event images inputs c.args.self.now.protocol p answers st (answer_of c.args.answer.now) words c.args.self.now c.requires.whole here c.requires.runs stood.going c.requires.sender c.args.next.now c.kind-kind.result c.rule-asked.result c.replays-replay.result found c.kind-kind.ensures c.rule-asked.ensures c.replays-replay.ensures (slice_index c.args.self.now.others.items) (g.C.Checkpoint.leaves c.advance.new.store c.advance.new.dev d) (record { before = c.args.acts.now.items; more = acts_with c.args.acts.now.items c.args.self.now.kernel c.args.t (answer_of c.args.answer.now); after = c.add_act.new.acts.items }) c.in_err-advance.ensures.may
+    (stands_as (system images inputs c.args.self.now.protocol) p (answers_alone answers st (answer_of c.args.answer.now) Nowhere) (fallen (second_of c.rule-asked.result.log (record { position = st.position; answer = (answer_of c.args.answer.now) }) (first_of c.rule-asked.result.before st))) (g.C.Checkpoint.leaves c.advance.new.store c.advance.new.dev d) c.append_if.new.self.others.items c.args.self.now.others.items (c.in_ok-append_if.ensures.same.others_same ∙ c.in_ok-commit_if.ensures.same.others_same)
+    (λ r l. over2.stands r (c.in_err-advance.ensures.stores.stands d r from2 l)))
+    (c.add_act.ensures.acts ∙ acts_same c.args.acts.now.items c.args.self.now.kernel c.commit_if.new.self.kernel c.args.t (answer_of c.args.answer.now) bare1))
+
+pub returns-in_err-commit_if-2-clause-stopped : goal.returns-in_err-commit_if-2-clause-stopped
+returns-in_err-commit_if-2-clause-stopped g c = any_err c.from_residual-in_err-commit_if-2.result (λ images inputs p answers st d words from told stood alone.
+    let here : IsAt (system images inputs c.args.self.now.protocol) p answers st words (held c.args.self.now) = told_at (λ ws. IsAt (system images inputs c.args.self.now.protocol) p answers st ws (held c.args.self.now)) (g.C.Checkpoint.contents c.args.store.now c.args.dev.now) words told stood.process in
+    let found : c.args.next.now ≡ next_of (over c.args.self.now.guest words) = told_at (λ ws. c.args.next.now ≡ next_of (over c.args.self.now.guest ws)) (g.C.Checkpoint.contents c.args.store.now c.args.dev.now) words told c.requires.found in
+    let over1 = over_added (system images inputs c.args.self.now.protocol) p answers st (first_of c.rule-asked.result.before st) (answer_of c.args.answer.now) (g.C.Checkpoint.contents c.commit_if.new.store c.commit_if.new.dev) (held c.commit_if.new.self) (g.C.Checkpoint.leaves c.commit_if.new.store c.commit_if.new.dev d) (c.in_ok-commit_if.ensures.goes images inputs c.args.self.now.protocol p answers st d from stood) in
+    let from1 : g.C.Checkpoint.floor c.commit_if.new.store ≤ d = omega (arith, from, c.in_ok-commit_if.ensures.call.floor_less) in
+    let bare1 = commit_bare c.rule-asked.result.before c.args.self.now c.commit_if.new.self c.commit_if.new.self.based.items c.in_ok-commit_if.ensures.held c.in_ok-commit_if.ensures.kept in
+    let kinds : may_answer (answer_of c.args.answer.now) c.kind-kind.result ≡ true = subst (λ k. may_answer (answer_of c.args.answer.now) k ≡ true) (sym c.kind-kind.ensures) (told_at (λ ws. may_answer (answer_of c.args.answer.now) (kind_of c.args.next.now) ≡ true) (g.C.Checkpoint.contents c.args.store.now c.args.dev.now) words told c.requires.kind) in
+    let logs : c.rule-asked.result.log ≡ true → logged_of c.record_of-rec.result ≡ (record { position = st.position; answer = (answer_of c.args.answer.now) }) = λ due. c.record_of-rec.ensures.logged (log_at_inputs c.args.self.now.protocol c.kind-kind.result _ c.rule-asked.result c.rule-asked.ensures due) kinds
+    ∙ ap (λ i. record { position = i; answer = (answer_of c.args.answer.now) }) (ap (λ (k : Kernel). k.position) bare1 ∙ here.kernel_is.position) in
+    let over2 = over_as (system images inputs c.args.self.now.protocol) p (answers_alone answers st (answer_of c.args.answer.now) Nowhere) (g.C.Checkpoint.contents c.append_if.new.store c.append_if.new.dev) (held c.append_if.new.self) (g.C.Checkpoint.leaves c.append_if.new.store c.append_if.new.dev d) (second_of c.rule-asked.result.log (logged_of c.record_of-rec.result) (first_of c.rule-asked.result.before st)) (second_of c.rule-asked.result.log (record { position = st.position; answer = (answer_of c.args.answer.now) }) (first_of c.rule-asked.result.before st)) (record_is c.rule-asked.result.log (logged_of c.record_of-rec.result) (record { position = st.position; answer = (answer_of c.args.answer.now) }) (first_of c.rule-asked.result.before st) logs)
+    (c.in_ok-append_if.ensures.goes images inputs c.args.self.now.protocol p (answers_alone answers st (answer_of c.args.answer.now) Nowhere) (first_of c.rule-asked.result.before st) d from1 over1) in
+    let from2 : g.C.Checkpoint.floor c.append_if.new.store ≤ d = omega (arith, from1, c.in_ok-append_if.ensures.call.floor_less) in
+    let there : answer_at (second_of c.rule-asked.result.log (record { position = st.position; answer = (answer_of c.args.answer.now) }) (first_of c.rule-asked.result.before st)).position (answers_alone answers st (answer_of c.args.answer.now) Nowhere) ≡ Some (answer_of c.args.answer.now) = subst (λ i. answer_at i (answers_alone answers st (answer_of c.args.answer.now) Nowhere) ≡ Some (answer_of c.args.answer.now)) (sym (second_at c.rule-asked.result.log (record { position = st.position; answer = (answer_of c.args.answer.now) }) (first_of c.rule-asked.result.before st) ∙ first_at c.rule-asked.result.before st)) (answer_there (system images inputs c.args.self.now.protocol) p answers st (answer_of c.args.answer.now) alone) in
+    let same2 = same_twice (g.C.Checkpoint.contents c.args.store.now c.args.dev.now) (g.C.Checkpoint.contents c.commit_if.new.store c.commit_if.new.dev) (g.C.Checkpoint.contents c.append_if.new.store c.append_if.new.dev) c.in_ok-commit_if.ensures.memory c.in_ok-append_if.ensures.memory in
+    let guest2 = c.in_ok-append_if.ensures.guest ∙ c.in_ok-commit_if.ensures.guest in
+    let over4 : IsOver (system images inputs c.args.self.now.protocol) p (answers_alone answers st (answer_of c.args.answer.now) Nowhere) (passed c.replays-replay.result (sets_own c.rule-asked.result.log c.replays-replay.result (answer_of c.args.answer.now)) (second_of c.rule-asked.result.log (record { position = st.position; answer = (answer_of c.args.answer.now) }) (first_of c.rule-asked.result.before st))) (g.C.Checkpoint.contents c.advance.new.store c.advance.new.dev) (held c.note_event-shown.new.self) (g.C.Checkpoint.leaves c.advance.new.store c.advance.new.dev d) = over_next images inputs c.args.self.now.protocol p (answers_alone answers st (answer_of c.args.answer.now) Nowhere) (second_of c.rule-asked.result.log (record { position = st.position; answer = (answer_of c.args.answer.now) }) (first_of c.rule-asked.result.before st)) (answer_of c.args.answer.now) there c.append_if.new.self c.note_event-shown.new.self c.in_ok-append_if.ensures.whole (whole_next c.append_if.new.self c.note_event-shown.new.self c.in_ok-append_if.ensures.whole (ap (λ (b : Bare). b.ended) (c.in_ok-append_if.ensures.guest ∙ c.in_ok-commit_if.ensures.guest) ∙ c.requires.runs) c.args.next.now (answer_of c.args.answer.now) c.effect-effect.result (search rules) (search rules) (search rules) (search rules) (search rules)) (ap (λ (b : Bare). b.ended) guest2 ∙ c.requires.runs) c.args.next.now c.effect-effect.result c.replays-replay.result c.rule-asked.result.log
+    (search rules) (search rules) (search rules) (search rules) (search rules) (search rules) (g.C.Checkpoint.contents c.append_if.new.store c.append_if.new.dev) (g.C.Checkpoint.contents c.advance.new.store c.advance.new.dev) (g.C.Checkpoint.leaves c.append_if.new.store c.append_if.new.dev d) (g.C.Checkpoint.leaves c.advance.new.store c.advance.new.dev d) over2
+    (still (λ ws. c.args.next.now ≡ next_of (over c.append_if.new.self.guest ws)) (g.C.Checkpoint.contents c.args.store.now c.args.dev.now) (g.C.Checkpoint.contents c.append_if.new.store c.append_if.new.dev) same2 (subst (λ (b : Bare). IfSome (g.C.Checkpoint.contents c.args.store.now c.args.dev.now) (λ ws. c.args.next.now ≡ next_of (over b ws))) (sym guest2) c.requires.found))
+    (still (λ ws. c.effect-effect.result ≡ effect_of (event_of c.args.next.now (machine_over c.append_if.new.self.guest ws))) (g.C.Checkpoint.contents c.args.store.now c.args.dev.now) (g.C.Checkpoint.contents c.append_if.new.store c.append_if.new.dev) same2 (subst (λ (b : Bare). IfSome (g.C.Checkpoint.contents c.args.store.now c.args.dev.now) (λ ws. c.effect-effect.result ≡ effect_of (event_of c.args.next.now (machine_over b ws)))) (sym guest2) c.effect-effect.ensures.effect))
+    (search rules) (λ r l. c.in_ok-advance.ensures.stores.stands d r from2 l) in
+    let from4 : g.C.Checkpoint.floor c.advance.new.store ≤ d = omega (arith, from2, c.in_ok-advance.ensures.stores.call.floor_less) in
+    stopped_after images inputs c.args.self.now.protocol p answers st (answer_of c.args.answer.now) words c.args.self.now c.requires.whole here c.requires.runs stood.going c.requires.sender c.args.next.now c.kind-kind.result c.rule-asked.result c.replays-replay.result found c.kind-kind.ensures c.rule-asked.ensures c.replays-replay.ensures (slice_index c.args.self.now.others.items) (g.C.Checkpoint.leaves c.commit_if-2.new.store c.commit_if-2.new.dev d) (record { before = c.args.acts.now.items; more = acts_with c.args.acts.now.items c.args.self.now.kernel c.args.t (answer_of c.args.answer.now); after = c.add_act.new.acts.items }) c.in_err-commit_if-2.ensures.due
+    (stands_as (system images inputs c.args.self.now.protocol) p (answers_alone answers st (answer_of c.args.answer.now) Nowhere) (torn (passed c.replays-replay.result (sets_own c.rule-asked.result.log c.replays-replay.result (answer_of c.args.answer.now)) (second_of c.rule-asked.result.log (record { position = st.position; answer = (answer_of c.args.answer.now) }) (first_of c.rule-asked.result.before st)))) (g.C.Checkpoint.leaves c.commit_if-2.new.store c.commit_if-2.new.dev d) c.note_event-shown.new.self.others.items c.args.self.now.others.items (search rules)
+    (c.in_err-commit_if-2.ensures.torn images inputs c.args.self.now.protocol p (answers_alone answers st (answer_of c.args.answer.now) Nowhere) (passed c.replays-replay.result (sets_own c.rule-asked.result.log c.replays-replay.result (answer_of c.args.answer.now)) (second_of c.rule-asked.result.log (record { position = st.position; answer = (answer_of c.args.answer.now) }) (first_of c.rule-asked.result.before st))) d from4 over4))
+    (c.add_act.ensures.acts ∙ acts_same c.args.acts.now.items c.args.self.now.kernel c.commit_if.new.self.kernel c.args.t (answer_of c.args.answer.now) bare1))
+
+pub returns-clause-goes : goal.returns-clause-goes
+returns-clause-goes g c images inputs p answers st d words from told stood alone =
+    let here : IsAt (system images inputs c.args.self.now.protocol) p answers st words (held c.args.self.now) = told_at (λ ws. IsAt (system images inputs c.args.self.now.protocol) p answers st ws (held c.args.self.now)) (g.C.Checkpoint.contents c.args.store.now c.args.dev.now) words told stood.process in
+    let found : c.args.next.now ≡ next_of (over c.args.self.now.guest words) = told_at (λ ws. c.args.next.now ≡ next_of (over c.args.self.now.guest ws)) (g.C.Checkpoint.contents c.args.store.now c.args.dev.now) words told c.requires.found in
+    let over1 = over_added (system images inputs c.args.self.now.protocol) p answers st (first_of c.rule-asked.result.before st) (answer_of c.args.answer.now) (g.C.Checkpoint.contents c.commit_if.new.store c.commit_if.new.dev) (held c.commit_if.new.self) (g.C.Checkpoint.leaves c.commit_if.new.store c.commit_if.new.dev d) (c.in_ok-commit_if.ensures.goes images inputs c.args.self.now.protocol p answers st d from stood) in
+    let from1 : g.C.Checkpoint.floor c.commit_if.new.store ≤ d = omega (arith, from, c.in_ok-commit_if.ensures.call.floor_less) in
+    let bare1 = commit_bare c.rule-asked.result.before c.args.self.now c.commit_if.new.self c.commit_if.new.self.based.items c.in_ok-commit_if.ensures.held c.in_ok-commit_if.ensures.kept in
+    let kinds : may_answer (answer_of c.args.answer.now) c.kind-kind.result ≡ true = subst (λ k. may_answer (answer_of c.args.answer.now) k ≡ true) (sym c.kind-kind.ensures) (told_at (λ ws. may_answer (answer_of c.args.answer.now) (kind_of c.args.next.now) ≡ true) (g.C.Checkpoint.contents c.args.store.now c.args.dev.now) words told c.requires.kind) in
+    let logs : c.rule-asked.result.log ≡ true → logged_of c.record_of-rec.result ≡ (record { position = st.position; answer = (answer_of c.args.answer.now) }) = λ due. c.record_of-rec.ensures.logged (log_at_inputs c.args.self.now.protocol c.kind-kind.result _ c.rule-asked.result c.rule-asked.ensures due) kinds
+    ∙ ap (λ i. record { position = i; answer = (answer_of c.args.answer.now) }) (ap (λ (k : Kernel). k.position) bare1 ∙ here.kernel_is.position) in
+    let over2 = over_as (system images inputs c.args.self.now.protocol) p (answers_alone answers st (answer_of c.args.answer.now) Nowhere) (g.C.Checkpoint.contents c.append_if.new.store c.append_if.new.dev) (held c.append_if.new.self) (g.C.Checkpoint.leaves c.append_if.new.store c.append_if.new.dev d) (second_of c.rule-asked.result.log (logged_of c.record_of-rec.result) (first_of c.rule-asked.result.before st)) (second_of c.rule-asked.result.log (record { position = st.position; answer = (answer_of c.args.answer.now) }) (first_of c.rule-asked.result.before st)) (record_is c.rule-asked.result.log (logged_of c.record_of-rec.result) (record { position = st.position; answer = (answer_of c.args.answer.now) }) (first_of c.rule-asked.result.before st) logs)
+    (c.in_ok-append_if.ensures.goes images inputs c.args.self.now.protocol p (answers_alone answers st (answer_of c.args.answer.now) Nowhere) (first_of c.rule-asked.result.before st) d from1 over1) in
+    let from2 : g.C.Checkpoint.floor c.append_if.new.store ≤ d = omega (arith, from1, c.in_ok-append_if.ensures.call.floor_less) in
+    let there : answer_at (second_of c.rule-asked.result.log (record { position = st.position; answer = (answer_of c.args.answer.now) }) (first_of c.rule-asked.result.before st)).position (answers_alone answers st (answer_of c.args.answer.now) Nowhere) ≡ Some (answer_of c.args.answer.now) = subst (λ i. answer_at i (answers_alone answers st (answer_of c.args.answer.now) Nowhere) ≡ Some (answer_of c.args.answer.now)) (sym (second_at c.rule-asked.result.log (record { position = st.position; answer = (answer_of c.args.answer.now) }) (first_of c.rule-asked.result.before st) ∙ first_at c.rule-asked.result.before st)) (answer_there (system images inputs c.args.self.now.protocol) p answers st (answer_of c.args.answer.now) alone) in
+    let same2 = same_twice (g.C.Checkpoint.contents c.args.store.now c.args.dev.now) (g.C.Checkpoint.contents c.commit_if.new.store c.commit_if.new.dev) (g.C.Checkpoint.contents c.append_if.new.store c.append_if.new.dev) c.in_ok-commit_if.ensures.memory c.in_ok-append_if.ensures.memory in
+    let guest2 = c.in_ok-append_if.ensures.guest ∙ c.in_ok-commit_if.ensures.guest in
+    let over4 : IsOver (system images inputs c.args.self.now.protocol) p (answers_alone answers st (answer_of c.args.answer.now) Nowhere) (passed c.replays-replay.result (sets_own c.rule-asked.result.log c.replays-replay.result (answer_of c.args.answer.now)) (second_of c.rule-asked.result.log (record { position = st.position; answer = (answer_of c.args.answer.now) }) (first_of c.rule-asked.result.before st))) (g.C.Checkpoint.contents c.advance.new.store c.advance.new.dev) (held c.note_event-shown.new.self) (g.C.Checkpoint.leaves c.advance.new.store c.advance.new.dev d) = over_next images inputs c.args.self.now.protocol p (answers_alone answers st (answer_of c.args.answer.now) Nowhere) (second_of c.rule-asked.result.log (record { position = st.position; answer = (answer_of c.args.answer.now) }) (first_of c.rule-asked.result.before st)) (answer_of c.args.answer.now) there c.append_if.new.self c.note_event-shown.new.self c.in_ok-append_if.ensures.whole (whole_next c.append_if.new.self c.note_event-shown.new.self c.in_ok-append_if.ensures.whole (ap (λ (b : Bare). b.ended) (c.in_ok-append_if.ensures.guest ∙ c.in_ok-commit_if.ensures.guest) ∙ c.requires.runs) c.args.next.now (answer_of c.args.answer.now) c.effect-effect.result (search rules) (search rules) (search rules) (search rules) (search rules)) (ap (λ (b : Bare). b.ended) guest2 ∙ c.requires.runs) c.args.next.now c.effect-effect.result c.replays-replay.result c.rule-asked.result.log
+    (search rules) (search rules) (search rules) (search rules) (search rules) (search rules) (g.C.Checkpoint.contents c.append_if.new.store c.append_if.new.dev) (g.C.Checkpoint.contents c.advance.new.store c.advance.new.dev) (g.C.Checkpoint.leaves c.append_if.new.store c.append_if.new.dev d) (g.C.Checkpoint.leaves c.advance.new.store c.advance.new.dev d) over2
+    (still (λ ws. c.args.next.now ≡ next_of (over c.append_if.new.self.guest ws)) (g.C.Checkpoint.contents c.args.store.now c.args.dev.now) (g.C.Checkpoint.contents c.append_if.new.store c.append_if.new.dev) same2 (subst (λ (b : Bare). IfSome (g.C.Checkpoint.contents c.args.store.now c.args.dev.now) (λ ws. c.args.next.now ≡ next_of (over b ws))) (sym guest2) c.requires.found))
+    (still (λ ws. c.effect-effect.result ≡ effect_of (event_of c.args.next.now (machine_over c.append_if.new.self.guest ws))) (g.C.Checkpoint.contents c.args.store.now c.args.dev.now) (g.C.Checkpoint.contents c.append_if.new.store c.append_if.new.dev) same2 (subst (λ (b : Bare). IfSome (g.C.Checkpoint.contents c.args.store.now c.args.dev.now) (λ ws. c.effect-effect.result ≡ effect_of (event_of c.args.next.now (machine_over b ws)))) (sym guest2) c.effect-effect.ensures.effect))
+    (search rules) (λ r l. c.in_ok-advance.ensures.stores.stands d r from2 l) in
+    let from4 : g.C.Checkpoint.floor c.advance.new.store ≤ d = omega (arith, from2, c.in_ok-advance.ensures.stores.call.floor_less) in
+    unstopped images inputs c.args.self.now.protocol p answers st (answer_of c.args.answer.now) words c.args.self.now c.requires.whole here c.requires.runs stood.going c.requires.sender c.args.next.now c.kind-kind.result c.rule-asked.result c.replays-replay.result found c.kind-kind.ensures c.rule-asked.ensures c.replays-replay.ensures (g.C.Checkpoint.contents c.commit_if-2.new.store c.commit_if-2.new.dev) (held c.commit_if-2.new.self) (g.C.Checkpoint.leaves c.commit_if-2.new.store c.commit_if-2.new.dev d) (c.in_ok-commit_if-2.ensures.goes images inputs c.args.self.now.protocol p (answers_alone answers st (answer_of c.args.answer.now) Nowhere) (passed c.replays-replay.result (sets_own c.rule-asked.result.log c.replays-replay.result (answer_of c.args.answer.now)) (second_of c.rule-asked.result.log (record { position = st.position; answer = (answer_of c.args.answer.now) }) (first_of c.rule-asked.result.before st))) d from4 over4)

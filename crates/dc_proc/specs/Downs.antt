@@ -1,0 +1,47 @@
+-- What is left of a process that fell, and what one is that rose.
+use Rattle.std.specs.Prelude.{◌≡◌, ◌≤◌, ℕ, List, Option, Result, Ok, Err, length, vec_capacity}
+use Rattle.dc_checkpoint.specs.States.{Reading}
+use Rattle.dc_elf.specs.Images.{Image}
+use Rattle.dc_guest.specs.Guest.{Guest}
+use Rattle.dc_kernel.specs.Layout.{kernel_words}
+use Rattle.dc_kernel.specs.declared.faults.CheckFault.{CheckFault}
+use Rattle.dc_model.specs.Guests.{Answer}
+use Rattle.dc_model.specs.Process.{oldest}
+use Rattle.dc_proc.specs.Carried.{system}
+use Rattle.dc_proc.specs.Processes.{Held, IsOver, Stands}
+use Rattle.dc_proc.specs.declared.down.Down.{Down}
+use Rattle.dc_protocols.specs.declared.protocol.Protocol.{Protocol}
+use Rattle.dc_recovery.specs.Core.{Status, Which, save_of}
+use Rattle.dc_recovery.specs.Parts.{risen}
+use Rattle.dc_recovery.specs.Saves.{reach}
+use Rattle.dc_recovery.specs.Systems.{System}
+
+-- its room is there
+pub record IsDown (d : Down) : Type 0 where
+  pub text_long : length d.text.items ≡ kernel_words d.saved.kernel.n
+  pub based_long : length d.based.items ≡ d.saved.kernel.n
+  pub others_long : length d.others.items ≡ d.saved.kernel.n
+  pub log_room : 64 ≤ vec_capacity d.saved.log
+
+-- whose process it is
+pub record IsOf (n p : ℕ) (protocol : Protocol) (size : ℕ) (d : Down) : Type 0 where
+  pub n_is : d.saved.kernel.n ≡ n
+  pub p_is : d.saved.kernel.p ≡ p
+  pub protocol_is : d.protocol ≡ protocol
+  pub size_is : d.size ≡ size
+
+-- it is up at one of its two saves, and its acts past the reach of that save are gone
+pub record IsRisen (S : System Guest) (p : ℕ) (answers : List Answer) (st : Status) (memory : Option (List ℕ)) (held : Held) (leaves : Reading → Type 0) : Type 0 where
+  pub which : Which
+  pub over : IsOver S p (oldest (reach S p answers (save_of which st)) answers) (risen (save_of which st)) memory held leaves
+
+-- wherever it was in the theory, whatever its guest and its protocol: from what the images could stand for before, where no save reaches past its answers
+abbrev pub Rises : (Reading → Type 0) → Option (List ℕ) → Held → (Reading → Type 0) → Type 0
+Rises before memory held leaves = (images : List Image) (inputs : List (List (List ℕ))) (protocol : Protocol) (p : ℕ) (answers : List Answer) (others : ℕ → ℕ) (st : Status)
+    → Stands (system images inputs protocol).guests p answers others st before → ((k : Which) → reach (system images inputs protocol) p answers (save_of k st) ≤ length answers)
+    → IsRisen (system images inputs protocol) p answers st memory held leaves
+
+-- the fault alone
+abbrev pub fault_only : {A B : Type 0} → Result A (B × CheckFault) → Result (Unit {0}) CheckFault
+fault_only (Ok x) = Ok tt
+fault_only (Err e) = Err e.1

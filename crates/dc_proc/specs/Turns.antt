@@ -1,0 +1,76 @@
+-- A turn of one process: what its code finds, the acts that it adds, and what it leaves where it is stopped.
+use Rattle.std.specs.Prelude.{◌≡◌, ◌≢◌, ◌==◌, ◌≤◌, ◌+◌, ◌++◌, ℕ, List, [], ◌∷◌, Bool, true, false, Option, None, Some, if◌then◌else◌, slice_index}
+use Rattle.dc_acts.specs.Counted.{acts_of}
+use Rattle.dc_checkpoint.specs.States.{Reading}
+use Rattle.dc_checkpoint.specs.declared.checkpoint.Checkpoint as checkpoint
+use Rattle.dc_elf.specs.Images.{Image}
+use Rattle.dc_guest.specs.Guest.{Guest}
+use Rattle.dc_guest.specs.declared.effect.Effect.{Effect}
+use Rattle.dc_guest.specs.declared.effect.Effect.TheVariants.{Shows}
+use Rattle.dc_kernel.specs.Kernels.{Kernel}
+use Rattle.dc_kernel.specs.declared.records.LogRecord.{LogRecord}
+use Rattle.dc_model.specs.Guests.{Answer}
+use Rattle.dc_model.specs.Guests.Answer.{ReceiveFrom}
+use Rattle.dc_model.specs.World.{act_of}
+use Rattle.dc_model.specs.declared.act.Taken.{Taken}
+use Rattle.dc_proc.specs.Carried.{IsIn, Process, system}
+use Rattle.dc_proc.specs.Processes.{Stands}
+use Rattle.dc_proc.specs.declared.shown.Shown.{Shown}
+use Rattle.dc_protocols.specs.declared.protocol.Protocol.{Protocol}
+use Rattle.dc_recovery.specs.Alone.{IsAnswerAlone, MayStopAlone, answers_alone, status_alone}
+use Rattle.dc_recovery.specs.Core.{Status}
+use Rattle.dc_recovery.specs.Parts.{Place}
+use Rattle.dc_recovery.specs.Parts.Place.{Nowhere}
+use Rattle.dc_recovery.specs.Systems.{System}
+use Rattle.dc_recovery.specs.Turned.{has_act}
+
+-- a receipt that makes eight since the last commit
+abbrev pub makes_eight : List ℕ → List ℕ → Answer → Bool
+makes_eight received based (ReceiveFrom s message) = slice_index received s + 1 == slice_index based s + 8
+makes_eight received based _ = false
+
+-- nothing is left to read
+abbrev pub is_none : List LogRecord → Bool
+is_none [] = true
+is_none (x ∷ unread) = false
+
+-- what is shown, with its number
+abbrev pub shown_of : Effect → ℕ → Option Shown
+shown_of (Shows body) k = Some (record { k = k; body = body })
+shown_of _ k = None
+
+-- the acts with the act of a turn that was answered so, where it is new: where the process has taken as many events as it has acts
+abbrev pub acts_with : List Taken → Kernel → ℕ → Answer → List Taken
+acts_with acts k t a = if k.position == acts_of k.p acts then acts ++ record { t = t; p = k.p; act = act_of a } ∷ [] else acts
+
+-- a process's part of a core: its answers so far, and its status
+pub record Part : Type 0 where
+  pub p : ℕ
+  pub answers : List Answer
+  pub st : Status
+
+-- the acts before a turn, those with its act, and those after it
+pub record Written : Type 0 where
+  pub before : List Taken
+  pub more : List Taken
+  pub after : List Taken
+
+-- it was stopped in one of its places; each image stands for what a stop there leaves, and the act is there exactly where a stop there leaves it
+pub record IsStopped (S : System Guest) (part : Part) (a : Answer) (others : ℕ → ℕ) (leaves : Reading → Type 0) (acts : Written) : Type 0 where
+  pub place : Place
+  pub somewhere : place ≢ Nowhere
+  pub may : MayStopAlone S part.p part.answers part.st a place
+  pub stands : Stands S.guests part.p (answers_alone part.answers part.st a place) others (status_alone S part.p part.answers part.st a place) leaves
+  pub written : acts.after ≡ (if has_act place then acts.more else acts.before)
+
+-- with this answer, wherever it was in the theory and whatever its guest, where its memory is told: the turn takes it so much further
+abbrev pub TakesTurn : {C D : Type 0} → checkpoint.Ghosts C D → Protocol → Answer → Process C D → Process C D → Type 0
+TakesTurn g protocol a old new = (images : List Image) (inputs : List (List (List ℕ))) (p : ℕ) (answers : List Answer) (st : Status) (d : ℕ) (words : List ℕ) → g.floor old.store ≤ d
+    → g.contents old.store old.dev ≡ Some words → IsIn g (system images inputs protocol) p answers st d old → IsAnswerAlone (system images inputs protocol).guests p answers st a
+    → IsIn g (system images inputs protocol) p (answers_alone answers st a Nowhere) (status_alone (system images inputs protocol) p answers st a Nowhere) d new
+
+-- or it is stopped
+abbrev pub StopsTurn : {C D : Type 0} → checkpoint.Ghosts C D → Protocol → Answer → Process C D → Process C D → Written → Type 0
+StopsTurn g protocol a old new acts = (images : List Image) (inputs : List (List (List ℕ))) (p : ℕ) (answers : List Answer) (st : Status) (d : ℕ) (words : List ℕ) → g.floor old.store ≤ d
+    → g.contents old.store old.dev ≡ Some words → IsIn g (system images inputs protocol) p answers st d old → IsAnswerAlone (system images inputs protocol).guests p answers st a
+    → IsStopped (system images inputs protocol) (record { p = p; answers = answers; st = st }) a (slice_index old.held.others) (g.leaves new.store new.dev d) acts

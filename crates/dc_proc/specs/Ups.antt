@@ -1,0 +1,36 @@
+-- What a process of the code that is up holds.
+use Rattle.std.specs.Prelude.{◌≡◌, ◌≤◌, drop, length, vec_capacity}
+use Rattle.dc_kernel.specs.Layout.{kernel_words}
+use Rattle.dc_proc.specs.Processes.{Held, has_ended}
+use Rattle.dc_proc.specs.declared.up.Up.{Up}
+
+-- its kernel is kept but for the registers, which its guest has
+abbrev pub held : Up → Held
+held u = record {
+  kernel = record u.kernel { regs = record { x = u.guest.registers; pc = u.guest.pc } };
+  unread = drop u.read u.log.items;
+  own = u.own;
+  log_left = u.log_left;
+  based = u.based.items;
+  others = u.others.items;
+}
+
+-- its parts belong together, and its room is there
+pub record IsWhole (u : Up) : Type 0 where
+  pub number : u.guest.number ≡ u.kernel.p
+  pub count : u.guest.count ≡ u.kernel.n
+  pub ended : u.guest.ended ≡ has_ended u.kernel.status
+  pub text_long : length u.text.items ≡ kernel_words u.kernel.n
+  pub based_long : length u.based.items ≡ u.kernel.n
+  pub others_long : length u.others.items ≡ u.kernel.n
+  pub received_long : length u.kernel.received ≡ u.kernel.n
+  pub links_long : length u.kernel.links ≡ u.kernel.n
+  pub log_room : 64 ≤ vec_capacity u.log
+
+-- what no turn changes
+pub record IsSameUp (old new : Up) : Type 0 where
+  pub protocol_same : new.protocol ≡ old.protocol
+  pub size_same : new.size ≡ old.size
+  pub n_same : new.kernel.n ≡ old.kernel.n
+  pub p_same : new.kernel.p ≡ old.kernel.p
+  pub others_same : new.others.items ≡ old.others.items

@@ -1,0 +1,113 @@
+//! Commits of one process.
+
+ghost use Rattle.std.specs.Prelude.{◌≡◌, ◌<◌, ◌≤◌, ◌+◌, ◌-◌, ◌^◌, ℕ, List, [], false, true, OnErr, OnOk};
+ghost use Rattle.dc_checkpoint.specs.States.{IsText};
+ghost use Rattle.dc_kernel.specs.Kernels.{IsKernel};
+ghost use Rattle.dc_kernel.specs.Texts.{text_of};
+ghost use Rattle.dc_media.specs.Told.{Becomes};
+ghost use Rattle.dc_proc.specs.Calls.{IsCall, on};
+ghost use Rattle.dc_proc.specs.Carried.{Carries, Leaves, process};
+ghost use Rattle.dc_proc.specs.Processes.{IsCopied, IsPaired, committed_held, form_of, next_commit};
+ghost use Rattle.dc_proc.specs.Ups.{IsSameUp, IsWhole, held};
+ghost use Rattle.dc_recovery.specs.Parts.{committed, first_of, torn};
+
+use crate::up::{Up, copy_received};
+use dc_checkpoint::Checkpoint;
+use dc_kernel::CheckFault;
+
+/// The most events that a log holds.
+const LOG_ROOM: u32 = 64;
+
+impl Up {
+    /// Writes the text of the next commit's kernel.
+    fn write_text(&mut self)
+        requires number { self.old.kernel.commit < 2 ^ 32 - 1 }
+        requires whole { IsWhole self.old }
+        ensures held { held self.new ≡ record (held self.old) { kernel = next_commit (held self.old).kernel } }
+        ensures text { self.new.text.items ≡ text_of (next_commit (held self.old).kernel) }
+        ensures faultless { IsText (form_of self.old.kernel) self.new.text.items }
+        ensures kernel { IsKernel self.old.kernel.n self.old.kernel.p (next_commit (held self.old).kernel) }
+        ensures same { IsSameUp self.old self.new }
+        ensures whole { IsWhole self.new }
+    {
+        self.kernel.set_commit(self.kernel.commit() + 1);
+        self.kernel.set_regs(*self.guest.regs());
+        self.kernel.encode(&mut self.text);
+    }
+
+    /// Notes that a commit was acknowledged: nothing is left to read, own is clear, the log is empty.
+    pub(crate) fn settle(&mut self)
+        requires whole { IsWhole self.old }
+        ensures held { held self.new ≡ record (held self.old) { unread = []; own = false; log_left = 64; based = self.new.based.items } }
+        ensures based { IsCopied self.old.kernel self.new.based.items }
+        ensures same { IsSameUp self.old self.new }
+        ensures whole { IsWhole self.new }
+    {
+        self.read = self.log.len();
+        self.own = false;
+        self.log_left = LOG_ROOM;
+        copy_received(&self.kernel, &mut self.based);
+    }
+
+    /// Commits. Refused, each image stands for what it stood for, or for this state.
+    fn commit<C: Checkpoint>(
+        &mut self,
+        store: &mut C,
+        dev: &mut C::Device,
+    ) -> Result<(), CheckFault>
+        requires lent { C.lent store.old dev.old }
+        requires ready { C.ready store.old dev.old }
+        requires paired { IsPaired (held self.old) (C.form store.old) (C.number store.old) (C.logged store.old) }
+        requires number { self.old.kernel.commit < 2 ^ 32 - 1 }
+        requires whole { IsWhole self.old }
+        ensures call { IsCall C.Checkpoint (on store.old dev.old) (on store.new dev.new) result }
+        ensures ready { OnOk result (C.ready store.new dev.new) }
+        ensures paired { OnOk result (IsPaired (held self.new) (C.form store.new) (C.number store.new) (C.logged store.new)) }
+        ensures memory { OnOk result (Becomes (C.contents store.old dev.old) (C.contents store.new dev.new) (λ before after. after ≡ before)) }
+        ensures number { self.new.kernel.commit ≤ self.old.kernel.commit + 1 }
+        ensures held { OnOk result (held self.new ≡ committed_held (held self.old) self.new.based.items) }
+        ensures same { IsSameUp self.old self.new }
+        ensures guest { self.new.guest ≡ self.old.guest }
+        ensures whole { IsWhole self.new }
+        ensures goes { OnOk result (Carries C.Checkpoint committed (process store.old dev.old (held self.old)) (process store.new dev.new (held self.new))) }
+        ensures torn { OnErr result (Leaves C.Checkpoint torn (process store.old dev.old (held self.old)) (process store.new dev.new (held self.old))) }
+    {
+        self.write_text();
+        store.commit(dev, &self.text)?;
+        self.settle();
+        Ok(())
+    }
+
+    /// Commits where it is due.
+    pub(crate) fn commit_if<C: Checkpoint>(
+        &mut self,
+        due: bool,
+        store: &mut C,
+        dev: &mut C::Device,
+    ) -> Result<(), CheckFault>
+        requires lent { C.lent store.old dev.old }
+        requires ready { C.ready store.old dev.old }
+        requires paired { IsPaired (held self.old) (C.form store.old) (C.number store.old) (C.logged store.old) }
+        requires number { self.old.kernel.commit < 2 ^ 32 - 1 }
+        requires whole { IsWhole self.old }
+        ensures call { IsCall C.Checkpoint (on store.old dev.old) (on store.new dev.new) result }
+        ensures ready { OnOk result (C.ready store.new dev.new) }
+        ensures paired { OnOk result (IsPaired (held self.new) (C.form store.new) (C.number store.new) (C.logged store.new)) }
+        ensures number { self.new.kernel.commit ≤ self.old.kernel.commit + 1 }
+        ensures memory { OnOk result (Becomes (C.contents store.old dev.old) (C.contents store.new dev.new) (λ before after. after ≡ before)) }
+        ensures held { OnOk result (due ≡ true → held self.new ≡ committed_held (held self.old) self.new.based.items) }
+        ensures kept { OnOk result (due ≡ false → self.new ≡ self.old) }
+        ensures untouched { due ≡ false → (store.new ≡ store.old) × (dev.new ≡ dev.old) }
+        ensures same { IsSameUp self.old self.new }
+        ensures guest { self.new.guest ≡ self.old.guest }
+        ensures whole { IsWhole self.new }
+        ensures goes { OnOk result (Carries C.Checkpoint (first_of due) (process store.old dev.old (held self.old)) (process store.new dev.new (held self.new))) }
+        ensures due { OnErr result (due ≡ true) }
+        ensures torn { OnErr result (Leaves C.Checkpoint torn (process store.old dev.old (held self.old)) (process store.new dev.new (held self.old))) }
+    {
+        if due {
+            return self.commit(store, dev);
+        }
+        Ok(())
+    }
+}

@@ -1,0 +1,163 @@
+//! A process that is down: how it fell, and how it comes back.
+
+ghost use Rattle.std.specs.Prelude.{◌≡◌, ◌≢◌, ◌≤◌, ◌<◌, ◌+◌, ◌-◌, ℕ, List, Err, [], false, length, IfErr, IfOk, IfSome, IsErrOf, OnErr, OnOk, slice_index, vec_capacity};
+ghost use Rattle.dc_checkpoint.specs.Calls.{AreAll, AreAmong, AreNoHigher, IsCounted, IsSameStore, Narrows};
+ghost use Rattle.dc_checkpoint.specs.States.{Gives, Reading};
+ghost use Rattle.dc_kernel.specs.Kernels.{IsKernel};
+ghost use Rattle.dc_kernel.specs.declared.faults.StoreFault as faults;
+ghost use Rattle.dc_links.specs.Links.{link_to, number_of_first};
+ghost use Rattle.dc_proc.specs.Downs.{IsDown, IsOf, Rises, fault_only};
+ghost use Rattle.dc_proc.specs.Processes.{IsCopied, IsPaired};
+ghost use Rattle.dc_proc.specs.Ups.{IsWhole, held};
+
+use crate::holding::{copy_firsts, guest_of};
+use crate::up::{Up, copy_received};
+use dc_checkpoint::Checkpoint;
+use dc_kernel::{CheckFault, Saved};
+use dc_protocols::Protocol;
+use std::mem;
+
+/// A process that is down: nothing of it but the room that it had.
+#[derive(Drop)]
+pub struct Down {
+    pub(crate) protocol: Protocol,
+    pub(crate) size: u32,
+    pub(crate) saved: Saved,
+    pub(crate) based: Vec<u32>,
+    pub(crate) others: Vec<u32>,
+    pub(crate) text: Vec<u32>,
+}
+
+impl Up {
+    /// Loses what is volatile: its memory, its registers and its kernel. It makes no call of the device.
+    pub fn fall<C: Checkpoint>(self, store: &mut C) -> Down
+        requires whole { IsWhole self }
+        ensures same { IsSameStore C.place C.size C.form store.old store.new }
+        ensures lent { (dev : C.Device) → C.lent store.old dev → C.lent store.new dev }
+        ensures stands { (dev : C.Device) → Narrows 0 (C.leaves store.old dev) (C.leaves store.new dev) }
+        ensures steady { (dev : C.Device) → C.steady store.old dev → C.steady store.new dev }
+        ensures numbers { (dev : C.Device) → AreAmong (C.numbers store.old dev) (C.numbers store.new dev) }
+        ensures down { IsDown result }
+        ensures of { IsOf self.kernel.n self.kernel.p self.protocol self.size result }
+    {
+        store.fall();
+        Down {
+            protocol: self.protocol,
+            size: self.size,
+            saved: Saved {
+                kernel: self.kernel,
+                log: self.log,
+                position: 0,
+            },
+            based: self.based,
+            others: self.others,
+            text: self.text,
+        }
+    }
+}
+
+impl Down {
+    /// The process at what was read.
+    fn up(self) -> Up
+        requires down { IsDown self }
+        requires kernel { IsKernel self.saved.kernel.n self.saved.kernel.p self.saved.kernel }
+        requires log { length self.saved.log.items ≤ 64 }
+        ensures kernel { (held result).kernel ≡ self.saved.kernel }
+        ensures log { (held result).unread ≡ self.saved.log.items }
+        ensures own { (held result).own ≡ false }
+        ensures left { (held result).log_left + length self.saved.log.items ≡ 64 }
+        ensures based { IsCopied self.saved.kernel (held result).based }
+        ensures others { (q : ℕ) → q < self.saved.kernel.n → slice_index (held result).others q ≡ number_of_first (link_to self.saved.kernel.links q) }
+        ensures whole { IsWhole result }
+        ensures of { (result.protocol ≡ self.protocol) × (result.size ≡ self.size) }
+    {
+        let Down {
+            protocol,
+            size,
+            saved,
+            mut based,
+            mut others,
+            text,
+        } = self;
+        let Saved {
+            kernel,
+            log,
+            position: _,
+        } = saved;
+        copy_received(&kernel, &mut based);
+        copy_firsts(&kernel, &mut others);
+        let guest = guest_of(&kernel);
+        let log_left = 64 - log.len() as u32;
+        Up {
+            protocol,
+            size,
+            kernel,
+            guest,
+            log,
+            read: 0,
+            own: false,
+            log_left,
+            based,
+            others,
+            text,
+        }
+    }
+
+    /// Recovers: the process is exactly what its store stands for, with its log to read, and own is clear. Refused by content, that is
+    /// what the store stands for; stopped, failed or refused, it is down as it was and may try again.
+    pub fn recover<C: Checkpoint>(
+        self,
+        store: &mut C,
+        dev: &mut C::Device,
+    ) -> Result<Up, (Down, CheckFault)>
+        requires lent { C.lent store.old dev.old }
+        requires of { (self.saved.kernel.n ≡ (C.form store.old).n) × (self.saved.kernel.p ≡ (C.form store.old).p) }
+        requires down { IsDown self }
+        ensures same { IsSameStore C.place C.size C.form store.old store.new }
+        ensures lent { C.lent store.new dev.new }
+        ensures ready { OnOk result (C.ready store.new dev.new) }
+        ensures paired { IfOk result (λ up. IsPaired (held up) (C.form store.new) (C.number store.new) (C.logged store.new)) }
+        ensures whole { IfOk result IsWhole }
+        ensures own { IfOk result (λ up. (held up).own ≡ false) }
+        ensures protocol { IfOk result (λ up. (up.protocol ≡ self.protocol) × (up.size ≡ self.size)) }
+        ensures down { IfErr result (λ e. IsDown e.0 × IsOf self.saved.kernel.n self.saved.kernel.p self.protocol self.size e.0) }
+        ensures floor { OnOk result (C.floor store.new ≤ 0) }
+        ensures stands { (reading : Reading) → C.leaves store.new dev.new 0 reading → C.leaves store.old dev.old 0 reading }
+        ensures refused { (fault : faults.StoreFault) → IsErrOf (fault_only result) (CheckFault.Refused fault) → (reading : Reading) → C.leaves store.old dev.old 0 reading → reading ≡ Err fault }
+        ensures counts { IsCounted C.told C.stops C.faults (C.place store.old) dev.old dev.new (fault_only result) }
+        ensures steady { C.steady store.old dev.old → AreAll 0 (C.numbers store.old dev.old) → C.steady store.new dev.new }
+        ensures numbers { C.steady store.old dev.old → AreAll 0 (C.numbers store.old dev.old) → AreAmong (C.numbers store.old dev.old) (C.numbers store.new dev.new) }
+        ensures no_higher { AreNoHigher (C.numbers store.old dev.old) (C.numbers store.new dev.new) }
+        ensures others { (q : ℕ) → q ≢ C.place store.old → C.untouched dev.old dev.new q }
+        ensures continues { C.continues dev.old dev.new }
+        ensures goes { IfOk result (λ up. IfSome (C.contents store.new dev.new) (λ words. Rises (C.leaves store.old dev.old 0) (C.contents store.new dev.new) (held up) (C.leaves store.new dev.new 0))) }
+    {
+        let mut down = self;
+        match store.recover(dev, 0, &mut down.saved) {
+            Ok(()) => Ok(down.up()),
+            Err(fault) => Err((down, fault)),
+        }
+    }
+
+    /// Rises at what a recovery of all processes read for it, in exchange for the room that it had.
+    pub fn rise(self, saved: &mut Saved) -> Up
+        requires down { IsDown self }
+        requires kernel { IsKernel self.saved.kernel.n self.saved.kernel.p saved.old.kernel }
+        requires log { length saved.old.log.items ≤ 64 }
+        requires room { 64 ≤ vec_capacity saved.old.log }
+        ensures kernel { (held result).kernel ≡ saved.old.kernel }
+        ensures log { (held result).unread ≡ saved.old.log.items }
+        ensures own { (held result).own ≡ false }
+        ensures left { (held result).log_left + length saved.old.log.items ≡ 64 }
+        ensures based { IsCopied saved.old.kernel (held result).based }
+        ensures others { (q : ℕ) → q < saved.old.kernel.n → slice_index (held result).others q ≡ number_of_first (link_to saved.old.kernel.links q) }
+        ensures whole { IsWhole result }
+        ensures protocol { (result.protocol ≡ self.protocol) × (result.size ≡ self.size) }
+        ensures room { 64 ≤ vec_capacity saved.new.log }
+        ensures place { (saved.new.kernel.n ≡ saved.old.kernel.n) × (saved.new.kernel.p ≡ saved.old.kernel.p) }
+    {
+        let mut down = self;
+        mem::swap(&mut down.saved, saved);
+        down.up()
+    }
+}
