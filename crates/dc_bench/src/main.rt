@@ -1,12 +1,17 @@
 //! What calls of a segment cost, to be measured from outside: `load COUNT`, `vector COUNT`, `commit LINES COUNT`, over a memory of
-//! 1 MiB. Prints where the loads led, or the number of the last commit, and ends with status 1 where that is none.
+//! 1 MiB; and turns of a process over a segment: `computing COUNT`, `showing COUNT`, beside `stores COUNT` of the device alone.
+//! Prints where the loads led, the number of the last commit, or how many calls of the device were made, and ends with status 1
+//! where that is none.
 #![tactic(auto)]
 
+mod turns;
 mod work;
 
-ghost use Rattle.std.specs.Prelude.{◌≤◌};
+ghost use Rattle.std.specs.Prelude.{◌<◌, ◌≤◌, ◌-◌, ◌^◌};
 
+use dc_media::STORES;
 use dc_memmedia::MemKeeps;
+use dc_protocols::Protocol;
 use dc_vista::Segment;
 use std::alloc::Global;
 use std::process::ExitCode;
@@ -30,28 +35,51 @@ fn number(words: &[String], at: usize, most: u32) -> u32
     }
 }
 
-fn measured(alloc: Global, words: &[String]) -> Option<u32> {
-    let mut keeps = MemKeeps::new(alloc, Vec::new(alloc)).ok()?;
-    let what = words.get(1)?;
-    if what.as_str() == "load" {
-        return work::load::<Segment<MemKeeps>>(
-            alloc,
-            &mut keeps,
-            PAGES,
-            number(words, 2, u32::MAX),
-        );
+/// Takes turns of a process, or makes stores of the device alone: how many calls of the device were made.
+fn calls_of(alloc: Global, keeps: &mut MemKeeps, what: &str, p: u32, count: u32) -> Option<u64>
+    requires few { count < 2 ^ 32 - 1 }
+    requires process { p < STORES }
+{
+    if what == "computing" {
+        turns::turns::<Segment<MemKeeps>>(alloc, keeps, Protocol::Cpvs, &turns::COMPUTING, count)?;
+    } else if what == "showing" {
+        turns::turns::<Segment<MemKeeps>>(alloc, keeps, Protocol::Cpvs, &turns::SHOWING, count)?;
+    } else if what == "stores" {
+        turns::stores(alloc, keeps, p, count)?;
+    } else {
+        return None;
     }
-    if what.as_str() == "vector" {
+    Some(keeps.calls(p))
+}
+
+/// Where loads lead, or the number of the last commit.
+fn led(alloc: Global, keeps: &mut MemKeeps, what: &str, words: &[String]) -> Option<u32> {
+    if what == "load" {
+        return work::load::<Segment<MemKeeps>>(alloc, keeps, PAGES, number(words, 2, u32::MAX));
+    }
+    if what == "vector" {
         return work::read(alloc, PAGES, number(words, 2, u32::MAX));
     }
+    if what != "commit" {
+        return None;
+    }
     let lines = number(words, 2, LINES);
-    work::commit_often::<Segment<MemKeeps>>(
-        alloc,
-        &mut keeps,
-        PAGES,
-        lines,
-        number(words, 3, COMMITS),
-    )
+    work::commit_often::<Segment<MemKeeps>>(alloc, keeps, PAGES, lines, number(words, 3, COMMITS))
+}
+
+fn measured(alloc: Global, words: &[String]) -> Option<u64> {
+    let mut keeps = MemKeeps::new(alloc, Vec::new(alloc)).ok()?;
+    let what = words.get(1)?;
+    match led(alloc, &mut keeps, what.as_str(), words) {
+        Some(sum) => Some(u64::from(sum)),
+        None => calls_of(
+            alloc,
+            &mut keeps,
+            what.as_str(),
+            number(words, 3, STORES - 1),
+            number(words, 2, COMMITS),
+        ),
+    }
 }
 
 fn main(rt: HostRuntime) -> io::Result<ExitCode> {

@@ -106,7 +106,7 @@ pub fn commits<C: Checkpoint>(
 }
 
 /// A kernel of one process, of the first commit, with room for its text.
-fn first(alloc: Global) -> Result<(Kernel, Vec<u32>), AllocError>
+pub fn first(alloc: Global) -> Result<(Kernel, Vec<u32>), AllocError>
     ensures kernel { IfOk result (λ made. (made.0.n ≡ 1) × (made.0.p ≡ 0) × (made.0.commit ≡ 1)) }
     ensures long { IfOk result (λ made. length made.1.items ≡ kernel_words 1) }
 {
@@ -116,7 +116,7 @@ fn first(alloc: Global) -> Result<(Kernel, Vec<u32>), AllocError>
 }
 
 /// A store of one process with a memory of so many pages of 1024 words.
-fn made<C: Checkpoint + Drop>(
+pub fn made<C: Checkpoint + Drop>(
     alloc: Global,
     dev: &mut C::Device,
     kernel: &Kernel,
@@ -129,7 +129,7 @@ fn made<C: Checkpoint + Drop>(
     ensures size { IfSome result (λ store. C.size store ≡ 1024 * pages) }
     ensures n { IfSome result (λ store. (C.form store).n ≡ 1) }
     ensures p { IfSome result (λ store. (C.form store).p ≡ 0) }
-    ensures number { IfSome result (λ store. C.number store ≡ 1) }
+    ensures number { IfSome result (λ store. (C.number store ≡ 1) × (C.logged store ≡ 0)) }
 {
     let Ok(mut text) = vec![in alloc; 0; kernel_words(1)] else {
         return None;

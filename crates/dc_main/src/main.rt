@@ -6,36 +6,50 @@ mod late;
 mod stream;
 #[cfg(test)]
 mod tests;
+mod words;
 
 use dc_memmedia::{MemDisks, MemKeeps};
 use dc_run::{Outcome, Verdict, conclude, dc};
 use files::FileLibrary;
 use late::LateFile;
+use std::alloc::AllocError;
+use std::io::Write;
 use std::process::ExitCode;
-use std::{env, io};
+use std::rt::Files;
 use stream::StreamSink;
+use words::words_of;
 
-/// Runs the command of its arguments over stores and disks in memory, with the report in the file `dc.report`, says the outcome on
-/// standard error and ends with its status.
-fn main(rt: HostRuntime) -> io::Result<ExitCode> {
-    let words: Vec<String> = env::args(&rt)?.collect(rt.alloc())?;
+/// Carries out the command of these words over stores and disks in memory, with the report in the file `dc.report`.
+fn carry_out<R: Files + AllocGlobal + Clone + Drop, W: Write + Drop>(
+    rt: &R,
+    words: &[String],
+    out: W,
+) -> Result<Outcome, AllocError> {
     let mut library = FileLibrary::new(rt.clone()?);
-    let mut out = StreamSink::new(rt.stdout());
+    let mut out = StreamSink::new(out);
     let mut report = StreamSink::new(LateFile::new(rt.clone()?, "dc.report"));
-    let keeps = MemKeeps::new(rt.alloc(), Vec::new(rt.alloc()));
-    let disks = MemDisks::new(rt.alloc(), Vec::new(rt.alloc()));
-    let outcome = match (keeps, disks) {
-        (Ok(mut keeps), Ok(mut disks)) => dc(
-            rt.alloc(),
-            &words,
-            &mut library,
-            &mut keeps,
-            &mut disks,
-            &mut out,
-            &mut report,
-        ),
-        _ => Outcome::idle(rt.alloc(), Verdict::WantOfMemory),
+    let mut keeps = MemKeeps::new(rt.alloc(), Vec::new(rt.alloc()))?;
+    let mut disks = MemDisks::new(rt.alloc(), Vec::new(rt.alloc()))?;
+    Ok(dc(
+        rt.alloc(),
+        words,
+        &mut library,
+        &mut keeps,
+        &mut disks,
+        &mut out,
+        &mut report,
+    ))
+}
+
+/// Carries out the command of its arguments, says the outcome on standard error and ends with its status.
+fn main(rt: HostRuntime) -> ExitCode {
+    let outcome = match words_of(&rt) {
+        Ok(words) => match carry_out(&rt, &words, rt.stdout()) {
+            Ok(outcome) => outcome,
+            Err(AllocError) => Outcome::idle(rt.alloc(), Verdict::WantOfMemory),
+        },
+        Err(verdict) => Outcome::idle(rt.alloc(), verdict),
     };
     let status = conclude(&outcome, &mut StreamSink::new(rt.stderr()));
-    Ok(ExitCode::from(status))
+    ExitCode::from(status)
 }

@@ -13,7 +13,7 @@ use Rattle.dc_recovery.specs.Saves.{Save, answer_at}
 use Rattle.dc_recovery.specs.Systems.{System}
 
 module _ (S : System Guest) (p : ℕ) (answers : List Answer) (a : Answer) where
-  before : (i : ℕ) → i ≤ length answers → at_position S.guests p i answers ≡ at_position S.guests p i (a ∷ answers)
+  pub before : (i : ℕ) → i ≤ length answers → at_position S.guests p i answers ≡ at_position S.guests p i (a ∷ answers)
   before i h = sym (ap (λ (b : Bool). local S.guests p (if b then a ∷ answers else oldest i answers)) (le-ltb (length answers) i h))
 
   saved_more : (others : ℕ → ℕ) (s : Save) (r : Reading) → s.position ≤ length answers → IsSavedAs S.guests p answers others s r → IsSavedAs S.guests p (a ∷ answers) others s r

@@ -1,10 +1,12 @@
 pub mod Links
 pub mod Saving
 pub mod Texts
+pub mod Numbers
 pub mod Commits
 pub mod Logs
 pub mod Ruling
 pub mod Adding
+pub mod Based
 pub mod Happening
 pub mod Moving
 pub mod Buses
@@ -13,6 +15,7 @@ pub mod Entries
 pub mod Together
 pub mod Stopped
 pub mod Taken
+pub mod Counting
 pub mod Retired
 pub mod Learned
 pub mod Rising

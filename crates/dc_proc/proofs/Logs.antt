@@ -1,10 +1,11 @@
 -- What a log record does to a process and its store.
-use Rattle.std.proofs.Common.{◌≡◌, ◌⊎◌, ◌∙◌, ◌+◌, ◌++◌, ℕ, List, [], ◌∷◌, map, Option, None, Some, Ok, Err, refl, sym, ap, subst, inl, inr, ⊎_elim, arith, slice_index, length-append}
+use Rattle.std.proofs.Common.{◌≡◌, ◌⊎◌, ◌∙◌, ◌+◌, ◌++◌, ℕ, List, [], ◌∷◌, map, Option, None, Some, Ok, refl, sym, ap, subst, inl, inr, ⊎_elim, arith, slice_index, length-append}
 use Rattle.dc_checkpoint.specs.States.{IsLogged, Reading, State, with_record}
 use Rattle.dc_guest.specs.Guest.{Guest}
 use Rattle.dc_kernel.specs.declared.records.LogRecord.{LogRecord}
 use Rattle.dc_media.specs.Told.{Becomes}
 use Rattle.dc_model.specs.Guests.{Answer, Guests}
+use Rattle.dc_proc.proofs.Texts.{state_in}
 use Rattle.dc_proc.specs.Processes.{Held, IsAt, IsOver, IsProcess, IsSavedAs, Stands, logged_of}
 use Rattle.dc_recovery.specs.Core.{Status}
 use Rattle.dc_recovery.specs.Parts.{logged, torn_log, with_record as save_with}
@@ -15,11 +16,6 @@ use Rattle.dc_recovery.specs.Systems.{System}
 map_more : {A B : Type 0} (f : A → B) (xs : List A) (y : A) → map f (xs ++ y ∷ []) ≡ map f xs ++ f y ∷ []
 map_more f [] y = refl
 map_more f (x ∷ xs) y = ap (λ ys. f x ∷ ys) (map_more f xs y)
-
--- the state of a reading that is one
-abbrev state_in : State → Reading → State
-state_in d (Ok s) = s
-state_in d (Err e) = d
 
 -- the images of a store
 module _ (G : Guests Guest) (p : ℕ) (answers : List Answer) (others : ℕ → ℕ) (rec : LogRecord) where

@@ -15,7 +15,7 @@ use Rattle.dc_proc.proofs.Ruling.{event_is}
 use Rattle.dc_proc.proofs.Stopped.{over_as}
 use Rattle.dc_proc.specs.Carried.{system}
 use Rattle.dc_proc.specs.Processes.{IsAt, IsOver, Stands}
-use Rattle.dc_proc.specs.Turns.{IsStopped, Written}
+use Rattle.dc_proc.specs.Turns.{IsBased, IsStopped, Written}
 use Rattle.dc_proc.specs.Ups.{IsWhole, held}
 use Rattle.dc_proc.specs.declared.up.Up.{Up}
 use Rattle.dc_protocols.specs.Rules.{is_global, rule_of}
@@ -75,14 +75,15 @@ module _ (images : List Image) (inputs : List (List (List ℕ))) (pr : Protocol)
 
   module _ (a : Answer) (plain : a ≡ Plain) where
     -- it was stopped
-    pub stopped_retiring : (others : ℕ → ℕ) (leaves : Reading → Type 0) (acts : Written) → Stands S.guests p more others st leaves → acts.after ≡ acts.more
-        → IsStopped S (record { p = p; answers = answers; st = st }) a others leaves acts
-    stopped_retiring others leaves acts stood written = subst (λ b. IsStopped S (record { p = p; answers = answers; st = st }) b others leaves acts) (sym plain) (record {
+    pub stopped_retiring : (others : ℕ → ℕ) (leaves : Reading → Type 0) (acts : Written) (based : List ℕ) → Stands S.guests p more others st leaves → acts.after ≡ acts.more
+        → IsBased S (record { p = p; answers = more; st = st }) based → IsStopped S (record { p = p; answers = answers; st = st }) a others leaves acts based
+    stopped_retiring others leaves acts based stood written was = subst (λ b. IsStopped S (record { p = p; answers = answers; st = st }) b others leaves acts based) (sym plain) (record {
       place = InEvent;
       somewhere = λ e. true≢false (sym (ap is_whole e));
       may = ap (λ e. may_store e Plain) internal;
       stands = subst (λ (s : Status). Stands S.guests p more others s leaves) (sym (status_retired InEvent)) stood;
       written = written;
+      based_is = subst (λ (s : Status). IsBased S (record { p = p; answers = more; st = s }) based) (sym (status_retired InEvent)) was;
     })
 
     -- it was not

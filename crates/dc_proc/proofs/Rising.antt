@@ -1,6 +1,6 @@
 -- What a recovery gives: a process at one of the saves that its store stood for.
 use Rattle.std.proofs.Common.{◌≡◌, ◌∙◌, ◌<◌, ◌≤◌, ◌+◌, ℕ, suc, List, [], ◌∷◌, map, false, Option, None, Some, Ok, Err, IfSome, IsSome, refl, sym, ap, subst, inl, ⊎_elim, length, arith, slice_index, drop}
-use Rattle.dc_checkpoint.specs.States.{Gives, IsGiven, Reading, State}
+use Rattle.dc_checkpoint.specs.States.{Gives, IsGiven, Reading, State, number_in}
 use Rattle.dc_guest.specs.Guest.{Guest}
 use Rattle.dc_kernel.proofs.Kernels.{one_kernel}
 use Rattle.dc_kernel.specs.Kernels.{IsKernel, Kernel}
@@ -11,8 +11,9 @@ use Rattle.dc_kernel.specs.declared.saved.Saved.{Saved}
 use Rattle.dc_links.specs.Links.{link_to, number_of_first}
 use Rattle.dc_model.specs.Guests.{Answer, Guests}
 use Rattle.dc_model.specs.Process.{Local, at_position, local, oldest}
+use Rattle.dc_proc.proofs.Texts.{number_is, state_in}
 use Rattle.dc_proc.specs.Downs.{IsRisen}
-use Rattle.dc_proc.specs.Processes.{Held, IsAt, IsKernelAt, IsProcess, IsStoredSave, Stands, Stored, logged_of, reading_of}
+use Rattle.dc_proc.specs.Processes.{Held, IsAt, IsKernelAt, IsNumbered, IsOver, IsProcess, IsStoredSave, Stands, Stored, logged_of, reading_of}
 use Rattle.dc_recovery.proofs.Spans.{oldest_length, oldest_twice}
 use Rattle.dc_recovery.specs.Core.{Status, Which, save_of}
 use Rattle.dc_recovery.specs.Core.Which.{Older, Newer}
@@ -37,10 +38,6 @@ same_kernel n p m q a b ia ib same = one_kernel n p a b ia (record {
   links_are = ib.links_are;
 }) same
 
-abbrev state_in : State → Reading → State
-state_in d (Ok s) = s
-state_in d (Err e) = d
-
 abbrev some_in : List ℕ → Option (List ℕ) → List ℕ
 some_in d None = d
 some_in d (Some x) = x
@@ -57,11 +54,8 @@ module _ (S : System Guest) (room : S.log_room ≡ 64) (p : ℕ) (answers : List
   abbrev G : Guests Guest
   G = S.guests
 
-  module _ (k : Which) (x : Stored) (state : State) (within : reach S p answers (save_of k st) ≤ length answers) (is : IsStoredSave G p answers others (save_of k st) x)
+  module _ (s : Save) (x : Stored) (state : State) (within : reach S p answers s ≤ length answers) (is : IsStoredSave G p answers others s x)
       (state_is : Ok state ≡ reading_of x) (given : IsGiven memory saved state) where
-    abbrev s : Save
-    s = save_of k st
-
     abbrev kept : List Answer
     kept = oldest (reach S p answers s) answers
 
@@ -89,7 +83,7 @@ module _ (S : System Guest) (room : S.log_room ≡ 64) (p : ℕ) (answers : List
     first_at : (r : ℕ) → r < G.count → slice_index h.others r ≡ number_of_first (link_to saved.kernel.links r)
     first_at r less = others_are r (subst (λ n. r < n) (sym count_is) less)
 
-    at_words : IsAt S p kept (risen s) x.words h
+    pub at_words : IsAt S p kept (risen s) x.words h
     at_words = record {
       kernel_is = subst (λ z. IsKernelAt G.count p s.position (at_position G p s.position kept) x.words z) (sym kernel_is) kernel_at;
       kept = λ r less. ap (λ (z : Kernel). (link_to z.links r).kept) kernel_is ∙ (kernel_at.links r less).kept ∙ ap (λ n. drop n ((at_position G p s.position kept).sent r)) (sym (first_at r less));
@@ -110,24 +104,25 @@ module _ (S : System Guest) (room : S.log_room ≡ 64) (p : ℕ) (answers : List
         by_reading (Ok z) g = let w : z.memory ≡ x.words = ap (some_in []) (sym g.memory_is ∙ memory_is) in let t : z.kernel ≡ text_of saved.kernel = g.kernel_is in let l : z.log ≡ x.log = g.log_is ∙ sym log_same in
             ap (λ ws. Ok (record { memory = ws; kernel = z.kernel; log = z.log })) w ∙ ap (λ ks. Ok (record { memory = x.words; kernel = ks; log = z.log })) t ∙ ap (λ ls. Ok (record { memory = x.words; kernel = text_of saved.kernel; log = ls })) l
 
-    risen_by : IsRisen S p answers st memory h leaves
-    risen_by = record {
-      which = k;
-      over = record {
-        going = record { up = refl; one = refl; from = omega arith; within = subst (λ n. s.position ≤ n) (sym (oldest_length (reach S p answers s) answers within)) at_reach };
-        process = subst (λ o. IsProcess S p kept (risen s) o h) (sym memory_is) at_words;
-        stands = λ r l. inl (
-          record { words = x.words; kernel = saved.kernel; log = x.log },
-          reading_same r l,
-          record {
-            kernel_ok = record { n_is = count_is; p_is = ap (λ (z : Kernel). z.p) (sym same) ∙ is.kernel_ok.p_is; process = given_kernel.process; links_are = given_kernel.links_are };
-            kernel_is = kernel_at;
-            first = λ r less. let e = first_at r less in omega (arith, e);
-            log_is = is.log_is;
-          },
-        );
-      };
+    risen_over : IsOver S p kept (risen s) memory h leaves
+    risen_over = record {
+      going = record { up = refl; one = refl; from = omega arith; within = subst (λ n. s.position ≤ n) (sym (oldest_length (reach S p answers s) answers within)) at_reach };
+      process = subst (λ o. IsProcess S p kept (risen s) o h) (sym memory_is) at_words;
+      stands = λ r l. inl (
+        record { words = x.words; kernel = saved.kernel; log = x.log },
+        reading_same r l,
+        record {
+          kernel_ok = record { n_is = count_is; p_is = ap (λ (z : Kernel). z.p) (sym same) ∙ is.kernel_ok.p_is; process = given_kernel.process; links_are = given_kernel.links_are };
+          kernel_is = kernel_at;
+          first = λ r less. let e = first_at r less in omega (arith, e);
+          log_is = is.log_is;
+        },
+      );
     }
+
+  risen_by : (k : Which) (x : Stored) (state : State) → reach S p answers (save_of k st) ≤ length answers → IsStoredSave G p answers others (save_of k st) x → Ok state ≡ reading_of x
+      → IsGiven memory saved state → IsRisen S p answers st memory h leaves
+  risen_by k x state within is state_is given = record { which = k; over = risen_over (save_of k st) x state within is state_is given }
 
   -- of some image that is left
   pub risen_from : (before : Reading → Type 0) → Stands G p answers others st before → ((r : Reading) → leaves r → before r) → ((k : Which) → reach S p answers (save_of k st) ≤ length answers)
@@ -137,6 +132,24 @@ module _ (S : System Guest) (room : S.log_room ≡ 64) (p : ℕ) (answers : List
       (λ x. risen_by Older x.0 state (within Older) x.2 x.1 (gives (Ok state) l))
       (λ x. risen_by Newer x.0 state (within Newer) x.2 x.1 (gives (Ok state) l))
       (stood (Ok state) (less (Ok state) l))
+
+-- at what was read for it, whoever read it
+pub risen_at : (S : System Guest) (p : ℕ) (answers : List Answer) (others : ℕ → ℕ) (s : Save) (words : List ℕ) (saved : Saved) (h : Held) (m q : ℕ) → S.log_room ≡ 64
+    → IsKernel m q saved.kernel → h.kernel ≡ saved.kernel → h.unread ≡ saved.log.items → h.own ≡ false → h.log_left + length saved.log.items ≡ 64
+    → ((r : ℕ) → r < saved.kernel.n → slice_index h.based r ≡ slice_index saved.kernel.received r)
+    → ((r : ℕ) → r < saved.kernel.n → slice_index h.others r ≡ number_of_first (link_to saved.kernel.links r))
+    → IsStoredSave S.guests p answers others s (record { words = words; kernel = saved.kernel; log = saved.log.items }) → reach S p answers s ≤ length answers
+    → IsAt S p (oldest (reach S p answers s) answers) (risen s) words h
+risen_at S p answers others s words saved h m q room ok kernel_is unread_is own_is left_is based_is others_are is within =
+    at_words S room p answers others (risen s) (Some words) saved h (λ r. ⊥) m q ok (λ r l. absurd l) kernel_is unread_is own_is left_is based_is others_are
+    s (record { words = words; kernel = saved.kernel; log = saved.log.items }) (record { memory = words; kernel = text_of saved.kernel; log = saved.log.items }) within is refl (record { memory_is = refl; kernel_is = refl; log_is = refl })
+
+-- nor of a later commit than the images that were there before
+pub risen_number : (memory : Option (List ℕ)) (saved : Saved) (kernel : Kernel) (before leaves : Reading → Type 0) (most : ℕ) → ((r : Reading) → leaves r → Gives memory saved r) → kernel ≡ saved.kernel
+    → ((r : Reading) → leaves r → before r) → IsNumbered most before → (r : Reading) → leaves r → kernel.commit ≤ most
+risen_number memory saved kernel before leaves most gives kernel_is less is (Err e) l = absurd (gives (Err e) l)
+risen_number memory saved kernel before leaves most gives kernel_is less is (Ok state) l =
+    let e = ap number_in (gives (Ok state) l).kernel_is ∙ number_is saved.kernel ∙ ap (λ (k : Kernel). k.commit) (sym kernel_is) in let n = is state (less (Ok state) l) in omega (arith, e, n)
 
 -- where the memory is told
 pub where_told : {A P : Type 0} (o : Option A) → (IsSome o → P) → IfSome o (λ x. P)

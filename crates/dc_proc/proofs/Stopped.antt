@@ -13,7 +13,7 @@ use Rattle.dc_proc.proofs.Ruling.{event_is, replay_is, rule_is}
 use Rattle.dc_proc.specs.Carried.{system}
 use Rattle.dc_proc.specs.Events.{IsSender}
 use Rattle.dc_proc.specs.Processes.{Held, IsAt, IsGoing, IsOver, Stands}
-use Rattle.dc_proc.specs.Turns.{IsStopped, Written, is_none, makes_eight}
+use Rattle.dc_proc.specs.Turns.{IsBased, IsStopped, Written, is_none, makes_eight}
 use Rattle.dc_proc.specs.Ups.{IsWhole, held}
 use Rattle.dc_proc.specs.declared.up.Up.{Up}
 use Rattle.dc_protocols.specs.Rules.{at_inputs, is_global, rule_of}
@@ -86,45 +86,52 @@ module _ (images : List Image) (inputs : List (List (List ℕ))) (pr : Protocol)
   abbrev more : List Answer
   more = answers_alone answers st a Nowhere
 
-  module _ (others : ℕ → ℕ) (leaves : Reading → Type 0) (acts : Written) where
-    abbrev Is : Type 0
-    Is = IsStopped S (record { p = p; answers = answers; st = st }) a others leaves acts
+  abbrev Based : List Answer → Status → List ℕ → Type 0
+  Based answers now based = IsBased S (record { p = p; answers = answers; st = now }) based
 
-    pub stopped_before : asked.before ≡ true → Stands S.guests p answers others (torn st) leaves → acts.after ≡ acts.before → Is
-    stopped_before due stood written = record {
+  module _ (others : ℕ → ℕ) (leaves : Reading → Type 0) (acts : Written) (based : List ℕ) where
+    abbrev Is : Type 0
+    Is = IsStopped S (record { p = p; answers = answers; st = st }) a others leaves acts based
+
+    pub stopped_before : asked.before ≡ true → Stands S.guests p answers others (torn st) leaves → acts.after ≡ acts.before → Based answers st based → Is
+    stopped_before due stood written was = record {
       place = InBefore;
       somewhere = λ e. true≢false (sym (ap is_whole e));
       may = ap (λ (r : Rule). r.before) (sym rule_same) ∙ due;
       stands = stood;
       written = written;
+      based_is = was;
     }
 
-    pub stopped_log : asked.log ≡ true → Stands S.guests p more others (torn_log x (first_of asked.before st)) leaves → acts.after ≡ acts.more → Is
-    stopped_log due stood written = record {
+    pub stopped_log : asked.log ≡ true → Stands S.guests p more others (torn_log x (first_of asked.before st)) leaves → acts.after ≡ acts.more → Based more (first_of asked.before st) based → Is
+    stopped_log due stood written was = record {
       place = InLog;
       somewhere = λ e. true≢false (sym (ap is_whole e));
       may = ap (λ (r : Rule). r.log) (sym rule_same) ∙ due;
       stands = subst (λ (r : Rule). Stands S.guests p more others (torn_log x (first_of r.before st)) leaves) rule_same stood;
       written = written;
+      based_is = subst (λ (r : Rule). Based more (first_of r.before st) based) rule_same was;
     }
 
-    pub stopped_event : ((m : Machine) → may_store (event_of next m) a ≡ true) → Stands S.guests p more others (fallen (second_of asked.log x (first_of asked.before st))) leaves → acts.after ≡ acts.more → Is
-    stopped_event stores stood written = record {
+    pub stopped_event : ((m : Machine) → may_store (event_of next m) a ≡ true) → Stands S.guests p more others (fallen (second_of asked.log x (first_of asked.before st))) leaves → acts.after ≡ acts.more → Based more (second_of asked.log x (first_of asked.before st)) based → Is
+    stopped_event stores stood written was = record {
       place = InEvent;
       somewhere = λ e. true≢false (sym (ap is_whole e));
       may = ap (λ e. may_store e a) (event_is images inputs pr p answers st words u whole is runs a) ∙ ap (λ n. may_store (event_of n (machine_over u.guest words)) a) (sym next_is) ∙ stores (machine_over u.guest words);
       stands = subst (λ (r : Rule). Stands S.guests p more others (fallen (second_of r.log x (first_of r.before st))) leaves) rule_same stood;
       written = written;
+      based_is = subst (λ (r : Rule). Based more (second_of r.log x (first_of r.before st)) based) rule_same was;
     }
 
-    pub stopped_after : asked.after ≡ true → Stands S.guests p more others (torn (passed replay (sets_own asked.log replay a) (second_of asked.log x (first_of asked.before st)))) leaves → acts.after ≡ acts.more → Is
-    stopped_after due stood written = record {
+    pub stopped_after : asked.after ≡ true → Stands S.guests p more others (torn (passed replay (sets_own asked.log replay a) (second_of asked.log x (first_of asked.before st)))) leaves → acts.after ≡ acts.more → Based more (second_of asked.log x (first_of asked.before st)) based → Is
+    stopped_after due stood written was = record {
       place = InAfter;
       somewhere = λ e. true≢false (sym (ap is_whole e));
       may = ap (λ (r : Rule). r.after) (sym rule_same) ∙ due;
       stands = subst (λ (b : Bool). Stands S.guests p more others (torn (passed b (sets_own (rule_alone S p answers st a).log b a) (second_of (rule_alone S p answers st a).log x (first_of (rule_alone S p answers st a).before st)))) leaves) replay_same
           (subst (λ (r : Rule). Stands S.guests p more others (torn (passed replay (sets_own r.log replay a) (second_of r.log x (first_of r.before st)))) leaves) rule_same stood);
       written = written;
+      based_is = subst (λ (r : Rule). Based more (second_of r.log x (first_of r.before st)) based) rule_same was;
     }
 
   -- it was not stopped

@@ -4,16 +4,18 @@ use Rattle.dc_checkpoint.specs.States.{Reading}
 use Rattle.dc_elf.specs.Images.{Image}
 use Rattle.dc_guest.specs.Guest.{Guest}
 use Rattle.dc_kernel.specs.Layout.{kernel_words}
+use Rattle.dc_kernel.specs.Kernels.{Kernel}
 use Rattle.dc_kernel.specs.declared.faults.CheckFault.{CheckFault}
+use Rattle.dc_kernel.specs.declared.records.LogRecord.{LogRecord}
 use Rattle.dc_model.specs.Guests.{Answer}
 use Rattle.dc_model.specs.Process.{oldest}
 use Rattle.dc_proc.specs.Carried.{system}
-use Rattle.dc_proc.specs.Processes.{Held, IsOver, Stands}
+use Rattle.dc_proc.specs.Processes.{Held, IsAt, IsOver, IsStoredSave, Stands}
 use Rattle.dc_proc.specs.declared.down.Down.{Down}
 use Rattle.dc_protocols.specs.declared.protocol.Protocol.{Protocol}
 use Rattle.dc_recovery.specs.Core.{Status, Which, save_of}
 use Rattle.dc_recovery.specs.Parts.{risen}
-use Rattle.dc_recovery.specs.Saves.{reach}
+use Rattle.dc_recovery.specs.Saves.{Save, reach}
 use Rattle.dc_recovery.specs.Systems.{System}
 
 -- its room is there
@@ -30,6 +32,10 @@ pub record IsOf (n p : ℕ) (protocol : Protocol) (size : ℕ) (d : Down) : Type
   pub protocol_is : d.protocol ≡ protocol
   pub size_is : d.size ≡ size
 
+-- how many messages of each process it had received by its last commit
+abbrev pub based_of : Down → List ℕ
+based_of d = d.based.items
+
 -- it is up at one of its two saves, and its acts past the reach of that save are gone
 pub record IsRisen (S : System Guest) (p : ℕ) (answers : List Answer) (st : Status) (memory : Option (List ℕ)) (held : Held) (leaves : Reading → Type 0) : Type 0 where
   pub which : Which
@@ -40,6 +46,12 @@ abbrev pub Rises : (Reading → Type 0) → Option (List ℕ) → Held → (Read
 Rises before memory held leaves = (images : List Image) (inputs : List (List (List ℕ))) (protocol : Protocol) (p : ℕ) (answers : List Answer) (others : ℕ → ℕ) (st : Status)
     → Stands (system images inputs protocol).guests p answers others st before → ((k : Which) → reach (system images inputs protocol) p answers (save_of k st) ≤ length answers)
     → IsRisen (system images inputs protocol) p answers st memory held leaves
+
+-- wherever it was in the theory, whatever its guest and its protocol: where what was read for it stands for a save that does not reach past its answers, it is up there
+abbrev pub RisesAt : Kernel → List LogRecord → Held → Type 0
+RisesAt kernel log held = (images : List Image) (inputs : List (List (List ℕ))) (protocol : Protocol) (p : ℕ) (answers : List Answer) (others : ℕ → ℕ) (s : Save) (words : List ℕ)
+    → IsStoredSave (system images inputs protocol).guests p answers others s (record { words = words; kernel = kernel; log = log }) → reach (system images inputs protocol) p answers s ≤ length answers
+    → IsAt (system images inputs protocol) p (oldest (reach (system images inputs protocol) p answers s) answers) (risen s) words held
 
 -- the fault alone
 abbrev pub fault_only : {A B : Type 0} → Result A (B × CheckFault) → Result (Unit {0}) CheckFault

@@ -1,5 +1,5 @@
 -- What an event does to what a process holds.
-use Rattle.std.specs.Prelude.{◌≢◌, ◌<◌, ◌+◌, ◌^◌, ◌-◌, ℕ, List, length, slice_index, slice_set}
+use Rattle.std.specs.Prelude.{◌≢◌, ◌<◌, ◌+◌, ◌*◌, ◌^◌, ◌-◌, ℕ, List, length, slice_index, slice_set}
 use Rattle.dc_calls.specs.declared.call.Call.TheVariants.{Exit, Send}
 use Rattle.dc_events.specs.declared.event.Next.{Next}
 use Rattle.dc_events.specs.declared.event.Next.TheVariants as next
@@ -54,6 +54,15 @@ pub record HasCounts (k : Kernel) : Type 0 where
   pub place : k.place < 2 ^ 32 - 1
   pub received : (s : ℕ) → s < k.n → slice_index k.received s < 2 ^ 32 - 1
   pub sent : (q : ℕ) → q < k.n → (link_to k.links q).sent < 2 ^ 32 - 1
+
+-- counts that may rise by one in each of so many turns, and the number of the last commit, which may rise by two
+pub record HasCountsFor (turns : ℕ) (k : Kernel) : Type 0 where
+  pub position : k.position + turns < 2 ^ 32
+  pub visible : k.visible + turns < 2 ^ 32
+  pub place : k.place + turns < 2 ^ 32
+  pub received : (s : ℕ) → s < k.n → slice_index k.received s + turns < 2 ^ 32
+  pub sent : (q : ℕ) → q < k.n → (link_to k.links q).sent + turns < 2 ^ 32
+  pub commit : k.commit + 2 * turns < 2 ^ 32
 
 -- a message has a receiver, and room
 abbrev pub HasRoom : Kernel → Effect → Type 0

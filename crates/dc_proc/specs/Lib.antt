@@ -6,5 +6,4 @@ pub mod Events
 pub mod Turns
 pub mod Ups
 pub mod Downs
-pub mod Tests
 pub mod Worlds

@@ -1,7 +1,7 @@
 -- What the code of one process holds, and what its store may stand for. A process is the fold of its own answers, and needs no world.
 use Rattle.std.specs.Prelude.{◌≡◌, ◌==◌, ◌<◌, ◌≤◌, ◌+◌, ◌-◌, ◌⊎◌, ℕ, List, [], Bool, true, false, Option, IfSome, Ok, if◌then◌else◌, drop, length, map, slice_index}
 use Rattle.dc_calls.specs.declared.call.Call.TheVariants.{Exit}
-use Rattle.dc_checkpoint.specs.States.{Form, Reading}
+use Rattle.dc_checkpoint.specs.States.{Form, Reading, State, number_in}
 use Rattle.dc_events.specs.declared.event.Next.{Next}
 use Rattle.dc_events.specs.declared.event.Next.TheVariants as next
 use Rattle.dc_guest.specs.Guest.{Guest, next_of}
@@ -131,6 +131,10 @@ form_of kernel = record { n = kernel.n; p = kernel.p }
 -- a copy of what was received
 abbrev pub IsCopied : Kernel → List ℕ → Type 0
 IsCopied kernel based = (s : ℕ) → s < kernel.n → slice_index based s ≡ slice_index kernel.received s
+
+-- no image stands for a state of a later commit than this
+abbrev pub IsNumbered : ℕ → (Reading → Type 0) → Type 0
+IsNumbered most leaves = (state : State) → leaves (Ok state) → number_in state.kernel ≤ most
 
 -- a process and the handle of its store belong together
 pub record IsPaired (held : Held) (form : Form) (number logged : ℕ) : Type 0 where

@@ -1,5 +1,5 @@
 -- A turn of one process: what its code finds, the acts that it adds, and what it leaves where it is stopped.
-use Rattle.std.specs.Prelude.{◌≡◌, ◌≢◌, ◌==◌, ◌≤◌, ◌+◌, ◌++◌, ℕ, List, [], ◌∷◌, Bool, true, false, Option, None, Some, if◌then◌else◌, slice_index}
+use Rattle.std.specs.Prelude.{◌≡◌, ◌≢◌, ◌==◌, ◌<◌, ◌≤◌, ◌+◌, ◌++◌, ℕ, List, [], ◌∷◌, Bool, true, false, Option, None, Some, if◌then◌else◌, slice_index}
 use Rattle.dc_acts.specs.Counted.{acts_of}
 use Rattle.dc_checkpoint.specs.States.{Reading}
 use Rattle.dc_checkpoint.specs.declared.checkpoint.Checkpoint as checkpoint
@@ -11,6 +11,7 @@ use Rattle.dc_kernel.specs.Kernels.{Kernel}
 use Rattle.dc_kernel.specs.declared.records.LogRecord.{LogRecord}
 use Rattle.dc_model.specs.Guests.{Answer}
 use Rattle.dc_model.specs.Guests.Answer.{ReceiveFrom}
+use Rattle.dc_model.specs.Process.{at_position}
 use Rattle.dc_model.specs.World.{act_of}
 use Rattle.dc_model.specs.declared.act.Taken.{Taken}
 use Rattle.dc_proc.specs.Carried.{IsIn, Process, system}
@@ -49,19 +50,28 @@ pub record Part : Type 0 where
   pub answers : List Answer
   pub st : Status
 
+-- what it had received of each process by its older save
+abbrev pub IsBased : System Guest → Part → List ℕ → Type 0
+IsBased S part based = (s : ℕ) → s < S.guests.count → slice_index based s ≡ (at_position S.guests part.p part.st.older.position part.answers).received s
+
+-- the part after a turn that was answered so and stopped there
+abbrev pub part_after : System Guest → Part → Answer → Place → Part
+part_after S part a place = record { p = part.p; answers = answers_alone part.answers part.st a place; st = status_alone S part.p part.answers part.st a place }
+
 -- the acts before a turn, those with its act, and those after it
 pub record Written : Type 0 where
   pub before : List Taken
   pub more : List Taken
   pub after : List Taken
 
--- it was stopped in one of its places; each image stands for what a stop there leaves, and the act is there exactly where a stop there leaves it
-pub record IsStopped (S : System Guest) (part : Part) (a : Answer) (others : ℕ → ℕ) (leaves : Reading → Type 0) (acts : Written) : Type 0 where
+-- it was stopped in one of its places; each image stands for what a stop there leaves, the act is there exactly where a stop there leaves it, and so is what it had received by its last commit
+pub record IsStopped (S : System Guest) (part : Part) (a : Answer) (others : ℕ → ℕ) (leaves : Reading → Type 0) (acts : Written) (based : List ℕ) : Type 0 where
   pub place : Place
   pub somewhere : place ≢ Nowhere
   pub may : MayStopAlone S part.p part.answers part.st a place
   pub stands : Stands S.guests part.p (answers_alone part.answers part.st a place) others (status_alone S part.p part.answers part.st a place) leaves
   pub written : acts.after ≡ (if has_act place then acts.more else acts.before)
+  pub based_is : IsBased S (part_after S part a place) based
 
 -- with this answer, wherever it was in the theory and whatever its guest, where its memory is told: the turn takes it so much further
 abbrev pub TakesTurn : {C D : Type 0} → checkpoint.Ghosts C D → Protocol → Answer → Process C D → Process C D → Type 0
@@ -73,4 +83,4 @@ TakesTurn g protocol a old new = (images : List Image) (inputs : List (List (Lis
 abbrev pub StopsTurn : {C D : Type 0} → checkpoint.Ghosts C D → Protocol → Answer → Process C D → Process C D → Written → Type 0
 StopsTurn g protocol a old new acts = (images : List Image) (inputs : List (List (List ℕ))) (p : ℕ) (answers : List Answer) (st : Status) (d : ℕ) (words : List ℕ) → g.floor old.store ≤ d
     → g.contents old.store old.dev ≡ Some words → IsIn g (system images inputs protocol) p answers st d old → IsAnswerAlone (system images inputs protocol).guests p answers st a
-    → IsStopped (system images inputs protocol) (record { p = p; answers = answers; st = st }) a (slice_index old.held.others) (g.leaves new.store new.dev d) acts
+    → IsStopped (system images inputs protocol) (record { p = p; answers = answers; st = st }) a (slice_index old.held.others) (g.leaves new.store new.dev d) acts new.held.based

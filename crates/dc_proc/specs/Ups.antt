@@ -1,7 +1,8 @@
 -- What a process of the code that is up holds.
-use Rattle.std.specs.Prelude.{◌≡◌, ◌≤◌, drop, length, vec_capacity}
+use Rattle.std.specs.Prelude.{◌≡◌, ◌≤◌, ◌*◌, drop, length, vec_capacity}
+use Rattle.dc_checkpoint.specs.declared.checkpoint.Checkpoint as checkpoint
 use Rattle.dc_kernel.specs.Layout.{kernel_words}
-use Rattle.dc_proc.specs.Processes.{Held, has_ended}
+use Rattle.dc_proc.specs.Processes.{Held, IsPaired, has_ended}
 use Rattle.dc_proc.specs.declared.up.Up.{Up}
 
 -- its kernel is kept but for the registers, which its guest has
@@ -34,3 +35,11 @@ pub record IsSameUp (old new : Up) : Type 0 where
   pub n_same : new.kernel.n ≡ old.kernel.n
   pub p_same : new.kernel.p ≡ old.kernel.p
   pub others_same : new.others.items ≡ old.others.items
+
+-- a process and its store that may take a turn
+pub record IsFit {C D : Type 0} (g : checkpoint.Ghosts C D) (up : Up) (store : C) (dev : D) : Type 0 where
+  pub lent : g.lent store dev
+  pub ready : g.ready store dev
+  pub sized : up.size ≡ 4 * g.size store
+  pub paired : IsPaired (held up) (g.form store) (g.number store) (g.logged store)
+  pub whole : IsWhole up

@@ -7,7 +7,7 @@ ghost use Rattle.dc_kernel.specs.Texts.{text_of};
 ghost use Rattle.dc_media.specs.Told.{Becomes};
 ghost use Rattle.dc_proc.specs.Calls.{IsCall, on};
 ghost use Rattle.dc_proc.specs.Carried.{Carries, Leaves, process};
-ghost use Rattle.dc_proc.specs.Processes.{IsCopied, IsPaired, committed_held, form_of, next_commit};
+ghost use Rattle.dc_proc.specs.Processes.{IsCopied, IsNumbered, IsPaired, committed_held, form_of, next_commit};
 ghost use Rattle.dc_proc.specs.Ups.{IsSameUp, IsWhole, held};
 ghost use Rattle.dc_recovery.specs.Parts.{committed, first_of, torn};
 
@@ -66,6 +66,9 @@ impl Up {
         ensures memory { OnOk result (Becomes (C.contents store.old dev.old) (C.contents store.new dev.new) (λ before after. after ≡ before)) }
         ensures number { self.new.kernel.commit ≤ self.old.kernel.commit + 1 }
         ensures held { OnOk result (held self.new ≡ committed_held (held self.old) self.new.based.items) }
+        ensures copied { OnOk result (IsCopied self.old.kernel self.new.based.items) }
+        ensures based { OnErr result (self.new.based.items ≡ self.old.based.items) }
+        ensures numbered { (d most : ℕ) → C.floor store.old ≤ d → self.old.kernel.commit ≤ most → IsNumbered most (C.leaves store.old dev.old d) → IsNumbered (most + 1) (C.leaves store.new dev.new d) }
         ensures same { IsSameUp self.old self.new }
         ensures guest { self.new.guest ≡ self.old.guest }
         ensures whole { IsWhole self.new }
@@ -96,6 +99,9 @@ impl Up {
         ensures number { self.new.kernel.commit ≤ self.old.kernel.commit + 1 }
         ensures memory { OnOk result (Becomes (C.contents store.old dev.old) (C.contents store.new dev.new) (λ before after. after ≡ before)) }
         ensures held { OnOk result (due ≡ true → held self.new ≡ committed_held (held self.old) self.new.based.items) }
+        ensures copied { OnOk result (due ≡ true → IsCopied self.old.kernel self.new.based.items) }
+        ensures based { OnErr result (self.new.based.items ≡ self.old.based.items) }
+        ensures numbered { (d most : ℕ) → C.floor store.old ≤ d → self.old.kernel.commit ≤ most → IsNumbered most (C.leaves store.old dev.old d) → IsNumbered (most + 1) (C.leaves store.new dev.new d) }
         ensures kept { OnOk result (due ≡ false → self.new ≡ self.old) }
         ensures untouched { due ≡ false → (store.new ≡ store.old) × (dev.new ≡ dev.old) }
         ensures same { IsSameUp self.old self.new }

@@ -6,8 +6,8 @@ ghost use Rattle.dc_checkpoint.specs.States.{Gives, Reading};
 ghost use Rattle.dc_kernel.specs.Kernels.{IsKernel};
 ghost use Rattle.dc_kernel.specs.declared.faults.StoreFault as faults;
 ghost use Rattle.dc_links.specs.Links.{link_to, number_of_first};
-ghost use Rattle.dc_proc.specs.Downs.{IsDown, IsOf, Rises, fault_only};
-ghost use Rattle.dc_proc.specs.Processes.{IsCopied, IsPaired};
+ghost use Rattle.dc_proc.specs.Downs.{IsDown, IsOf, Rises, RisesAt, based_of, fault_only};
+ghost use Rattle.dc_proc.specs.Processes.{IsCopied, IsNumbered, IsPaired};
 ghost use Rattle.dc_proc.specs.Ups.{IsWhole, held};
 
 use crate::holding::{copy_firsts, guest_of};
@@ -37,6 +37,7 @@ impl Up {
         ensures stands { (dev : C.Device) → Narrows 0 (C.leaves store.old dev) (C.leaves store.new dev) }
         ensures steady { (dev : C.Device) → C.steady store.old dev → C.steady store.new dev }
         ensures numbers { (dev : C.Device) → AreAmong (C.numbers store.old dev) (C.numbers store.new dev) }
+        ensures based { based_of result ≡ (held self).based }
         ensures down { IsDown result }
         ensures of { IsOf self.kernel.n self.kernel.p self.protocol self.size result }
     {
@@ -57,6 +58,15 @@ impl Up {
 }
 
 impl Down {
+    /// How many messages of process `s` it had received by its last commit.
+    pub fn committed_receipts(&self, s: u32) -> u32
+        requires process { s < self.now.saved.kernel.n }
+        requires down { IsDown self.now }
+        ensures { result ≡ slice_index (based_of self.now) s }
+    {
+        self.based[s as usize]
+    }
+
     /// The process at what was read.
     fn up(self) -> Up
         requires down { IsDown self }
@@ -121,6 +131,8 @@ impl Down {
         ensures own { IfOk result (λ up. (held up).own ≡ false) }
         ensures protocol { IfOk result (λ up. (up.protocol ≡ self.protocol) × (up.size ≡ self.size)) }
         ensures down { IfErr result (λ e. IsDown e.0 × IsOf self.saved.kernel.n self.saved.kernel.p self.protocol self.size e.0) }
+        ensures kept { IfErr result (λ e. based_of e.0 ≡ based_of self) }
+        ensures number { IfOk result (λ up. IfSome (C.contents store.new dev.new) (λ words. (most : ℕ) → IsNumbered most (C.leaves store.old dev.old 0) → (held up).kernel.commit ≤ most)) }
         ensures floor { OnOk result (C.floor store.new ≤ 0) }
         ensures stands { (reading : Reading) → C.leaves store.new dev.new 0 reading → C.leaves store.old dev.old 0 reading }
         ensures refused { (fault : faults.StoreFault) → IsErrOf (fault_only result) (CheckFault.Refused fault) → (reading : Reading) → C.leaves store.old dev.old 0 reading → reading ≡ Err fault }
@@ -139,7 +151,8 @@ impl Down {
         }
     }
 
-    /// Rises at what a recovery of all processes read for it, in exchange for the room that it had.
+    /// Rises at what a recovery of all processes read for it, in exchange for the room that it had: where that stands for a save, it is
+    /// up there.
     pub fn rise(self, saved: &mut Saved) -> Up
         requires down { IsDown self }
         requires kernel { IsKernel self.saved.kernel.n self.saved.kernel.p saved.old.kernel }
@@ -151,6 +164,7 @@ impl Down {
         ensures left { (held result).log_left + length saved.old.log.items ≡ 64 }
         ensures based { IsCopied saved.old.kernel (held result).based }
         ensures others { (q : ℕ) → q < saved.old.kernel.n → slice_index (held result).others q ≡ number_of_first (link_to saved.old.kernel.links q) }
+        ensures risen { RisesAt saved.old.kernel saved.old.log.items (held result) }
         ensures whole { IsWhole result }
         ensures protocol { (result.protocol ≡ self.protocol) × (result.size ≡ self.size) }
         ensures room { 64 ≤ vec_capacity saved.new.log }

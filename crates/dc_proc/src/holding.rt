@@ -1,6 +1,6 @@
 //! What a process that is up holds: how it begins, what is read of it, what it learns.
 
-ghost use Rattle.std.specs.Prelude.{◌≡◌, ◌<◌, ◌≤◌, ◌%◌, ◌+◌, ◌-◌, ◌^◌, ℕ, List, Option, None, Some, [], false, true, IfOk, IfSome, drop, length, max, slice_get, slice_index, slice_set};
+ghost use Rattle.std.specs.Prelude.{◌≡◌, ◌<◌, ◌≤◌, ◌%◌, ◌+◌, ◌*◌, ◌-◌, ◌^◌, ℕ, List, Option, None, Some, [], false, true, IfOk, IfSome, drop, length, max, slice_get, slice_index, slice_set};
 ghost use Rattle.dc_checkpoint.specs.States.{IsText, Reading};
 ghost use Rattle.dc_elf.specs.Images.{Image};
 ghost use Rattle.dc_guest.specs.Guest.{guests_of};
@@ -10,7 +10,7 @@ ghost use Rattle.dc_kernel.specs.Texts.{text_of};
 ghost use Rattle.dc_links.specs.Links.{link_to, number_of_first, trimmed};
 ghost use Rattle.dc_model.specs.Guests.{Answer};
 ghost use Rattle.dc_proc.specs.Carried.{system};
-ghost use Rattle.dc_proc.specs.Events.{HasCounts};
+ghost use Rattle.dc_proc.specs.Events.{HasCountsFor};
 ghost use Rattle.dc_proc.specs.Processes.{IsCopied, IsProcess, IsSavedAs, form_of, has_ended};
 ghost use Rattle.dc_proc.specs.Ups.{IsSameUp, IsWhole, held};
 ghost use Rattle.dc_protocols.specs.declared.protocol.Protocol as protocols;
@@ -57,13 +57,22 @@ pub(crate) fn copy_firsts(kernel: &Kernel, others: &mut [u32])
     }
 }
 
-/// Whether each count of messages, received and sent, may rise by one.
-fn has_message_counts(kernel: &Kernel) -> bool
-    ensures received { result ≡ true → (q : ℕ) → q < kernel.now.n → slice_index kernel.now.received q < 2 ^ 32 - 1 }
-    ensures sent { result ≡ true → (q : ℕ) → q < kernel.now.n → (link_to kernel.now.links q).sent < 2 ^ 32 - 1 }
+/// Whether the number of its last commit may rise by two in each of so many turns.
+fn has_commits(kernel: &Kernel, turns: u32) -> bool
+    ensures yes { result ≡ true → kernel.now.commit + 2 * turns < 2 ^ 32 }
+    ensures no { result ≡ false → kernel.now.commit + 2 * turns < 2 ^ 32 → ⊥ }
+{
+    u64::from(kernel.commit()) + 2 * u64::from(turns) <= u64::from(u32::MAX)
+}
+
+/// Whether no count of messages, received or sent, is over this.
+fn has_message_counts(kernel: &Kernel, most: u32) -> bool
+    ensures received { result ≡ true → (q : ℕ) → q < kernel.now.n → slice_index kernel.now.received q ≤ most }
+    ensures sent { result ≡ true → (q : ℕ) → q < kernel.now.n → (link_to kernel.now.links q).sent ≤ most }
+    ensures over { result ≡ false → (q : ℕ) × (q < kernel.now.n) × ((slice_index kernel.now.received q ≤ most) → (link_to kernel.now.links q).sent ≤ most → ⊥) }
 {
     for q in 0..kernel.n() {
-        if kernel.received(q) == u32::MAX || kernel.links().sent(q) == u32::MAX {
+        if kernel.received(q) > most || kernel.links().sent(q) > most {
             return false;
         }
     }
@@ -146,14 +155,28 @@ impl Up {
         self.log.get(self.read)
     }
 
-    /// Whether each of its counts may rise by one, as a turn may make them.
-    pub fn has_counts(&self) -> bool
-        ensures { result ≡ true → HasCounts (held self.now).kernel }
+    /// Whether its counts have room for so many turns: each may rise by one in a turn, the number of its last commit by two.
+    pub fn has_counts_for(&self, turns: u32) -> bool
+        ensures room { result ≡ true → HasCountsFor turns (held self.now).kernel }
+        ensures none { result ≡ false → HasCountsFor turns (held self.now).kernel → ⊥ }
     {
-        self.kernel.position() < u32::MAX
-            && self.kernel.visible() < u32::MAX
-            && self.kernel.place() < u32::MAX
-            && has_message_counts(&self.kernel)
+        let most = u32::MAX - turns;
+        if self.kernel.position() > most || self.kernel.visible() > most {
+            return false;
+        }
+        if self.kernel.place() > most || !has_commits(&self.kernel, turns) {
+            return false;
+        }
+        has_message_counts(&self.kernel, most)
+    }
+
+    /// How many messages of process `s` it had received by its last commit.
+    pub fn committed_receipts(&self, s: u32) -> u32
+        requires process { s < self.now.kernel.n }
+        requires whole { IsWhole self.now }
+        ensures { result ≡ slice_index (held self.now).based s }
+    {
+        self.based[s as usize]
     }
 
     /// Process `q` is known to have committed its messages below `upto`: they are kept no longer. What is known never falls.

@@ -8,7 +8,7 @@ ghost use Rattle.dc_media.specs.Told.{Becomes};
 ghost use Rattle.dc_proc.specs.Calls.{IsCall, on};
 ghost use Rattle.dc_proc.specs.Carried.{Carries, Leaves, process};
 ghost use Rattle.dc_proc.specs.Events.{IsSender};
-ghost use Rattle.dc_proc.specs.Processes.{IsPaired, logged_of};
+ghost use Rattle.dc_proc.specs.Processes.{IsNumbered, IsPaired, logged_of};
 ghost use Rattle.dc_proc.specs.Ups.{IsSameUp, IsWhole, held};
 ghost use Rattle.dc_protocols.specs.Rules.{at_inputs};
 ghost use Rattle.dc_recovery.specs.Parts.{logged, second_of, torn_log};
@@ -64,6 +64,8 @@ impl Up {
         ensures paired { OnOk result (IsPaired (held self.new) (C.form store.new) (C.number store.new) (C.logged store.new)) }
         ensures memory { OnOk result (Becomes (C.contents store.old dev.old) (C.contents store.new dev.new) (λ before after. after ≡ before)) }
         ensures held { OnOk result (held self.new ≡ record (held self.old) { log_left = self.old.log_left - 1 }) }
+        ensures based { self.new.based.items ≡ self.old.based.items }
+        ensures numbered { (d most : ℕ) → C.floor store.old ≤ d → IsNumbered most (C.leaves store.old dev.old d) → IsNumbered most (C.leaves store.new dev.new d) }
         ensures steady { C.steady store.old dev.old → C.steady store.new dev.new × AreAmong (C.numbers store.old dev.old) (C.numbers store.new dev.new) }
         ensures same { IsSameUp self.old self.new }
         ensures guest { self.new.guest ≡ self.old.guest }
@@ -96,6 +98,8 @@ impl Up {
         ensures memory { OnOk result (Becomes (C.contents store.old dev.old) (C.contents store.new dev.new) (λ before after. after ≡ before)) }
         ensures held { OnOk result (due ≡ true → held self.new ≡ record (held self.old) { log_left = self.old.log_left - 1 }) }
         ensures kept { OnOk result (due ≡ false → self.new ≡ self.old) }
+        ensures based { self.new.based.items ≡ self.old.based.items }
+        ensures numbered { (d most : ℕ) → C.floor store.old ≤ d → IsNumbered most (C.leaves store.old dev.old d) → IsNumbered most (C.leaves store.new dev.new d) }
         ensures steady { C.steady store.old dev.old → C.steady store.new dev.new × AreAmong (C.numbers store.old dev.old) (C.numbers store.new dev.new) }
         ensures same { IsSameUp self.old self.new }
         ensures guest { self.new.guest ≡ self.old.guest }

@@ -1,9 +1,10 @@
 //! What an event leaves in a process's kernel, its log and its flags.
 
-ghost use Rattle.std.specs.Prelude.{◌≡◌, ◌<◌, ◌-◌, ◌^◌, ◌||◌, ℕ, drop, if◌then◌else◌, length, slice_index};
+ghost use Rattle.std.specs.Prelude.{◌≡◌, ◌<◌, ◌-◌, ◌^◌, ◌||◌, ℕ, false, drop, if◌then◌else◌, length, slice_index};
 ghost use Rattle.dc_guest.specs.Answers.{answer_of};
 ghost use Rattle.dc_kernel.specs.Kernels.{IsStatus};
 ghost use Rattle.dc_links.specs.Links.{link_to};
+ghost use Rattle.dc_model.specs.Guests.Answer.{Plain};
 ghost use Rattle.dc_proc.specs.Events.{HasCounts, HasRoom, IsSender, kernel_after, status_after, with_answer, with_effect, with_step};
 ghost use Rattle.dc_proc.specs.Turns.{shown_of};
 ghost use Rattle.dc_proc.specs.Ups.{held};
@@ -91,7 +92,18 @@ impl Up {
         }
     }
 
-    /// Notes an event that was taken, and tells what it shows.
+    /// Notes an instruction that retired: nothing was told, and nothing is seen of it.
+    pub(crate) fn note_retired(&mut self)
+        requires position { self.old.kernel.position < 2 ^ 32 - 1 }
+        ensures kernel { self.new.kernel ≡ kernel_after self.old.others.items Next.Retire Plain Effect.Nothing self.old.kernel }
+        ensures unread { (held self.new).unread ≡ (held self.old).unread }
+        ensures own { self.new.own ≡ (self.old.own || sets_own false false Plain) }
+        ensures rest { self.new ≡ record self.old { kernel = self.new.kernel; read = self.new.read; own = self.new.own } }
+    {
+        self.kernel.set_position(self.kernel.position() + 1);
+    }
+
+    /// Notes a call or a trap that was taken, and tells what it shows.
     pub(crate) fn note_event(
         &mut self,
         next: &Next,

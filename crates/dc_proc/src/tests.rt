@@ -1,11 +1,12 @@
 //! A process under each protocol, stopped at each call of its store's device.
 
-ghost use Rattle.std.specs.Prelude.{◌≡◌, ◌*◌, ◌<◌, ◌≤◌, None, IfOk, IfSome, length, slice_index};
-ghost use Rattle.dc_kernel.specs.Faults.{kernel_fault};
-ghost use Rattle.dc_kernel.specs.Layout.{commit_at, n_at, p_at};
+ghost use Rattle.std.specs.Prelude.{◌≡◌, ◌*◌, ◌<◌, ◌≤◌, IfOk, IfSome, length};
 ghost use Rattle.dc_plain.specs.Playing.{CanStart};
 ghost use Rattle.dc_proc.specs.Downs.{IsDown};
-ghost use Rattle.dc_proc.specs.Tests.{IsFit};
+ghost use Rattle.dc_proc.specs.Ups.{IsFit};
+
+mod messages;
+mod setting;
 
 use crate::{Down, Shown, Up, processes_stand};
 use dc_acts::Acts;
@@ -13,7 +14,6 @@ use dc_calls::Call;
 use dc_checkpoint::Checkpoint;
 use dc_elf::Image;
 use dc_guest::Answer;
-use dc_kernel::{Kernel, LogRecord, kernel_words};
 use dc_links::Message;
 use dc_media::{DeviceFault, Tear};
 use dc_memmedia::{ListedCall, MemKeeps};
@@ -22,6 +22,7 @@ use dc_plain::Plain;
 use dc_protocols::Protocol;
 use dc_vista::Segment;
 use dc_words::bytes_of;
+use setting::begin;
 use std::alloc::{AllocError, Global};
 use std::test::Fail;
 
@@ -64,69 +65,6 @@ struct Course {
     acts: Acts,
     exposed: u32,
     lines: Vec<Visible>,
-}
-
-/// The kernel of the only process, before its first event.
-fn kernel(alloc: Global) -> Result<Kernel, AllocError>
-    ensures process { IfOk result (λ kernel. (kernel.n ≡ 1) × (kernel.p ≡ 0)) }
-    ensures number { IfOk result (λ kernel. kernel.commit ≡ 1) }
-{
-    let mut kernel = Kernel::new(alloc, 1, 0)?;
-    kernel.set_commit(1);
-    Ok(kernel)
-}
-
-/// The text of that kernel.
-fn text_of(alloc: Global, kernel: &Kernel) -> Result<Vec<u32>, AllocError>
-    requires { (kernel.now.n ≡ 1) × (kernel.now.p ≡ 0) }
-    ensures fault { IfOk result (λ text. kernel_fault 1 0 text.items ≡ None) }
-    ensures process { IfOk result (λ text. (slice_index text.items n_at ≡ 1) × (slice_index text.items p_at ≡ 0)) }
-    ensures number { IfOk result (λ text. slice_index text.items commit_at ≡ kernel.now.commit) }
-{
-    let mut text = vec![in alloc; 0; kernel_words(kernel.n())]?;
-    kernel.encode(&mut text);
-    Ok(text)
-}
-
-/// A memory with these words in front.
-fn memory_of(alloc: Global, pages: u32, words: &[u32]) -> Result<Vec<u32>, AllocError>
-    requires pages { (1 ≤ pages) × (pages ≤ 256) }
-    requires short { length words.now ≤ 64 }
-    ensures long { IfOk result (λ memory. length memory.items ≡ 1024 * pages) }
-{
-    let mut memory = vec![in alloc; 0; (1024 * pages) as usize]?;
-    memory[..words.len()].copy_from_slice(words);
-    Ok(memory)
-}
-
-/// A process at these words, and its store.
-fn begin<C: Checkpoint + Drop>(
-    alloc: Global,
-    dev: &mut C::Device,
-    protocol: Protocol,
-    pages: u32,
-    words: &[u32],
-) -> Option<(Up, C)>
-    requires pages { (1 ≤ pages) × (pages ≤ 256) }
-    requires short { length words.now ≤ 64 }
-    ensures fit { IfSome result (λ made. IsFit C.Checkpoint made.0 made.1 dev.new) }
-{
-    let Ok(kernel) = kernel(alloc) else {
-        return None;
-    };
-    let Ok(text) = text_of(alloc, &kernel) else {
-        return None;
-    };
-    let Ok(memory) = memory_of(alloc, pages, words) else {
-        return None;
-    };
-    let Ok(up) = Up::new(alloc, protocol, 4096 * pages, kernel) else {
-        return None;
-    };
-    match C::format(alloc, dev, 0, memory, text) {
-        Ok((store, false)) => Some((up, store)),
-        _ => None,
-    }
 }
 
 /// The input of a number.
@@ -250,7 +188,7 @@ fn step<C: Checkpoint>(
     ensures fit { IfSome result (λ up. IsFit C.Checkpoint up store.new dev.new) }
 {
     let answer = answer(&up, store, dev, t, &course.acts)?;
-    if up.has_ended() || !up.has_counts() || up.kernel().commit() > 1000 {
+    if up.has_ended() || !up.has_counts_for(1) || up.kernel().commit() > 1000 {
         return None;
     }
     if up.is_full(store, dev) || !up.may_take(&answer, store, dev) {
@@ -283,7 +221,7 @@ fn play<C: Checkpoint + Drop>(
 ) -> Option<Course>
     requires short { length words.now ≤ 64 }
 {
-    let (mut up, mut store) = begin::<C>(alloc, dev, protocol, 1, words)?;
+    let (mut up, mut store) = begin::<C>(alloc, dev, protocol, 1, 0, words)?;
     let mut course = Course::new(alloc);
     for t in 0..turns {
         up = step(up, &mut store, dev, t, &mut course)?;
@@ -301,7 +239,7 @@ fn play_and_fall<C: Checkpoint + Drop>(
 ) -> Option<(u32, u32)>
     requires short { length words.now ≤ 64 }
 {
-    let (mut up, mut store) = begin::<C>(alloc, dev, protocol, 1, words)?;
+    let (mut up, mut store) = begin::<C>(alloc, dev, protocol, 1, 0, words)?;
     let mut course = Course::new(alloc);
     for t in 0..turns {
         up = step(up, &mut store, dev, t, &mut course)?;

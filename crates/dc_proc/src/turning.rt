@@ -10,8 +10,8 @@ ghost use Rattle.dc_media.specs.Told.{Becomes};
 ghost use Rattle.dc_model.specs.Guests.Answer.{Plain};
 ghost use Rattle.dc_proc.specs.Calls.{IsCall, on};
 ghost use Rattle.dc_proc.specs.Carried.{process};
-ghost use Rattle.dc_proc.specs.Events.{HasCounts, HasNextReceiver, HasNextRoom, IsSender};
-ghost use Rattle.dc_proc.specs.Processes.{IsPaired};
+ghost use Rattle.dc_proc.specs.Events.{HasCounts, HasCountsFor, HasNextReceiver, HasNextRoom, IsSender};
+ghost use Rattle.dc_proc.specs.Processes.{IsNumbered, IsPaired};
 ghost use Rattle.dc_proc.specs.Turns.{StopsTurn, TakesTurn, acts_with, is_none, makes_eight, shown_of};
 ghost use Rattle.dc_proc.specs.Ups.{IsSameUp, IsWhole, held};
 ghost use Rattle.dc_protocols.specs.Rules.{at_inputs, is_global, rule_of};
@@ -23,7 +23,7 @@ use dc_acts::Acts;
 use dc_calls::Call;
 use dc_checkpoint::Checkpoint;
 use dc_events::{Kind, Next};
-use dc_guest::{Answer, Effect};
+use dc_guest::Answer;
 use dc_kernel::{CheckFault, Kernel};
 use dc_model::Taken;
 use dc_protocols::{Rule, Since, is_global, rule};
@@ -150,13 +150,16 @@ impl Up {
         ensures paired { OnOk result (IsPaired (held self.new) (C.form store.new) (C.number store.new) (C.logged store.new)) }
         ensures whole { IsWhole self.new }
         ensures steady { is_global self.old.protocol ≡ true → C.steady store.old dev.old → C.steady store.new dev.new × AreAmong (C.numbers store.old dev.old) (C.numbers store.new dev.new) }
+        ensures quiet { OnOk result ((held self.new).kernel.commit ≡ (held self.old).kernel.commit → (held self.new).based ≡ (held self.old).based) }
+        ensures counts { OnOk result ((turns : ℕ) → HasCountsFor (turns + 1) self.old.kernel → HasCountsFor turns self.new.kernel) }
+        ensures numbered { (d most : ℕ) → C.floor store.old ≤ d → self.old.kernel.commit ≤ most → IsNumbered most (C.leaves store.old dev.old d) → IsNumbered (most + 2) (C.leaves store.new dev.new d) }
         ensures same { IsSameUp self.old self.new }
         ensures room { acts.old.room ≤ acts.new.room }
         ensures grown { length acts.new.items ≤ length acts.old.items + 1 }
         ensures goes { OnOk result (TakesTurn C.Checkpoint self.old.protocol (answer_of answer.now) (process store.old dev.old (held self.old)) (process store.new dev.new (held self.new))) }
         ensures acts { OnOk result (acts.new.items ≡ acts_with acts.old.items self.old.kernel t (answer_of answer.now)) }
         ensures shown { IfOk result (λ shown. IfSome (C.contents store.old dev.old) (λ words. shown ≡ shown_of (effect_of (event_of next.now (machine_over self.old.guest words))) self.old.kernel.visible)) }
-        ensures stopped { OnErr result (StopsTurn C.Checkpoint self.old.protocol (answer_of answer.now) (process store.old dev.old (held self.old)) (process store.new dev.new (held self.old)) (record {
+        ensures stopped { OnErr result (StopsTurn C.Checkpoint self.old.protocol (answer_of answer.now) (process store.old dev.old (held self.old)) (process store.new dev.new (held self.new)) (record {
           before = acts.old.items;
           more = acts_with acts.old.items self.old.kernel t (answer_of answer.now);
           after = acts.new.items;
@@ -207,13 +210,16 @@ impl Up {
         ensures paired { OnOk result (IsPaired (held self.new) (C.form store.new) (C.number store.new) (C.logged store.new)) }
         ensures whole { IsWhole self.new }
         ensures steady { is_global self.old.protocol ≡ true → C.steady store.old dev.old → C.steady store.new dev.new × AreAmong (C.numbers store.old dev.old) (C.numbers store.new dev.new) }
+        ensures quiet { OnOk result ((held self.new).kernel.commit ≡ (held self.old).kernel.commit → (held self.new).based ≡ (held self.old).based) }
+        ensures counts { OnOk result ((turns : ℕ) → HasCountsFor (turns + 1) self.old.kernel → HasCountsFor turns self.new.kernel) }
+        ensures numbered { (d most : ℕ) → C.floor store.old ≤ d → self.old.kernel.commit ≤ most → IsNumbered most (C.leaves store.old dev.old d) → IsNumbered (most + 2) (C.leaves store.new dev.new d) }
         ensures same { IsSameUp self.old self.new }
         ensures room { acts.old.room ≤ acts.new.room }
         ensures grown { length acts.new.items ≤ length acts.old.items + 1 }
         ensures goes { OnOk result (TakesTurn C.Checkpoint self.old.protocol (answer_of answer.now) (process store.old dev.old (held self.old)) (process store.new dev.new (held self.new))) }
         ensures acts { OnOk result (IfSome (C.contents store.old dev.old) (λ words. acts.new.items ≡ acts_with acts.old.items self.old.kernel t (answer_of answer.now))) }
         ensures shown { IfOk result (λ shown. IfSome (C.contents store.old dev.old) (λ words. shown ≡ shown_of (effect_of (event_of (next_of (over self.old.guest words)) (machine_over self.old.guest words))) self.old.kernel.visible)) }
-        ensures stopped { OnErr result (StopsTurn C.Checkpoint self.old.protocol (answer_of answer.now) (process store.old dev.old (held self.old)) (process store.new dev.new (held self.old)) (record {
+        ensures stopped { OnErr result (StopsTurn C.Checkpoint self.old.protocol (answer_of answer.now) (process store.old dev.old (held self.old)) (process store.new dev.new (held self.new)) (record {
           before = acts.old.items;
           more = acts_with acts.old.items self.old.kernel t (answer_of answer.now);
           after = acts.new.items;
@@ -222,7 +228,8 @@ impl Up {
         match self.step(store, dev) {
             Ok(Next::Retire) => {
                 self.add_act(t, answer, acts);
-                Ok(self.note_event(&Next::Retire, &Answer::Plain, Effect::Nothing, false, false))
+                self.note_retired();
+                Ok(None)
             }
             Ok(next) => {
                 if self.is_blocked(&next) {

@@ -1,4 +1,4 @@
-use Rattle.dc_proc.specs.Tests.{IsFit}
+use Rattle.dc_proc.specs.Ups.{IsFit}
 use Rattle.dc_proc.proofs.tests.play_and_fall.Given as goal
 
 -- the process may take its next turn

@@ -1,5 +1,6 @@
-use Rattle.std.proofs.Common.{◌-◌, refl, arith}
+use Rattle.std.proofs.Common.{◌-◌, inr, refl, arith}
 use Rattle.dc_proc.proofs.Logs.{log_torn, over_logged}
+use Rattle.dc_proc.proofs.Numbers.{numbered_log}
 use Rattle.dc_proc.proofs.Texts.{any_err}
 use Rattle.dc_proc.specs.Carried.{system}
 use Rattle.dc_proc.specs.Ups.{held}
@@ -12,3 +13,9 @@ returns-in_err-append_log-clause-torn g c = any_err c.from_residual.result (λ i
 pub returns-clause-goes : goal.returns-clause-goes
 returns-clause-goes g c images inputs protocol p answers st d from over = over_logged (system images inputs protocol) p answers st (held c.args.self.now) c.args.rec.now _ _ _ _ (c.args.self.now.log_left - 1) _ over refl (omega (arith, c.requires.room))
     c.in_ok-append_log.ensures.memory (λ r l. c.in_ok-append_log.ensures.stands d r from l)
+
+pub returns-in_err-append_log-clause-numbered : goal.returns-in_err-append_log-clause-numbered
+returns-in_err-append_log-clause-numbered g c d most from is = numbered_log most (g.C.Checkpoint.leaves c.args.store.now c.args.dev.now d) (g.C.Checkpoint.leaves c.append_log.new.self c.append_log.new.dev d) c.args.rec.now is (λ r l. c.in_err-append_log.ensures.between d r from l)
+
+pub returns-clause-numbered : goal.returns-clause-numbered
+returns-clause-numbered g c d most from is = numbered_log most (g.C.Checkpoint.leaves c.args.store.now c.args.dev.now d) (g.C.Checkpoint.leaves c.append_log.new.self c.append_log.new.dev d) c.args.rec.now is (λ r l. inr (c.in_ok-append_log.ensures.stands d r from l))

@@ -1,4 +1,5 @@
-use Rattle.std.proofs.Common.{◌≡◌, ◌∙◌, IfSome, ap, sym, subst, rules, false, slice_index}
+use Rattle.std.proofs.Common.{◌≡◌, ◌∙◌, IfSome, refl, ap, sym, subst, rules, false, slice_index}
+use Rattle.std.proofs.lemmas.Bool.{true≢false}
 use Rattle.std.proofs.lemmas.Result.{on_ok_weaker}
 use Rattle.dc_events.specs.Kinds.{kind_of}
 use Rattle.dc_events.specs.declared.event.Next.TheVariants.{Retire}
@@ -8,6 +9,7 @@ use Rattle.dc_guest.specs.Nexts.{Waits}
 use Rattle.dc_guest.specs.declared.effect.Effect.TheVariants.{Nothing}
 use Rattle.dc_model.specs.Guests.Answer.{Plain}
 use Rattle.dc_proc.proofs.Adding.{answer_there, over_added}
+use Rattle.dc_proc.proofs.Based.{parts_based}
 use Rattle.dc_proc.proofs.Moving.{over_next}
 use Rattle.dc_proc.proofs.Retired.{plain_is, retired, stopped_retiring, told_nothing}
 use Rattle.dc_proc.proofs.Stopped.{told_at}
@@ -16,6 +18,7 @@ use Rattle.dc_proc.specs.Carried.{system}
 use Rattle.dc_proc.specs.Processes.{IsAt}
 use Rattle.dc_proc.specs.Turns.{acts_with}
 use Rattle.dc_proc.specs.Ups.{held}
+use Rattle.dc_proc.specs.declared.up.Up.{Up}
 use Rattle.dc_recovery.specs.Alone.{IsAnswerAlone, answers_alone}
 use Rattle.dc_recovery.specs.Parts.Place.{Nowhere}
 use Rattle.dc_proc.proofs.up.Up.turn.Goals as goal
@@ -29,13 +32,13 @@ returns-in-Ok-Retire-clause-goes g c images inputs p answers st d words from tol
     let may : may_answer (answer_of c.args.answer.now) (kind_of (next_of (over c.args.self.now.guest words))) ≡ _ = told_at (λ ws. may_answer (answer_of c.args.answer.now) (kind_of (next_of (over c.args.self.now.guest ws))) ≡ _) (g.C.Checkpoint.contents c.args.store.now c.args.dev.now) words told c.requires.kind in
     let plain : answer_of c.args.answer.now ≡ Plain = plain_is (answer_of c.args.answer.now) (ap (λ n. may_answer (answer_of c.args.answer.now) (kind_of n)) retires ∙ may) in
     let alone1 : IsAnswerAlone S.guests p answers st Plain = subst (IsAnswerAlone S.guests p answers st) plain alone in
-    let whole = whole_next c.args.self.now c.note_event.new.self c.requires.whole c.requires.runs Retire Plain Nothing (search rules) (search rules) (search rules) (search rules) (search rules) in
+    let whole = whole_next c.args.self.now c.note_retired.new.self c.requires.whole c.requires.runs Retire Plain Nothing (search rules) (search rules) (search rules) (search rules) (search rules) in
     let over1 = over_added S p answers st st Plain (g.C.Checkpoint.contents c.args.store.now c.args.dev.now) (held c.args.self.now) (g.C.Checkpoint.leaves c.args.store.now c.args.dev.now d) stood in
-    let over2 = over_next images inputs c.args.self.now.protocol p (answers_alone answers st Plain Nowhere) st Plain (answer_there S p answers st Plain alone1) c.args.self.now c.note_event.new.self c.requires.whole whole c.requires.runs Retire Nothing false false
+    let over2 = over_next images inputs c.args.self.now.protocol p (answers_alone answers st Plain Nowhere) st Plain (answer_there S p answers st Plain alone1) c.args.self.now c.note_retired.new.self c.requires.whole whole c.requires.runs Retire Nothing false false
     (search rules) (search rules) (search rules) (search rules) (search rules) (search rules)
     (g.C.Checkpoint.contents c.args.store.now c.args.dev.now) (g.C.Checkpoint.contents c.step.new.store c.step.new.dev) (g.C.Checkpoint.leaves c.args.store.now c.args.dev.now d) (g.C.Checkpoint.leaves c.step.new.store c.step.new.dev d) over1
     found (told_nothing (g.C.Checkpoint.contents c.args.store.now c.args.dev.now) c.args.self.now.guest) (search rules) (λ r l. c.in-Ok-Retire.ensures.stores.stands d r from l) in
-    retired images inputs c.args.self.now.protocol p answers st words c.args.self.now c.requires.whole here c.requires.runs (sym retires) (answer_of c.args.answer.now) plain (g.C.Checkpoint.contents c.step.new.store c.step.new.dev) c.note_event.new.self (g.C.Checkpoint.leaves c.step.new.store c.step.new.dev d) over2
+    retired images inputs c.args.self.now.protocol p answers st words c.args.self.now c.requires.whole here c.requires.runs (sym retires) (answer_of c.args.answer.now) plain (g.C.Checkpoint.contents c.step.new.store c.step.new.dev) c.note_retired.new.self (g.C.Checkpoint.leaves c.step.new.store c.step.new.dev d) over2
 
 pub returns-in-Err-clause-stopped : goal.returns-in-Err-clause-stopped
 returns-in-Err-clause-stopped g c images inputs p answers st d words from told stood alone =
@@ -46,8 +49,9 @@ returns-in-Err-clause-stopped g c images inputs p answers st d words from told s
     let plain : answer_of c.args.answer.now ≡ Plain = plain_is (answer_of c.args.answer.now) (ap (λ n. may_answer (answer_of c.args.answer.now) (kind_of n)) (sym retires) ∙ may) in
     let over1 = over_added S p answers st st Plain (g.C.Checkpoint.contents c.args.store.now c.args.dev.now) (held c.args.self.now) (g.C.Checkpoint.leaves c.args.store.now c.args.dev.now d) stood in
     stopped_retiring images inputs c.args.self.now.protocol p answers st words c.args.self.now c.requires.whole here c.requires.runs retires (answer_of c.args.answer.now) plain (slice_index c.args.self.now.others.items)
-    (g.C.Checkpoint.leaves c.step.new.store c.step.new.dev d) (record { before = c.args.acts.now.items; more = acts_with c.args.acts.now.items c.args.self.now.kernel c.args.t (answer_of c.args.answer.now); after = c.add_act-in-Err.new.acts.items })
+    (g.C.Checkpoint.leaves c.step.new.store c.step.new.dev d) (record { before = c.args.acts.now.items; more = acts_with c.args.acts.now.items c.args.self.now.kernel c.args.t (answer_of c.args.answer.now); after = c.add_act-in-Err.new.acts.items }) c.step.new.self.based.items
     (λ r l. over1.stands r (c.in-Err.ensures.stores.stands d r from l)) (search rules)
+    (parts_based S p answers st Plain words (held c.args.self.now) here stood.going false false (record { position = st.position; answer = Plain }) c.step.new.self.based.items c.args.self.now.based.items (λ e. absurd (true≢false (sym e))) (λ e. refl) (ap (λ (u : Up). u.based.items) c.in-Err.ensures.rest))
 
 pub returns-else-is_blocked : goal.returns-else-is_blocked
 returns-else-is_blocked g c =
@@ -63,6 +67,9 @@ returns-else-is_blocked g c =
       same = rw (sym same.0) told.same;
       room = told.room;
       grown = told.grown;
+      quiet = rw (sym same.0) told.quiet;
+      counts = rw (sym same.0) told.counts;
+      numbered = rw (sym same.0, sym same.1, sym same.2) told.numbered;
       goes = rw (sym same.0, sym same.1, sym same.2) told.goes;
       acts = on_ok_weaker c.take.result (λ e. told_also (g.C.Checkpoint.contents c.args.store.now c.args.dev.now) (rw (sym same.0) e)) told.acts;
       shown = shown_found c.take.result (g.C.Checkpoint.contents c.args.store.now c.args.dev.now) c.in-Ok.next c.args.self.now.guest c.args.self.now.kernel.visible c.in-Ok.ensures.next (rw (sym same.0, sym same.1, sym same.2) told.shown);
