@@ -1,11 +1,13 @@
 //! What calls of a segment cost, to be measured from outside: `load COUNT`, `vector COUNT`, `commit LINES COUNT`, over a memory of
-//! 1 MiB; and turns of a process over a segment: `computing COUNT`, `showing COUNT`, beside `stores COUNT` of the device alone.
+//! 1 MiB; turns of a process over a segment: `computing COUNT`, `showing COUNT`, beside `stores COUNT` of the device alone; and entries
+//! of a world of so many processes: `entries COUNT PROCESSES` of guests that compute, `idle COUNT PROCESSES` of guests that end at once.
 //! Prints where the loads led, the number of the last commit, or how many calls of the device were made, and ends with status 1
 //! where that is none.
 #![tactic(auto)]
 
 mod turns;
 mod work;
+mod worlds;
 
 ghost use Rattle.std.specs.Prelude.{◌<◌, ◌≤◌, ◌-◌, ◌^◌};
 
@@ -35,7 +37,7 @@ fn number(words: &[String], at: usize, most: u32) -> u32
     }
 }
 
-/// Takes turns of a process, or makes stores of the device alone: how many calls of the device were made.
+/// Takes turns of a process, runs entries of a world, or makes stores of the device alone: how many calls of the first device were made.
 fn calls_of(alloc: Global, keeps: &mut MemKeeps, what: &str, p: u32, count: u32) -> Option<u64>
     requires few { count < 2 ^ 32 - 1 }
     requires process { p < STORES }
@@ -44,6 +46,14 @@ fn calls_of(alloc: Global, keeps: &mut MemKeeps, what: &str, p: u32, count: u32)
         turns::turns::<Segment<MemKeeps>>(alloc, keeps, Protocol::Cpvs, &turns::COMPUTING, count)?;
     } else if what == "showing" {
         turns::turns::<Segment<MemKeeps>>(alloc, keeps, Protocol::Cpvs, &turns::SHOWING, count)?;
+    } else if what == "entries" {
+        let (n, count) = (p.clamp(1, 8), count.min(1_000_000));
+        worlds::entries::<Segment<MemKeeps>>(alloc, keeps, &turns::COMPUTING, n, count)?;
+        return Some(keeps.calls(0));
+    } else if what == "idle" {
+        let (n, count) = (p.clamp(1, 8), count.min(1_000_000));
+        worlds::entries::<Segment<MemKeeps>>(alloc, keeps, &worlds::ENDING, n, count)?;
+        return Some(keeps.calls(0));
     } else if what == "stores" {
         turns::stores(alloc, keeps, p, count)?;
     } else {

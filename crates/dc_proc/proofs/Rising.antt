@@ -121,12 +121,15 @@ module _ (S : System Guest) (room : S.log_room ≡ 64) (p : ℕ) (answers : List
     }
 
   risen_by : (k : Which) (x : Stored) (state : State) → reach S p answers (save_of k st) ≤ length answers → IsStoredSave G p answers others (save_of k st) x → Ok state ≡ reading_of x
-      → IsGiven memory saved state → IsRisen S p answers st memory h leaves
-  risen_by k x state within is state_is given = record { which = k; over = risen_over (save_of k st) x state within is state_is given }
+      → IsGiven memory saved state → IsRisen S p answers st memory h leaves × ((q : ℕ) → q < G.count → slice_index h.others q ≤ others q)
+  risen_by k x state within is state_is given = (
+    record { which = k; over = risen_over (save_of k st) x state within is state_is given },
+    λ q less. let e = first_at (save_of k st) x state within is state_is given q less in let f = subst (λ (z : Kernel). number_of_first (link_to z.links q) ≤ others q) (same (save_of k st) x state within is state_is given) (is.first q less) in omega (arith, e, f),
+  )
 
   -- of some image that is left
   pub risen_from : (before : Reading → Type 0) → Stands G p answers others st before → ((r : Reading) → leaves r → before r) → ((k : Which) → reach S p answers (save_of k st) ≤ length answers)
-      → (r : Reading) → leaves r → IsRisen S p answers st memory h leaves
+      → (r : Reading) → leaves r → IsRisen S p answers st memory h leaves × ((q : ℕ) → q < G.count → slice_index h.others q ≤ others q)
   risen_from before stood less within (Err e) l = absurd (gives (Err e) l)
   risen_from before stood less within (Ok state) l = ⊎_elim
       (λ x. risen_by Older x.0 state (within Older) x.2 x.1 (gives (Ok state) l))

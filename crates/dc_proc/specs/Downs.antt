@@ -1,5 +1,5 @@
 -- What is left of a process that fell, and what one is that rose.
-use Rattle.std.specs.Prelude.{◌≡◌, ◌≤◌, ℕ, List, Option, Result, Ok, Err, length, vec_capacity}
+use Rattle.std.specs.Prelude.{◌≡◌, ◌<◌, ◌≤◌, ℕ, List, Option, Result, Ok, Err, length, slice_index, vec_capacity}
 use Rattle.dc_checkpoint.specs.States.{Reading}
 use Rattle.dc_elf.specs.Images.{Image}
 use Rattle.dc_guest.specs.Guest.{Guest}
@@ -41,11 +41,12 @@ pub record IsRisen (S : System Guest) (p : ℕ) (answers : List Answer) (st : St
   pub which : Which
   pub over : IsOver S p (oldest (reach S p answers (save_of which st)) answers) (risen (save_of which st)) memory held leaves
 
--- wherever it was in the theory, whatever its guest and its protocol: from what the images could stand for before, where no save reaches past its answers
+-- wherever it was in the theory, whatever its guest and its protocol: from what the images could stand for before, where no save reaches past its answers;
+-- and it takes no more of its messages for committed than was known
 abbrev pub Rises : (Reading → Type 0) → Option (List ℕ) → Held → (Reading → Type 0) → Type 0
 Rises before memory held leaves = (images : List Image) (inputs : List (List (List ℕ))) (protocol : Protocol) (p : ℕ) (answers : List Answer) (others : ℕ → ℕ) (st : Status)
     → Stands (system images inputs protocol).guests p answers others st before → ((k : Which) → reach (system images inputs protocol) p answers (save_of k st) ≤ length answers)
-    → IsRisen (system images inputs protocol) p answers st memory held leaves
+    → IsRisen (system images inputs protocol) p answers st memory held leaves × ((q : ℕ) → q < (system images inputs protocol).guests.count → slice_index held.others q ≤ others q)
 
 -- wherever it was in the theory, whatever its guest and its protocol: where what was read for it stands for a save that does not reach past its answers, it is up there
 abbrev pub RisesAt : Kernel → List LogRecord → Held → Type 0

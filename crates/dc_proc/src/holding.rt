@@ -1,6 +1,6 @@
 //! What a process that is up holds: how it begins, what is read of it, what it learns.
 
-ghost use Rattle.std.specs.Prelude.{◌≡◌, ◌<◌, ◌≤◌, ◌%◌, ◌+◌, ◌*◌, ◌-◌, ◌^◌, ℕ, List, Option, None, Some, [], false, true, IfOk, IfSome, drop, length, max, slice_get, slice_index, slice_set};
+ghost use Rattle.std.specs.Prelude.{◌≡◌, ◌<◌, ◌≤◌, ◌%◌, ◌+◌, ◌*◌, ◌-◌, ◌^◌, ℕ, List, Option, None, Some, [], false, true, IfOk, IfSome, drop, length, map, max, slice_get, slice_index, slice_set};
 ghost use Rattle.dc_checkpoint.specs.States.{IsText, Reading};
 ghost use Rattle.dc_elf.specs.Images.{Image};
 ghost use Rattle.dc_guest.specs.Guest.{guests_of};
@@ -11,12 +11,12 @@ ghost use Rattle.dc_links.specs.Links.{link_to, number_of_first, trimmed};
 ghost use Rattle.dc_model.specs.Guests.{Answer};
 ghost use Rattle.dc_proc.specs.Carried.{system};
 ghost use Rattle.dc_proc.specs.Events.{HasCountsFor};
-ghost use Rattle.dc_proc.specs.Processes.{IsCopied, IsProcess, IsSavedAs, form_of, has_ended};
+ghost use Rattle.dc_proc.specs.Processes.{IsCopied, IsProcess, IsSavedAs, form_of, has_ended, logged_of};
 ghost use Rattle.dc_proc.specs.Ups.{IsSameUp, IsWhole, held};
 ghost use Rattle.dc_protocols.specs.declared.protocol.Protocol as protocols;
 ghost use Rattle.dc_recovery.specs.Core.{Status as Place};
 ghost use Rattle.dc_recovery.specs.Parts.{committed};
-ghost use Rattle.dc_recovery.specs.Saves.{Save};
+ghost use Rattle.dc_recovery.specs.Saves.{Save, log_end};
 
 use crate::up::{Up, copy_received};
 use dc_guest::Guest;
@@ -153,6 +153,19 @@ impl Up {
         ensures next { IfSome result (λ rec. slice_get (held self.now).unread 0 ≡ Some rec.now) }
     {
         self.log.get(self.read)
+    }
+
+    /// One past the last position in what it has yet to read of its log; 0 where that is nothing.
+    pub fn log_end(&self) -> u32
+        ensures { log_end (map logged_of (held self.now).unread) < 2 ^ 32 → result ≡ log_end (map logged_of (held self.now).unread) }
+    {
+        let mut end = 0u32;
+        let mut i = self.log.len();
+        while i > self.read {
+            i -= 1;
+            end = end.max(self.log[i].position.saturating_add(1));
+        }
+        end
     }
 
     /// Whether its counts have room for so many turns: each may rise by one in a turn, the number of its last commit by two.

@@ -1,0 +1,209 @@
+-- A world that was opened: it is ready, and where its devices are told it stands for the opened core.
+use Rattle.std.proofs.Common.{◌≡◌, ◌∙◌, ◌-◌, ◌*◌, ◌^◌, ◌<◌, ◌≤◌, ℕ, List, [], Bool, Option, None, Some, IfSome, IsSome, Ok, false, true, ap, arith, inl, length, map, refl, slice_get, slice_index, subst, sym, unwrap_or}
+use Rattle.std.proofs.Math.Seq.{drop-nil}
+use Rattle.std.specs.Option.{option_map}
+use Rattle.std.proofs.lemmas.Bool.{true≢false}
+use Rattle.std.proofs.lemmas.List.{get_or-replicate, length-map, length-replicate}
+use Rattle.std.proofs.lemmas.Option.{slice_get-map}
+use Rattle.dc_checkpoint.specs.States.{Reading, State, number_in}
+use Rattle.dc_checkpoint.specs.declared.checkpoint.Checkpoint as checkpoint
+use Rattle.dc_elf.specs.declared.image.Image.{Image}
+use Rattle.dc_guest.specs.Guest.{Guest, started}
+use Rattle.dc_kernel.specs.Kernels.{IsKernel, Kernel}
+use Rattle.dc_links.specs.Links.{Link, link_to, number_of_first}
+use Rattle.dc_model.specs.Process.{begun}
+use Rattle.dc_plain.specs.Playing.{lists_of, seen_image}
+use Rattle.dc_proc.proofs.Texts.{number_is, state_in}
+use Rattle.dc_proc.specs.Carried.{system}
+use Rattle.dc_proc.specs.Processes.{Held, IsAt, IsKernelAt, IsLinkOf, IsNumbered, IsSavedAs, kernel_status, reading_of}
+use Rattle.dc_proc.specs.Worlds.{IsUp, others_of}
+use Rattle.dc_protocols.specs.Rules.{is_global}
+use Rattle.dc_recovery.specs.Core.{Core, at_start, first_save, opened_core}
+use Rattle.dc_recovery.specs.Systems.{System}
+use Rattle.dc_rv32.specs.Machine.{machine_of}
+use Rattle.dc_twophase.proofs.Pairs.{known}
+use Rattle.dc_words.specs.Words.{bytes_in}
+use Rattle.dc_world.proofs.Beginning.{none_received, none_sent}
+use Rattle.dc_world.proofs.Beside.{some_and}
+use Rattle.dc_world.specs.Opened.{AreBegun, IsBegun, IsHeldFirst, IsOpened, first_kernel}
+use Rattle.dc_world.specs.Slots.{IsOf, based_in, held_in, is_up, slot_at}
+use Rattle.dc_world.specs.Stages.{IsHandled, IsOwn, IsReady, IsTold, IsWorld, Stage, leaves_of, memory_of, seen_of, stage_of, store_of, words_of}
+use Rattle.dc_world.specs.declared.opening.Setup.{Setup}
+use Rattle.dc_world.specs.declared.processes.Processes.{Processes}
+use Rattle.dc_world.specs.declared.slot.Slot.{Slot}
+use Rattle.dc_world.specs.declared.slot.Slot.TheVariants.{Up, Down}
+
+-- process p of some images before its first event
+module _ (setup : Setup) (p : ℕ) (image : Image) (there : slice_get setup.images.items p ≡ Some image) (words : List ℕ) (bytes_are : bytes_in words ≡ image.memory.items) where
+  abbrev S : System Guest
+  S = system (map seen_image setup.images.items) (lists_of setup.inputs.items) setup.protocol
+
+  abbrev n : ℕ
+  n = length setup.images.items
+
+  abbrev k : Kernel
+  k = first_kernel n p image
+
+  count_is : n ≡ S.guests.count
+  count_is = sym (length-map setup.images.items seen_image)
+
+  inside : (q : ℕ) → q < S.guests.count → q < n
+  inside q less = subst (λ m. q < m) (sym count_is) less
+
+  -- its guest is that of its image, over the words of its memory
+  machine_is : (begun S.guests p).machine ≡ record { number = p; count = S.guests.count; machine = machine_of k.regs words; ended = false }
+  machine_is = ap (started p S.guests.count) (slice_get-map seen_image setup.images.items p ∙ ap (option_map seen_image) there)
+      ∙ ap (λ (bytes : List ℕ). record { number = p; count = S.guests.count; machine = record { registers = k.regs.x; pc = k.regs.pc; memory = bytes }; ended = false }) (sym bytes_are)
+
+  link_is : (q : ℕ) → q < S.guests.count → IsLinkOf [] (link_to k.links q)
+  link_is q less = subst (IsLinkOf []) (sym (none_sent n p image q (inside q less))) (record { count = refl; kept = refl })
+
+  pub kernel_is : IsKernelAt S.guests.count p 0 (begun S.guests p) words k
+  kernel_is = record {
+    n_is = count_is;
+    p_is = refl;
+    guest = machine_is;
+    status = sym (ap kernel_status machine_is);
+    position = refl;
+    visible = refl;
+    place = refl;
+    received = λ s less. none_received n p image s (inside s less);
+    links = link_is;
+  }
+
+  -- up
+  pub at_first : (h : Held) → IsHeldFirst k h → ((s : ℕ) → s < n → slice_index h.based s ≡ 0) → IsAt S p [] (at_start true) words h
+  at_first h is based = record {
+    kernel_is = subst (IsKernelAt S.guests.count p 0 (begun S.guests p) words) (sym is.kernel_is) kernel_is;
+    kept = λ q less. ap (λ (x : Kernel). (link_to x.links q).kept) is.kernel_is ∙ ap (λ (l : Link). l.kept) (none_sent n p image q (inside q less)) ∙ sym (drop-nil (slice_index h.others q));
+    unread_is = ap (map _) is.unread_is;
+    own_is = is.own_is;
+    left_is = is.left_is;
+    based_is = λ s less. based s (inside s less);
+  }
+
+  -- saved
+  pub saved_first : (others : ℕ → ℕ) (r : Reading) → IsKernel n p k → r ≡ reading_of (record { words = words; kernel = k; log = [] }) → IsSavedAs S.guests p [] others first_save r
+  saved_first others r ok reads = (
+    record { words = words; kernel = k; log = [] },
+    reads,
+    record {
+      kernel_ok = subst (λ m. IsKernel m p k) count_is ok;
+      kernel_is = kernel_is;
+      first = λ q less. let e = ap number_of_first (none_sent n p image q (inside q less)) in omega (arith, e);
+      log_is = refl;
+    },
+  )
+
+-- its number is 1
+numbered_first : (n p : ℕ) (image : Image) (words : List ℕ) (most : ℕ) (state : State) → 1 ≤ most → Ok state ≡ reading_of (record { words = words; kernel = first_kernel n p image; log = [] }) → number_in state.kernel ≤ most
+numbered_first n p image words most state some e =
+    let is = ap (λ (r : Reading). number_in (state_in state r).kernel) e ∙ number_is (first_kernel n p image) in omega (arith, is, some)
+
+-- what was received by the last commit, of one that is up
+based_up : (s : Option Slot) → is_up s ≡ true → (held_in s).based ≡ based_in s
+based_up None on = absurd (true≢false (sym on))
+based_up (Some (Up u)) on = refl
+based_up (Some (Down d)) on = absurd (true≢false (sym on))
+
+-- its store may go on
+ready_up : {C D : Type 0} (g : checkpoint.Ghosts C D) (turns : ℕ) (c : C) (dev : D) (s : Option Slot) → is_up s ≡ true → IsHandled g turns c dev s → g.ready c dev
+ready_up g turns c dev None on is = absurd is
+ready_up g turns c dev (Some (Up u)) on is = is.0.ready
+ready_up g turns c dev (Some (Down d)) on is = absurd (true≢false (sym on))
+
+-- a memory that is told
+told_words : (memory : Option (List ℕ)) (words : List ℕ) → IsSome memory → IfSome memory (λ told. told ≡ words) → memory ≡ Some words
+told_words None words there is = absurd (true≢false (sym there))
+told_words (Some told) words there is = ap Some is
+
+-- the world as a whole
+module _ {C D : Type 0} (g : checkpoint.Ghosts C D) (setup : Setup) (entries : ℕ) (stores : List C) (dev : D) (w : Processes) (begins : IsOpened setup entries w)
+    (each : AreBegun g setup.protocol setup.images.items w.slots.items stores dev) (stores_long : length stores ≡ length setup.images.items) (alone : is_global setup.protocol ≡ false) (few : entries ≤ 1000000) where
+  abbrev images : List Image
+  images = setup.images.items
+
+  abbrev at : ℕ → Option Slot
+  at p = slot_at w.slots.items p
+
+  -- one of its processes
+  one : (p : ℕ) → p < length images → (c : C) × (slice_get stores p ≡ Some c) × (image : Image) × (slice_get images p ≡ Some image) × IsBegun g setup.protocol (length images) p image c dev (at p)
+  one p less = let store = known stores p (subst (λ m. p < m) (sym stores_long) less) in let begun = each p store.0 store.1 in (store.0, store.1, begun.0, begun.1, begun.2)
+
+  pub ready : 0 < length images → length images ≤ 8 → length setup.inputs.items ≡ length images → entries ≤ w.acts.room → IsReady g stores dev w
+  ready some small inputs room = record {
+    well = record {
+      some = subst (λ m. 0 < m) (sym begins.slots_long) some;
+      few = subst (λ m. m ≤ 8) (sym begins.slots_long) small;
+      exposed_long = ap length begins.exposed_are ∙ length-replicate (length images) 0 ∙ sym begins.slots_long;
+      inputs_long = sym (length-map w.inputs.items (λ v. v.items)) ∙ ap length begins.inputs_are ∙ length-map setup.inputs.items (λ v. v.items) ∙ inputs ∙ sym begins.slots_long;
+      each = λ p s less there. subst (λ pr. IsOf pr (length w.slots.items) p s) (sym begins.protocol_is) (subst (λ m. IsOf setup.protocol m p s) (sym begins.slots_long)
+          ((one p (subst (λ m. p < m) begins.slots_long less)).4.of s there));
+    };
+    alone = ap is_global begins.protocol_is ∙ alone;
+    stores_long = stores_long ∙ sym begins.slots_long;
+    own = λ p c there. subst (λ m. IsOwn g m p c) (sym begins.slots_long) (each p c there).2.own;
+    handled = λ p c there. subst (λ turns. IsHandled g turns c dev (at p)) (sym begins.left_is) ((each p c there).2.handled entries few);
+    room = let a = ap length begins.acts_are in let b = begins.left_is in omega (arith, a, b, room);
+    few_acts = let a = ap length begins.acts_are in omega (arith, a);
+    few_lines = let a = begins.lines_are in omega (arith, a);
+    few_entries = let a = begins.entries_are in let b = begins.left_is in omega (arith, a, b, few);
+  }
+
+  module _ (told_contents : (c : C) (d : D) → g.ready c d → g.told d (g.place c) → IsSome (g.contents c d)) (told : IsTold g (stage_of stores dev w)) where
+    abbrev x : Stage C D
+    x = stage_of stores dev w
+
+    abbrev T : System Guest
+    T = system (map seen_image images) (lists_of setup.inputs.items) setup.protocol
+
+    abbrev core : Core
+    core = opened_core (λ p. is_up (at p))
+
+    within : (q : ℕ) → q < T.guests.count → q < length images
+    within q less = subst (λ m. q < m) (length-map images seen_image) less
+
+    up_is : (p : ℕ) → p < T.guests.count → (core.procs p).up ≡ true → IsUp T core p (seen_of g x p)
+    up_is p less on =
+        let (c, store_is, image, image_is, is) = one p (within p less) in
+        let held = is.held on in
+        let device : g.told dev (g.place c) = subst (g.told dev) (sym is.own.place_is) (told.told p (subst (λ m. p < m) (sym begins.slots_long) (within p less))) in
+        let contents_are = told_words (g.contents c dev) is.words (told_contents c dev (ready_up g 0 c dev (at p) on (is.handled 0 (omega arith))) device) (is.memory on) in
+        let memory_is : memory_of g (store_of x p) dev ≡ Some is.words = ap (λ o. memory_of g o dev) store_is ∙ contents_are in
+        record {
+          here = subst (λ (b : Bool). IsAt T p [] (at_start b) (words_of (memory_of g (store_of x p) dev)) (held_in (at p))) (sym on)
+              (subst (λ o. IsAt T p [] (at_start true) (words_of o) (held_in (at p))) (sym memory_is)
+              (at_first setup p image image_is is.words is.bytes_are (held_in (at p)) held (λ s few. ap (λ xs. slice_index xs s) (based_up (at p) on) ∙ is.based s few)));
+          known = λ q few. held.others_are q (within q few);
+        }
+
+    reads : (p : ℕ) → p < T.guests.count → (d : ℕ) (r : Reading) → leaves_of g x p d r → IsSavedAs T.guests p [] (others_of T.guests core p) first_save r
+    reads p less d r left =
+        let (c, store_is, image, image_is, is) = one p (within p less) in
+        saved_first setup p image image_is is.words is.bytes_are (others_of T.guests core p) r is.kernel_ok (is.leaves d r (some_and (λ z. g.leaves z dev d r) (slice_get stores p) c store_is left))
+
+    number_of : (p : ℕ) → p < T.guests.count → IsNumbered (2 ^ 32 - 1 - 2 * w.left) (leaves_of g x p 0)
+    number_of p less state left =
+        let (c, store_is, image, image_is, is) = one p (within p less) in
+        numbered_first (length images) p image is.words (2 ^ 32 - 1 - 2 * w.left) state (let a = begins.left_is in omega (arith, a, few))
+        (is.leaves 0 (Ok state) (some_and (λ z. g.leaves z dev 0 (Ok state)) (slice_get stores p) c store_is left))
+
+    based_is : (p s : ℕ) → p < T.guests.count → s < T.guests.count → slice_index (based_in (at p)) s ≡ 0
+    based_is p s less few = let (c, store_is, image, image_is, is) = one p (within p less) in is.based s (within s few)
+
+    pub opened : IsWorld g T core x
+    opened = record {
+      count_is = length-map images seen_image ∙ sym begins.slots_long;
+      protocol_is = sym begins.protocol_is;
+      inputs_are = λ p. ap (λ xs. unwrap_or (slice_get xs p) []) (sym begins.inputs_are);
+      stands = record {
+        each = up_is;
+        stores = record { one = λ p less d decided r left. inl (reads p less d r left); all = λ on. absurd (true≢false (sym on ∙ alone)) };
+      };
+      up_are = λ p less. refl;
+      based_are = based_is;
+      acts_are = sym begins.acts_are;
+      exposed_are = λ p less. ap (λ xs. slice_index xs p) begins.exposed_are ∙ get_or-replicate (length images) p 0 0 (within p less);
+      lines_are = sym begins.lines_are;
+      numbered = number_of;
+    }

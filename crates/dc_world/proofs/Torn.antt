@@ -1,0 +1,27 @@
+-- An entry whose line was cut off.
+use Rattle.std.proofs.Common.{◌≡◌, ◌<◌, ◌+◌, ◌++◌, ℕ, List, Option, None, Some, IfSome, IsSome, sym, subst, length, take}
+use Rattle.std.proofs.lemmas.Bool.{true≢false}
+use Rattle.std.proofs.lemmas.List.{append-nil}
+use Rattle.dc_acts.specs.Lines.{text_of, visible_line}
+use Rattle.dc_checkpoint.specs.declared.checkpoint.Checkpoint as checkpoint
+use Rattle.dc_media.specs.Told.{Becomes}
+use Rattle.dc_model.specs.declared.entry.Entry.{Entry}
+use Rattle.dc_model.specs.declared.mark.Mark.{Mark}
+use Rattle.dc_model.specs.declared.mark.Mark.TheVariants.{Showed}
+use Rattle.dc_model.specs.declared.visible.Visible.{Visible}
+use Rattle.dc_world.specs.Stages.{Stage, stage_of}
+use Rattle.dc_world.specs.Turns.{GoesOn, later, lines_of}
+use Rattle.dc_world.specs.Worlds.{IsCutOff, counted}
+use Rattle.dc_world.specs.declared.processes.Processes.{Processes}
+
+pub cut_off : {C D : Type 0} (g : checkpoint.Ghosts C D) (old : Stage C D) (stores : List C) (dev : D) (w w2 : Processes) (entry : Entry) (mark : Mark) (shown : Option Visible) (before after : Option (List ℕ)) → w2 ≡ counted w → IsSome shown
+    → GoesOn g old (later (length (lines_of shown)) (stage_of stores dev w)) entry mark shown → IfSome shown (λ visible. mark ≡ Showed visible.k)
+    → (n : ℕ) × (n < length (text_of (lines_of shown))) × Becomes before after (λ x y. y ≡ x ++ take n (text_of (lines_of shown)))
+    → IsCutOff g old (stage_of stores dev w2) entry before after
+cut_off g old stores dev w w2 entry mark None before after is some goes shows written = absurd (true≢false (sym some))
+cut_off g old stores dev w w2 entry mark (Some v) before after is some goes shows written = record {
+  shown = v;
+  goes = subst (λ m. GoesOn g old (record (stage_of stores dev w2) { lines = w2.lines + 1 }) entry m (Some v)) shows
+      (subst (λ (x : Processes). GoesOn g old (record (stage_of stores dev x) { lines = x.lines + 1 }) entry mark (Some v)) (sym is) goes);
+  written = subst (λ xs. (n : ℕ) × (n < length xs) × Becomes before after (λ x y. y ≡ x ++ take n xs)) (append-nil (visible_line v)) written;
+}

@@ -1,0 +1,53 @@
+use Rattle.std.proofs.Common.{◌≡◌, ◌<◌, Some, length, refl, slice_get, subst, sym}
+use Rattle.std.proofs.lemmas.Option.{slice_get_read}
+use Rattle.dc_twophase.proofs.Laws.{Laws}
+use Rattle.dc_world.proofs.Felling.{ready_fallen, turned_fallen}
+use Rattle.dc_world.proofs.world.World.stop.Goals as goal
+
+pub returns-clause-ready : goal.returns-clause-ready
+returns-clause-ready g c dev ready some =
+    let met = g.met.C.Checkpoint in
+    let laws : Laws g.C.Checkpoint = record {
+      untouched_self = met.untouched_self;
+      untouched_on = met.untouched_on;
+      untouched_back = met.untouched_back;
+      lent_still = met.lent_still;
+      ready_still = met.ready_still;
+      prepared_still = met.prepared_still;
+      decidable_still = met.decidable_still;
+      steady_still = met.steady_still;
+      leaves_still = met.leaves_still;
+      numbers_still = met.numbers_still;
+      contents_still = met.contents_still;
+      continues_self = met.continues_self;
+      continues_on = met.continues_on;
+    } in
+    let p = c.args.p in
+    let stores = c.args.self.now.stores.items in
+    let at : slice_get stores p ≡ Some c.index_mut.result.now = slice_get_read stores (length stores) p c.index_mut.result.now refl (subst (λ m. p < m) (sym c.requires.stores) c.requires.process) c.index_mut.ensures.value in
+    ready_fallen g.C.Checkpoint laws stores dev c.args.self.now.processes c.stop.new.self p c.index_mut.result.now c.stop.new.store ready c.requires.process at c.stop.ensures.well c.stop.ensures.rest c.stop.ensures.long c.stop.ensures.others
+    c.stop.ensures.falls c.stop.ensures.store some
+
+pub returns-clause-turned : goal.returns-clause-turned
+returns-clause-turned g c dev ready some images schedule core told_old told_new now world =
+    let met = g.met.C.Checkpoint in
+    let laws : Laws g.C.Checkpoint = record {
+      untouched_self = met.untouched_self;
+      untouched_on = met.untouched_on;
+      untouched_back = met.untouched_back;
+      lent_still = met.lent_still;
+      ready_still = met.ready_still;
+      prepared_still = met.prepared_still;
+      decidable_still = met.decidable_still;
+      steady_still = met.steady_still;
+      leaves_still = met.leaves_still;
+      numbers_still = met.numbers_still;
+      contents_still = met.contents_still;
+      continues_self = met.continues_self;
+      continues_on = met.continues_on;
+    } in
+    let p = c.args.p in
+    let stores = c.args.self.now.stores.items in
+    let at : slice_get stores p ≡ Some c.index_mut.result.now = slice_get_read stores (length stores) p c.index_mut.result.now refl (subst (λ m. p < m) (sym c.requires.stores) c.requires.process) c.index_mut.ensures.value in
+    turned_fallen g.C.Checkpoint laws stores dev c.args.self.now.processes c.stop.new.self p c.index_mut.result.now c.stop.new.store ready c.requires.process at c.stop.ensures.well c.stop.ensures.rest c.stop.ensures.long c.stop.ensures.others
+    c.stop.ensures.falls c.stop.ensures.store some images core world

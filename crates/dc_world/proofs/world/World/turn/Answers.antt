@@ -1,0 +1,15 @@
+use Rattle.std.proofs.Common.{◌≡◌, Err, ap}
+use Rattle.dc_world.proofs.Torn.{cut_off}
+use Rattle.dc_world.specs.Worlds.{stage_in}
+use Rattle.dc_world.specs.declared.faults.TurnFault.TheVariants as faults
+use Rattle.dc_world.proofs.world.World.turn.Goals as goal
+
+pub returns-in-Err-write_shown-clause-sink : goal.returns-in-Err-write_shown-clause-sink
+returns-in-Err-write_shown-clause-sink g c e = (
+  c.in-Err-write_shown.ensures.cause.failed,
+  cut_off g.C.Checkpoint (stage_in c.args.self.now c.args.dev.now) c.take_entry-taken.new.self.stores.items c.take_entry-taken.new.dev c.take_entry-taken.new.self.processes c.count_entry.new.self c.args.entry.now c.in-Ok.mark c.in-Ok.shown
+      (g.O.Sink.held c.args.out.now) (g.O.Sink.held c.write_shown.new.out) c.count_entry.ensures c.in-Err-write_shown.ensures.something c.in-Ok.ensures.turned c.in-Ok.ensures.shows c.in-Err-write_shown.ensures.held,
+)
+
+pub returns-in-Err-clause-device : goal.returns-in-Err-clause-device
+returns-in-Err-clause-device g c p e = c.in-Err.ensures.device p (let same : c.in-Err.fault ≡ faults.Device p = cc in ap Err same)

@@ -1,0 +1,37 @@
+-- A world of the code with the device that is lent to it, and what an entry of a schedule names.
+use Rattle.std.specs.Prelude.{◌≡◌, ◌<◌, ◌+◌, ◌-◌, ◌++◌, ℕ, List, Option, Some, length, take}
+use Rattle.dc_acts.specs.Lines.{visible_line}
+use Rattle.dc_checkpoint.specs.declared.checkpoint.Checkpoint as checkpoint
+use Rattle.dc_media.specs.Told.{Becomes}
+use Rattle.dc_model.specs.declared.entry.Entry.{Entry}
+use Rattle.dc_model.specs.declared.entry.Entry.TheVariants as entry
+use Rattle.dc_model.specs.declared.mark.Mark.TheVariants as mark
+use Rattle.dc_model.specs.declared.visible.Visible.{Visible}
+use Rattle.dc_world.specs.Stages.{IsReady, Stage, stage_of}
+use Rattle.dc_world.specs.Turns.{GoesOn}
+use Rattle.dc_world.specs.declared.processes.Processes.{Processes}
+use Rattle.dc_world.specs.declared.world.World.{World}
+
+-- what it holds
+abbrev pub stage_in : {C D : Type 0} → World C → D → Stage C D
+stage_in w dev = stage_of w.stores.items dev w.processes
+
+-- it may run its next entry
+abbrev pub MayRun : {C D : Type 0} → checkpoint.Ghosts C D → World C → D → Type 0
+MayRun g w dev = IsReady g w.stores.items dev w.processes
+
+-- the processes once their entry is counted
+abbrev pub counted : Processes → Processes
+counted w = record w { entries = w.entries + 1; left = w.left - 1 }
+
+-- an entry names one of n processes, where it names one
+abbrev pub IsOfProcesses : ℕ → Entry → Type 0
+IsOfProcesses n (entry.Turn turn) = turn.p < n
+IsOfProcesses n (entry.Stop p) = p < n
+IsOfProcesses n entry.Power = Unit {0}
+
+-- its line was cut off: the entry went whole but for a last part of the line, which is not counted
+pub record IsCutOff {C D : Type 0} (g : checkpoint.Ghosts C D) (old new : Stage C D) (entry : Entry) (before after : Option (List ℕ)) : Type 0 where
+  pub shown : Visible
+  pub goes : GoesOn g old (record new { lines = new.lines + 1 }) entry (mark.Showed shown.k) (Some shown)
+  pub written : (n : ℕ) × (n < length (visible_line shown)) × Becomes before after (λ x y. y ≡ x ++ take n (visible_line shown))

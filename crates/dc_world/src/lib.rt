@@ -1,0 +1,19 @@
+//! A world of up to eight processes over stores on one device: one entry of a schedule at a time.
+//!
+//! The world holds the processes, up or down, and their stores; the device is lent to each call. An entry does to it what the theory
+//! of recovery allows, wherever the device stops.
+#![tactic(auto)]
+
+mod answering;
+mod faults;
+mod opening;
+mod processes;
+mod recovering;
+mod slot;
+mod stopping;
+mod turning;
+mod world;
+
+pub use faults::{OpenFault, TurnFault};
+pub use opening::Setup;
+pub use world::World;

@@ -1,0 +1,198 @@
+//! The opening of a world: each process before its first event, with a store for each.
+
+ghost use Rattle.std.specs.Prelude.{◌≡◌, ◌≢◌, ◌<◌, ◌≤◌, ◌+◌, ◌*◌, ◌%◌, ℕ, [], ◌∷◌, ◌++◌, Err, Some, All, IfOk, OnOk, false, true, length, map};
+ghost use Rattle.dc_checkpoint.specs.States.{IsText, form_in, number_in};
+ghost use Rattle.dc_kernel.specs.Texts.{text_of};
+ghost use Rattle.dc_media.specs.Causes.{Rose};
+ghost use Rattle.dc_plain.specs.Playing.{lists_of, seen_image};
+ghost use Rattle.dc_proc.specs.Carried.{system};
+ghost use Rattle.dc_proc.specs.Processes.{form_of};
+ghost use Rattle.dc_protocols.specs.Rules.{is_global};
+ghost use Rattle.dc_recovery.specs.Core.{opened_core};
+ghost use Rattle.dc_world.specs.Opened.{AreBegun, CanOpen, IsBegun, IsOpened, IsUpFor, kernel_at};
+ghost use Rattle.dc_world.specs.Stages.{IsReady, IsTold, IsWorld, KeepsTelling, stage_of};
+ghost use Rattle.dc_world.specs.Slots.{is_up, slot_at};
+ghost use Rattle.dc_world.specs.declared.faults.OpenFault.TheVariants as faults;
+
+use crate::faults::OpenFault;
+use crate::processes::Processes;
+use crate::slot::Slot;
+use crate::world::World;
+use dc_acts::Acts;
+use dc_checkpoint::Checkpoint;
+use dc_elf::Image;
+use dc_guest::Guest;
+use dc_kernel::{Kernel, kernel_words};
+use dc_links::Message;
+use dc_media::MakeFault;
+use dc_plain::words_in;
+use dc_proc::Up;
+use dc_protocols::Protocol;
+use std::alloc::{AllocError, Global};
+
+/// What a world begins with: an image and the inputs of each process.
+#[derive(Drop)]
+pub struct Setup {
+    pub protocol: Protocol,
+    pub images: Vec<Image>,
+    pub inputs: Vec<Vec<Message>>,
+}
+
+/// The kernel of process `p` of `n` before its first event, at its first commit, in a memory of so many bytes.
+fn first_kernel(alloc: Global, n: u32, p: u32, size: u32, entry: u32) -> Result<Kernel, AllocError>
+    requires few { n ≤ 8 }
+    requires one_of { p < n }
+    requires long { (16 ≤ size) × (size % 4 ≡ 0) }
+    requires aligned { entry % 4 ≡ 0 }
+    ensures { IfOk result (λ kernel. kernel ≡ kernel_at n p size entry) }
+{
+    let mut kernel = Kernel::new(alloc, n, p)?;
+    kernel.set_commit(1);
+    kernel.set_regs(*Guest::new(p, n, size, entry).regs());
+    Ok(kernel)
+}
+
+/// The text of a kernel.
+fn text_of(alloc: Global, kernel: &Kernel) -> Result<Vec<u32>, AllocError>
+    ensures text { IfOk result (λ text. text.items ≡ text_of kernel.now) }
+    ensures faultless { IfOk result (λ text. IsText (form_of kernel.now) text.items) }
+    ensures form { IfOk result (λ text. form_in text.items ≡ form_of kernel.now) }
+    ensures number { IfOk result (λ text. number_in text.items ≡ kernel.now.commit) }
+{
+    let mut text = vec![in alloc; 0; kernel_words(kernel.n())]?;
+    kernel.encode(&mut text);
+    Ok(text)
+}
+
+/// Process `p` of `n` at the beginning of its image, with its store. Where the making of the store was stopped the process is down.
+fn begin<C: Checkpoint + Drop>(
+    alloc: Global,
+    protocol: Protocol,
+    n: u32,
+    p: u32,
+    image: &Image,
+    dev: &mut C::Device,
+) -> Result<(Slot, C), OpenFault>
+    requires few { n ≤ 8 }
+    requires one_of { p < n }
+    requires good { CanOpen image.now }
+    ensures begun { IfOk result (λ made. IsBegun C.Checkpoint protocol n p image.now made.1 dev.new (Some made.0)) }
+    ensures up { IfOk result (λ made. IsUpFor C.Checkpoint p dev.old dev.new (Some made.0)) }
+    ensures failed { (q : ℕ) → result ≡ Err (faults.Failed q) → (q ≡ p) × Rose (C.faults dev.old p) (C.faults dev.new p) }
+    ensures tells { KeepsTelling C.Checkpoint dev.old dev.new p }
+    ensures others { (q : ℕ) → q ≢ p → C.untouched dev.old dev.new q }
+    ensures continues { C.continues dev.old dev.new }
+{
+    let size = image.memory.len() as u32;
+    let kernel = first_kernel(alloc, n, p, size, image.entry)?;
+    let text = text_of(alloc, &kernel)?;
+    let words = words_in(alloc, &image.memory)?;
+    let up = Up::new(alloc, protocol, size, kernel)?;
+    match C::format(alloc, dev, p, words, text) {
+        Ok((store, false)) => Ok((Slot::Up(up), store)),
+        Ok((mut store, true)) => {
+            let down = up.fall(&mut store);
+            Ok((Slot::Down(down), store))
+        }
+        Err(MakeFault::Memory) => Err(OpenFault::Memory),
+        Err(MakeFault::Failed) => Err(OpenFault::Failed(p)),
+    }
+}
+
+/// One process more, with its store.
+fn add<C: Drop>(
+    slots: &mut Vec<Option<Slot>>,
+    stores: &mut Vec<C>,
+    slot: Slot,
+    store: C,
+) -> Result<(), AllocError>
+    ensures slots { OnOk result (slots.new.items ≡ slots.old.items ++ Some slot ∷ []) }
+    ensures stores { OnOk result (stores.new.items ≡ stores.old.items ++ store ∷ []) }
+{
+    slots.push(Some(slot))?;
+    stores.push(store)?;
+    Ok(())
+}
+
+/// Each process at the beginning of its image, with the store of each.
+fn begin_each<C: Checkpoint + Drop>(
+    alloc: Global,
+    protocol: Protocol,
+    images: &[Image],
+    dev: &mut C::Device,
+) -> Result<(Vec<Option<Slot>>, Vec<C>), OpenFault>
+    requires few { length images.now ≤ 8 }
+    requires good { All CanOpen images.now }
+    ensures long { IfOk result (λ made. (length made.0.items ≡ length images.now) × (length made.1.items ≡ length images.now)) }
+    ensures begun { IfOk result (λ made. AreBegun C.Checkpoint protocol images.now made.0.items made.1.items dev.new) }
+    ensures up { IfOk result (λ made. (p : ℕ) → p < length images.now → IsUpFor C.Checkpoint p dev.old dev.new (slot_at made.0.items p)) }
+    ensures failed { (p : ℕ) → result ≡ Err (faults.Failed p) → (p < length images.now) × Rose (C.faults dev.old p) (C.faults dev.new p) }
+    ensures tells { (p : ℕ) → KeepsTelling C.Checkpoint dev.old dev.new p }
+    ensures others { (q : ℕ) → length images.now ≤ q → C.untouched dev.old dev.new q }
+    ensures continues { C.continues dev.old dev.new }
+{
+    let n = images.len() as u32;
+    let mut slots = Vec::with_capacity(alloc, images.len())?;
+    let mut stores = Vec::with_capacity(alloc, images.len())?;
+    for (p, image) in images.iter().enumerate() {
+        let (slot, store) = begin(alloc, protocol, n, p as u32, image, dev)?;
+        add(&mut slots, &mut stores, slot, store)?;
+    }
+    Ok((slots, stores))
+}
+
+/// No acts, and room for so many.
+fn acts_for(alloc: Global, entries: u32) -> Result<Acts, AllocError>
+    ensures items { IfOk result (λ acts. acts.items ≡ []) }
+    ensures room { IfOk result (λ acts. entries ≤ acts.room) }
+{
+    let mut acts = Acts::new(alloc);
+    acts.reserve(entries as usize)?;
+    Ok(acts)
+}
+
+impl<C: Checkpoint + Drop> World<C> {
+    /// Each process at the beginning of its image, over a new store. All room for so many entries is taken here. A process whose store
+    /// was stopped as it was made is down.
+    pub fn open(
+        alloc: Global,
+        setup: Setup,
+        entries: u32,
+        dev: &mut C::Device,
+    ) -> Result<World<C>, OpenFault>
+        requires some { 0 < length setup.images.items }
+        requires few { length setup.images.items ≤ 8 }
+        requires inputs { length setup.inputs.items ≡ length setup.images.items }
+        requires alone { is_global setup.protocol ≡ false }
+        requires good { All CanOpen setup.images.items }
+        requires entries { entries ≤ 1000000 }
+        ensures ready { IfOk result (λ w. IsReady C.Checkpoint w.stores.items dev.new w.processes) }
+        ensures begins { IfOk result (λ w. IsOpened setup entries w.processes) }
+        ensures opened { IfOk result (λ w. IsTold C.Checkpoint (stage_of w.stores.items dev.new w.processes)
+            → IsWorld C.Checkpoint (system (map seen_image setup.images.items) (lists_of setup.inputs.items) setup.protocol) (opened_core (λ p. is_up (slot_at w.processes.slots.items p))) (stage_of w.stores.items dev.new w.processes)) }
+        ensures stopped { IfOk result (λ w. (p : ℕ) → p < length setup.images.items → is_up (slot_at w.processes.slots.items p) ≡ false → Rose (C.stops dev.old p) (C.stops dev.new p)) }
+        ensures calm { IfOk result (λ w. (p : ℕ) → p < length setup.images.items → is_up (slot_at w.processes.slots.items p) ≡ true
+            → (C.stops dev.new p ≡ C.stops dev.old p) × (C.faults dev.new p ≡ C.faults dev.old p)) }
+        ensures failed { (p : ℕ) → result ≡ Err (faults.Failed p) → (p < length setup.images.items) × Rose (C.faults dev.old p) (C.faults dev.new p) }
+        ensures tells { (p : ℕ) → KeepsTelling C.Checkpoint dev.old dev.new p }
+        ensures others { (q : ℕ) → length setup.images.items ≤ q → C.untouched dev.old dev.new q }
+        ensures continues { C.continues dev.old dev.new }
+    {
+        let acts = acts_for(alloc, entries)?;
+        let exposed = vec![in alloc; 0; setup.images.len()]?;
+        let (slots, stores) = begin_each(alloc, setup.protocol, &setup.images, dev)?;
+        Ok(World {
+            processes: Processes {
+                protocol: setup.protocol,
+                slots,
+                inputs: setup.inputs,
+                acts,
+                exposed,
+                lines: 0,
+                entries: 0,
+                left: entries,
+            },
+            stores,
+        })
+    }
+}

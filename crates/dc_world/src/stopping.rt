@@ -1,0 +1,45 @@
+//! Stops between turns.
+
+ghost use Rattle.std.specs.Prelude.{◌≡◌, ◌≢◌, ◌<◌, ℕ, length};
+ghost use Rattle.dc_twophase.specs.Stores.{EachPair};
+ghost use Rattle.dc_world.specs.Processes.{FallsStore, IsWell};
+ghost use Rattle.dc_world.specs.Slots.{Falls, slot_at};
+
+use crate::processes::Processes;
+use crate::slot::Slot;
+use dc_checkpoint::Checkpoint;
+
+impl Processes {
+    /// Process `p` falls, where it is up.
+    pub fn stop<C: Checkpoint>(&mut self, p: u32, store: &mut C)
+        requires well { IsWell self.old }
+        requires process { p < length self.old.slots.items }
+        ensures falls { Falls (slot_at self.old.slots.items p) (slot_at self.new.slots.items p) }
+        ensures others { (r : ℕ) → r ≢ p → slot_at self.new.slots.items r ≡ slot_at self.old.slots.items r }
+        ensures rest { self.new ≡ record self.old { slots = self.new.slots } }
+        ensures long { length self.new.slots.items ≡ length self.old.slots.items }
+        ensures well { IsWell self.new }
+        ensures store { FallsStore C.Checkpoint store.old store.new }
+    {
+        match self.slots[p as usize].take() {
+            Some(Slot::Up(up)) => self.slots[p as usize] = Some(Slot::Down(up.fall(store))),
+            other => self.slots[p as usize] = other,
+        }
+    }
+
+    /// All processes fall.
+    pub fn power<C: Checkpoint>(&mut self, stores: &mut [C])
+        requires well { IsWell self.old }
+        requires stores { length stores.old ≡ length self.old.slots.items }
+        ensures falls { (p : ℕ) → p < length self.old.slots.items → Falls (slot_at self.old.slots.items p) (slot_at self.new.slots.items p) }
+        ensures rest { self.new ≡ record self.old { slots = self.new.slots } }
+        ensures long { length self.new.slots.items ≡ length self.old.slots.items }
+        ensures well { IsWell self.new }
+        ensures stores { EachPair stores.old stores.new (λ i. FallsStore C.Checkpoint) }
+        ensures as_many { length stores.new ≡ length stores.old }
+    {
+        for p in 0..self.count() {
+            self.stop(p, &mut stores[p as usize]);
+        }
+    }
+}

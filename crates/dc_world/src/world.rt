@@ -1,0 +1,207 @@
+//! A world over its stores: one entry of a schedule at a time.
+
+ghost use Rattle.std.specs.Prelude.{◌≡◌, ◌≢◌, ◌<◌, ◌≤◌, ◌+◌, ◌++◌, ◌-◌, ◌^◌, ℕ, IfOk, IfSome, IsErrOf, IsSome, None, Some, OnErr, Ok, Err, Option, length};
+ghost use Rattle.dc_acts.specs.Lines.{text_of};
+ghost use Rattle.dc_checkpoint.specs.Calls.{IsCounted};
+ghost use Rattle.dc_kernel.specs.declared.faults.StoreFault as stores;
+ghost use Rattle.dc_media.specs.Causes.{HasCause, Rose};
+ghost use Rattle.dc_media.specs.Sinks.{TakesWhole};
+ghost use Rattle.dc_media.specs.Told.{Becomes, TellsOn};
+ghost use Rattle.dc_model.specs.declared.entry.Entry.TheVariants as entries;
+ghost use Rattle.dc_model.specs.declared.mark.Mark.TheVariants as marks;
+ghost use Rattle.dc_model.specs.declared.visible.Visible.{Visible as Visibles};
+ghost use Rattle.dc_world.specs.Processes.{IsWell};
+ghost use Rattle.dc_world.specs.Stages.{IsReady, KeepsTelling};
+ghost use Rattle.dc_world.specs.Slots.{have_ended};
+ghost use Rattle.dc_world.specs.Turns.{GoesOn, HasNoRun, later, lines_of};
+ghost use Rattle.dc_world.specs.Worlds.{IsCutOff, IsOfProcesses, MayRun, counted, stage_in};
+ghost use Rattle.dc_world.specs.declared.faults.TurnFault.TheVariants as faults;
+
+use crate::faults::{TurnFault, answer_to};
+use crate::processes::Processes;
+use dc_acts::{Acts, line_of};
+use dc_checkpoint::Checkpoint;
+use dc_kernel::CheckFault;
+use dc_media::{Sink, SinkFailed, write_whole};
+use dc_model::{Entry, Mark, Turn, Visible};
+
+/// Writes the line of what was shown, if something was. It tells how many whole lines that is.
+fn write_shown<O: Sink>(shown: &Option<Visible>, out: &mut O) -> Result<u32, SinkFailed>
+    ensures count { IfOk result (λ n. n ≡ length (lines_of shown.now)) }
+    ensures held { TakesWhole (text_of (lines_of shown.now)) result (O.held out.old) (O.held out.new) }
+    ensures something { OnErr result (IsSome shown.now) }
+    ensures tells { TellsOn 0 (O.faults out.new) (O.held out.old) (O.held out.new) }
+    ensures cause { HasCause (O.faults out.old) (O.faults out.new) result }
+{
+    match shown {
+        Some(visible) => {
+            write_whole(out, line_of(visible).as_slice())?;
+            Ok(1)
+        }
+        None => Ok(0),
+    }
+}
+
+/// Up to eight processes, each over its store. The device that the stores lie on is lent to each call.
+#[derive(Drop)]
+pub struct World<C: Drop> {
+    pub(crate) processes: Processes,
+    pub(crate) stores: Vec<C>,
+}
+
+impl<C: Checkpoint + Drop> World<C> {
+    /// A turn of a process: it takes its next event, or recovers where it is down.
+    fn take_turn(
+        &mut self,
+        turn: &Turn,
+        dev: &mut C::Device,
+    ) -> Result<(Mark, Option<Visible>), CheckFault>
+        requires ready { MayRun C.Checkpoint self.old dev.old }
+        requires left { 0 < self.old.processes.left }
+        requires process { turn.now.p < length self.old.processes.slots.items }
+        ensures ready { IsReady C.Checkpoint self.new.stores.items dev.new (counted self.new.processes) }
+        ensures rest { self.new.processes ≡ record self.old.processes { slots = self.new.processes.slots; acts = self.new.processes.acts; exposed = self.new.processes.exposed } }
+        ensures long { length self.new.processes.slots.items ≡ length self.old.processes.slots.items }
+        ensures counts { IsCounted C.told C.stops C.faults turn.now.p dev.old dev.new result }
+        ensures tells { (p : ℕ) → KeepsTelling C.Checkpoint dev.old dev.new p }
+        ensures others { (q : ℕ) → q ≢ turn.now.p → C.untouched dev.old dev.new q }
+        ensures continues { C.continues dev.old dev.new }
+        ensures whole { IfOk result (λ r. r.0 ≡ marks.Stopped → ⊥) }
+        ensures shows { IfOk result (λ r. IfSome r.1 (λ visible. r.0 ≡ marks.Showed visible.k)) }
+        ensures refused { (fault : stores.StoreFault) → IsErrOf result (CheckFault.Refused fault) → HasNoRun C.Checkpoint (stage_in self.old dev.old) (later 0 (stage_in self.new dev.new)) }
+        ensures turned { IfOk result (λ r. GoesOn C.Checkpoint (stage_in self.old dev.old) (later (length (lines_of r.1)) (stage_in self.new dev.new)) (entries.Turn turn.now) r.0 r.1) }
+        ensures stopped { OnErr result (GoesOn C.Checkpoint (stage_in self.old dev.old) (later 0 (stage_in self.new dev.new)) (entries.Turn turn.now) marks.Stopped None) }
+    {
+        let store = &mut self.stores[turn.p as usize];
+        self.processes.turn(turn, store, dev)
+    }
+
+    /// A stop of a process between turns.
+    fn stop(&mut self, p: u32)
+        requires well { IsWell self.old.processes }
+        requires process { p < length self.old.processes.slots.items }
+        requires stores { length self.old.stores.items ≡ length self.old.processes.slots.items }
+        ensures ready { (dev : C.Device) → MayRun C.Checkpoint self.old dev → 0 < self.old.processes.left → IsReady C.Checkpoint self.new.stores.items dev (counted self.new.processes) }
+        ensures rest { self.new.processes ≡ record self.old.processes { slots = self.new.processes.slots } }
+        ensures long { length self.new.processes.slots.items ≡ length self.old.processes.slots.items }
+        ensures turned { (dev : C.Device) → MayRun C.Checkpoint self.old dev → 0 < self.old.processes.left → GoesOn C.Checkpoint (stage_in self.old dev) (later 0 (stage_in self.new dev)) (entries.Stop p) marks.Marked None }
+    {
+        self.processes.stop(p, &mut self.stores[p as usize]);
+    }
+
+    /// A failure of the power.
+    fn power(&mut self)
+        requires well { IsWell self.old.processes }
+        requires stores { length self.old.stores.items ≡ length self.old.processes.slots.items }
+        ensures ready { (dev : C.Device) → MayRun C.Checkpoint self.old dev → 0 < self.old.processes.left → IsReady C.Checkpoint self.new.stores.items dev (counted self.new.processes) }
+        ensures rest { self.new.processes ≡ record self.old.processes { slots = self.new.processes.slots } }
+        ensures long { length self.new.processes.slots.items ≡ length self.old.processes.slots.items }
+        ensures turned { (dev : C.Device) → MayRun C.Checkpoint self.old dev → 0 < self.old.processes.left → GoesOn C.Checkpoint (stage_in self.old dev) (later 0 (stage_in self.new dev)) entries.Power marks.Marked None }
+    {
+        self.processes.power(&mut self.stores);
+    }
+
+    /// What an entry does, and what it shows.
+    fn take_entry(
+        &mut self,
+        entry: &Entry,
+        dev: &mut C::Device,
+    ) -> Result<(Mark, Option<Visible>), TurnFault>
+        requires ready { MayRun C.Checkpoint self.old dev.old }
+        requires left { 0 < self.old.processes.left }
+        requires process { IsOfProcesses (length self.old.processes.slots.items) entry.now }
+        ensures ready { IsReady C.Checkpoint self.new.stores.items dev.new (counted self.new.processes) }
+        ensures rest { self.new.processes ≡ record self.old.processes { slots = self.new.processes.slots; acts = self.new.processes.acts; exposed = self.new.processes.exposed } }
+        ensures long { length self.new.processes.slots.items ≡ length self.old.processes.slots.items }
+        ensures tells { (p : ℕ) → KeepsTelling C.Checkpoint dev.old dev.new p }
+        ensures others { (q : ℕ) → length self.old.processes.slots.items ≤ q → C.untouched dev.old dev.new q }
+        ensures continues { C.continues dev.old dev.new }
+        ensures stopped { IfOk result (λ r. r.0 ≡ marks.Stopped → (p : ℕ) × (p < length self.old.processes.slots.items) × Rose (C.stops dev.old p) (C.stops dev.new p)) }
+        ensures device { (p : ℕ) → IsErrOf result (faults.Device p) → (p < length self.old.processes.slots.items) × Rose (C.faults dev.old p) (C.faults dev.new p) }
+        ensures store { (p : ℕ) (fault : stores.StoreFault) → IsErrOf result (faults.Store p fault) → HasNoRun C.Checkpoint (stage_in self.old dev.old) (later 0 (stage_in self.new dev.new)) }
+        ensures sink { IsErrOf result faults.Sink → ⊥ }
+        ensures shows { IfOk result (λ r. IfSome r.1 (λ visible. r.0 ≡ marks.Showed visible.k)) }
+        ensures turned { IfOk result (λ r. GoesOn C.Checkpoint (stage_in self.old dev.old) (later (length (lines_of r.1)) (stage_in self.new dev.new)) entry.now r.0 r.1) }
+        ensures failed { OnErr result (GoesOn C.Checkpoint (stage_in self.old dev.old) (later 0 (stage_in self.new dev.new)) entry.now marks.Stopped None) }
+    {
+        match *entry {
+            Entry::Turn(turn) => match self.take_turn(&turn, dev) {
+                Ok(done) => Ok(done),
+                Err(fault) => Ok((answer_to(fault, turn.p)?, None)),
+            },
+            Entry::Stop(p) => {
+                self.stop(p);
+                Ok((Mark::Marked, None))
+            }
+            Entry::Power => {
+                self.power();
+                Ok((Mark::Marked, None))
+            }
+        }
+    }
+
+    /// Runs one entry: what it did. The line of what it shows is written once the entry is done.
+    ///
+    /// A stop of a device is no fault: its process is down then, and the entry is marked stopped. After a fault the world is given up
+    /// but for its reads. They tell the core after one entry more: one that was stopped, where a device failed or a store was refused;
+    /// one that went whole, where the output failed, though `lines` counts whole lines alone.
+    pub fn turn<O: Sink>(
+        &mut self,
+        entry: &Entry,
+        dev: &mut C::Device,
+        out: &mut O,
+    ) -> Result<Mark, TurnFault>
+        requires ready { MayRun C.Checkpoint self.old dev.old }
+        requires left { 0 < self.old.processes.left }
+        requires process { IsOfProcesses (length self.old.processes.slots.items) entry.now }
+        ensures ready { MayRun C.Checkpoint self.new dev.new }
+        ensures left { self.new.processes.left + 1 ≡ self.old.processes.left }
+        ensures long { length self.new.processes.slots.items ≡ length self.old.processes.slots.items }
+        ensures tells { (p : ℕ) → KeepsTelling C.Checkpoint dev.old dev.new p }
+        ensures others { (q : ℕ) → length self.old.processes.slots.items ≤ q → C.untouched dev.old dev.new q }
+        ensures continues { C.continues dev.old dev.new }
+        ensures out_tells { TellsOn 0 (O.faults out.new) (O.held out.old) (O.held out.new) }
+        ensures out_later { O.faults out.old ≤ O.faults out.new }
+        ensures stopped { IfOk result (λ mark. mark ≡ marks.Stopped → (p : ℕ) × (p < length self.old.processes.slots.items) × Rose (C.stops dev.old p) (C.stops dev.new p)) }
+        ensures device { (p : ℕ) → IsErrOf result (faults.Device p) → (p < length self.old.processes.slots.items) × Rose (C.faults dev.old p) (C.faults dev.new p) }
+        ensures store { (p : ℕ) (fault : stores.StoreFault) → IsErrOf result (faults.Store p fault) → HasNoRun C.Checkpoint (stage_in self.old dev.old) (stage_in self.new dev.new) }
+        ensures failed { OnErr result ((result ≡ Err faults.Sink → ⊥) → GoesOn C.Checkpoint (stage_in self.old dev.old) (stage_in self.new dev.new) entry.now marks.Stopped None × (out.new ≡ out.old)) }
+        ensures sink { IsErrOf result faults.Sink → Rose (O.faults out.old) (O.faults out.new) × IsCutOff C.Checkpoint (stage_in self.old dev.old) (stage_in self.new dev.new) entry.now (O.held out.old) (O.held out.new) }
+        ensures turned { IfOk result (λ mark. (shown : Option Visibles) × GoesOn C.Checkpoint (stage_in self.old dev.old) (stage_in self.new dev.new) entry.now mark shown
+            × Becomes (O.held out.old) (O.held out.new) (λ before after. after ≡ before ++ text_of (lines_of shown))) }
+    {
+        let taken = self.take_entry(entry, dev);
+        self.processes.count_entry();
+        match taken {
+            Ok((mark, shown)) => match write_shown(&shown, out) {
+                Ok(lines) => {
+                    self.processes.lines += lines;
+                    Ok(mark)
+                }
+                Err(SinkFailed) => Err(TurnFault::Sink),
+            },
+            Err(fault) => Err(fault),
+        }
+    }
+
+    /// The acts of the run so far.
+    pub fn acts(&self) -> &Acts
+        ensures { result.now ≡ self.now.processes.acts }
+    {
+        &self.processes.acts
+    }
+
+    /// How many whole lines were written.
+    pub fn lines(&self) -> u32
+        ensures { result ≡ self.now.processes.lines }
+    {
+        self.processes.lines
+    }
+
+    /// Whether every process is up and has ended.
+    pub fn ended(&self) -> bool
+        ensures { result ≡ have_ended self.now.processes.slots.items }
+    {
+        self.processes.have_ended()
+    }
+}
