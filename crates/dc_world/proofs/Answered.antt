@@ -37,7 +37,7 @@ use Rattle.dc_world.proofs.Telling.{lines_kept, shown_is, told_at}
 use Rattle.dc_world.specs.Answers.{HasCallRoom, IsTold as IsLogged, drawn_for, kind_by}
 use Rattle.dc_world.specs.Slots.{slot_at}
 use Rattle.dc_world.specs.Stages.{IsTold, IsWorld, Stage, leaves_of, memory_of, store_of}
-use Rattle.dc_world.specs.Turns.{Fell, IsTurned, Went, taken_mark, visible_shown}
+use Rattle.dc_world.specs.Turns.{Fell, IsTurned, Went, marked, taken_mark, visible_shown}
 use Rattle.dc_world.specs.declared.slot.Slot.{Slot}
 use Rattle.dc_world.specs.declared.slot.Slot.TheVariants.{Up}
 
@@ -102,7 +102,7 @@ module _ {C D : Type 0} (g : checkpoint.Ghosts C D) (told_contents : (c : C) (de
   idle : (same : new ≡ record old { entries = new.entries; left = new.left }) → new.left ≤ old.left → IsWorld g S core new
   idle same less = world_later g S core old new same less world
 
-  answered_ended : u0.guest.ended ≡ true → new ≡ record old { entries = new.entries; left = new.left } → new.left ≤ old.left → IsTurned g images core old new (entry.Turn turn) (mark.Idle Ended) None
+  answered_ended : u0.guest.ended ≡ true → new ≡ record old { entries = new.entries; left = new.left } → new.left ≤ old.left → IsTurned g images core old new (entry.Turn turn) (marked (mark.Idle Ended) None)
   answered_ended ended same less = record {
     after = core;
     turned = (inside, turned_ended g images old.inputs old.protocol alone schedule old.entries core now old world turn inside c0 at0 u0 slot0 fit.whole words told call called ended);
@@ -111,7 +111,7 @@ module _ {C D : Type 0} (g : checkpoint.Ghosts C D) (told_contents : (c : C) (de
   }
 
   module _ (runs : u0.guest.ended ≡ false) where
-    answered_full : (HasCallRoom u0.kernel call → ⊥) → new ≡ record old { entries = new.entries; left = new.left } → new.left ≤ old.left → IsTurned g images core old new (entry.Turn turn) (mark.Idle LinkFull) None
+    answered_full : (HasCallRoom u0.kernel call → ⊥) → new ≡ record old { entries = new.entries; left = new.left } → new.left ≤ old.left → IsTurned g images core old new (entry.Turn turn) (marked (mark.Idle LinkFull) None)
     answered_full full same less = record {
       after = core;
       turned = (inside, turned_full g images old.inputs old.protocol alone schedule old.entries core now old world turn inside c0 at0 u0 slot0 fit.whole words told call called runs full);
@@ -131,7 +131,7 @@ module _ {C D : Type 0} (g : checkpoint.Ghosts C D) (told_contents : (c : C) (de
 
       -- it went whole
       pub answered_whole : (shown : Option Shown) → IfSome (g.contents c0 old.dev) (λ ws. shown ≡ shown_of (effect_of (event_of (next_of (over u0.guest ws)) (machine_over u0.guest ws))) u0.kernel.visible)
-          → (c1 : C) → store_of new turn.p ≡ Some c1 → g.ready c1 new.dev → g.told new.dev (g.place c1) → Went g old new turn.p a → IsTurned g images core old new (entry.Turn turn) (taken_mark shown) (visible_shown turn.p shown)
+          → (c1 : C) → store_of new turn.p ≡ Some c1 → g.ready c1 new.dev → g.told new.dev (g.place c1) → Went g old new turn.p a → IsTurned g images core old new (entry.Turn turn) (marked (taken_mark shown) (visible_shown turn.p shown))
       answered_whole shown shows c1 at1 ready1 told1 went =
           let showed = told_at (λ ws. shown ≡ shown_of (effect_of (event_of (next_of (over u0.guest ws)) (machine_over u0.guest ws))) u0.kernel.visible) (g.contents c0 old.dev) words told shows in
           let later = some_there (g.contents c1 new.dev) (told_contents c1 new.dev ready1 told1) in
@@ -143,7 +143,7 @@ module _ {C D : Type 0} (g : checkpoint.Ghosts C D) (told_contents : (c : C) (de
           }
 
       -- it was stopped in one of its places
-      pub answered_stopped : Fell g old new turn.p a → IsTurned g images core old new (entry.Turn turn) mark.Stopped None
+      pub answered_stopped : Fell g old new turn.p a → IsTurned g images core old new (entry.Turn turn) (marked mark.Stopped None)
       answered_stopped fell =
           let x = fell images schedule core words alone memory_old now world inside given in record {
             after = after_turn S old.entries core turn.p a x.0;
@@ -154,6 +154,6 @@ module _ {C D : Type 0} (g : checkpoint.Ghosts C D) (told_contents : (c : C) (de
 
   -- it did nothing, and why
   pub answered_idle : (i : Idle) → (i ≡ Ended → u0.guest.ended ≡ true) → (i ≡ LinkFull → (u0.guest.ended ≡ false) × (HasCallRoom u0.kernel call → ⊥)) → new ≡ record old { entries = new.entries; left = new.left } → new.left ≤ old.left
-      → IsTurned g images core old new (entry.Turn turn) (mark.Idle i) None
+      → IsTurned g images core old new (entry.Turn turn) (marked (mark.Idle i) None)
   answered_idle Ended ended full same less = answered_ended (ended refl) same less
   answered_idle LinkFull ended full same less = answered_full (full refl).0 (full refl).1 same less

@@ -16,7 +16,7 @@ use Rattle.dc_proc.specs.declared.up.Up.{Up as Process}
 use Rattle.dc_protocols.specs.declared.protocol.Protocol.{Protocol}
 use Rattle.dc_words.specs.Words.{bytes_in}
 use Rattle.dc_world.proofs.Handling.{counts_same}
-use Rattle.dc_world.specs.Opened.{IsBegun, first_kernel}
+use Rattle.dc_world.specs.Opened.{IsBegun, first_kernel, whose}
 use Rattle.dc_world.specs.Processes.{FallsStore}
 use Rattle.dc_world.specs.Slots.{IsOf}
 use Rattle.dc_world.specs.declared.slot.Slot.TheVariants.{Up, Down}
@@ -80,7 +80,7 @@ module _ {C D : Type 0} (g : checkpoint.Ghosts C D) (protocol : Protocol) (n p :
       (subst (HasCountsFor turns) (sym held_first) (first_counts turns n p image few))
 
   -- its store was made
-  pub up_begun : g.ready c dev → IfSome (g.contents c dev) (λ told. told ≡ words) → (g.number c ≡ number_in text) × (g.logged c ≡ 0) → IsBegun g protocol n p image c dev (Some (Up u))
+  pub up_begun : g.ready c dev → IfSome (g.contents c dev) (λ told. told ≡ words) → (g.number c ≡ number_in text) × (g.logged c ≡ 0) → IsBegun g protocol (whose n p) image c dev (Some (Up u))
   up_begun ready memory number = record {
     words = words;
     bytes_are = bytes_are;
@@ -105,7 +105,7 @@ module _ {C D : Type 0} (g : checkpoint.Ghosts C D) (protocol : Protocol) (n p :
   }
 
   -- its making was stopped
-  pub down_begun : (c2 : C) (d : Fallen) → FallsStore g c c2 → IsDown d → IsDownOf u.kernel.n u.kernel.p u.protocol u.size d → based_of d ≡ (held u).based → IsBegun g protocol n p image c2 dev (Some (Down d))
+  pub down_begun : (c2 : C) (d : Fallen) → FallsStore g c c2 → IsDown d → IsDownOf u.kernel.n u.kernel.p u.protocol u.size d → based_of d ≡ (held u).based → IsBegun g protocol (whose n p) image c2 dev (Some (Down d))
   down_begun c2 d falls down down_of based_same = record {
     words = words;
     bytes_are = bytes_are;

@@ -10,7 +10,7 @@ use Rattle.dc_media.specs.Causes.{Rose}
 use Rattle.dc_protocols.specs.declared.protocol.Protocol.{Protocol}
 use Rattle.dc_twophase.proofs.Laws.{Laws, QuietLaws}
 use Rattle.dc_world.proofs.Handling.{handled_still}
-use Rattle.dc_world.specs.Opened.{AreBegun, IsBegun, IsUpFor}
+use Rattle.dc_world.specs.Opened.{AreBegun, IsBegun, IsUpFor, whose}
 use Rattle.dc_world.specs.Stages.{KeepsTelling}
 use Rattle.dc_world.specs.Slots.{slot_at}
 use Rattle.dc_world.specs.declared.slot.Slot.{Slot}
@@ -44,7 +44,7 @@ pub record AreMade {C D : Type 0} (g : checkpoint.Ghosts C D) (k : ℕ) (old new
 
 module _ {C D : Type 0} (g : checkpoint.Ghosts C D) (laws : Laws g) (quiet : QuietLaws g) where
   pub begun_still : (protocol : Protocol) (n p : ℕ) (image : Image) (c : C) (old new : D) (slot : Option Slot) → g.untouched old new (g.place c)
-      → IsBegun g protocol n p image c old slot → IsBegun g protocol n p image c new slot
+      → IsBegun g protocol (whose n p) image c old slot → IsBegun g protocol (whose n p) image c new slot
   begun_still protocol n p image c old new slot still is = record {
     words = is.words;
     bytes_are = is.bytes_are;
@@ -109,18 +109,18 @@ module _ {C D : Type 0} (g : checkpoint.Ghosts C D) (laws : Laws g) (quiet : Qui
           (cases_eq k q)
 
       pub begun_next : (protocol : Protocol) (images : List Image) (stores stores2 : List C) (store : C) (image : Image) → length stores ≡ k → stores2 ≡ stores ++ store ∷ [] → slice_get images k ≡ Some image
-          → IsBegun g protocol (length images) k image store new (Some slot) → AreBegun g protocol images slots stores mid → AreBegun g protocol images slots2 stores2 new
+          → IsBegun g protocol (whose (length images) k) image store new (Some slot) → AreBegun g protocol images slots stores mid → AreBegun g protocol images slots2 stores2 new
       begun_next protocol images stores stores2 store image stores_long stores_are there is below q c at = ⊎_elim
           (λ (same : k ≡ q). let at_k : slice_get (stores ++ store ∷ []) k ≡ Some c = ap (λ xs. slice_get xs k) (sym stores_are) ∙ subst (λ r. slice_get stores2 r ≡ Some c) (sym same) at in
           let one : Some store ≡ Some c = sym (subst (λ i. slice_get (stores ++ store ∷ []) i ≡ Some store) stores_long (get_end stores store)) ∙ at_k in
           let is_c : store ≡ c = cc in
-          subst (λ r. (x : Image) × (slice_get images r ≡ Some x) × IsBegun g protocol (length images) r x c new (slot_at slots2 r)) same
-          (image, there, subst (IsBegun g protocol (length images) k image c new) (sym at_end) (subst (λ z. IsBegun g protocol (length images) k image z new (Some slot)) is_c is)))
+          subst (λ r. (x : Image) × (slice_get images r ≡ Some x) × IsBegun g protocol (whose (length images) r) x c new (slot_at slots2 r)) same
+          (image, there, subst (IsBegun g protocol (whose (length images) k) image c new) (sym at_end) (subst (λ z. IsBegun g protocol (whose (length images) k) image z new (Some slot)) is_c is)))
           (λ (ne : k ≢ q). let within = slice_get_within stores2 q c at in let more = ap (λ xs. length xs) stores_are ∙ length-append stores (store ∷ []) in let low : q < k = omega (arith, within, more, stores_long, ne) in
           let was = below q c (sym (get_front stores (store ∷ []) q (subst (λ i. q < i) (sym stores_long) low)) ∙ ap (λ xs. slice_get xs q) (sym stores_are) ∙ at) in (
             was.0,
             was.1,
-            subst (IsBegun g protocol (length images) q was.0 c new) (sym (at_front q low))
+            subst (IsBegun g protocol (whose (length images) q) was.0 c new) (sym (at_front q low))
                 (begun_still protocol (length images) q was.0 c mid new (slot_at slots q) (others (g.place c) (λ e. ne (sym e ∙ was.2.own.place_is))) was.2),
           ))
           (cases_eq k q)

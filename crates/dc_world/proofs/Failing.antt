@@ -25,7 +25,7 @@ use Rattle.dc_world.proofs.Fallen.{world_still}
 use Rattle.dc_world.proofs.Going.{zero_stands}
 use Rattle.dc_world.specs.Slots.{Falls, is_up, slot_at}
 use Rattle.dc_world.specs.Stages.{IsWorld, Stage, leaves_of, store_of}
-use Rattle.dc_world.specs.Turns.{IsTurned}
+use Rattle.dc_world.specs.Turns.{IsTurned, marked}
 
 -- calls of its store that were stopped, or refused, leave no more than what there was
 pub failing : {C D : Type 0} (g : checkpoint.Ghosts C D) (laws : Laws g) (images : List Image) (core : Core) (old new : Stage C D) (alone : is_global old.protocol ≡ false) (world : IsWorld g (system images old.inputs old.protocol) core old)
@@ -33,7 +33,7 @@ pub failing : {C D : Type 0} (g : checkpoint.Ghosts C D) (laws : Laws g) (images
     (others : (q : ℕ) → q ≢ g.place c0 → g.untouched old.dev new.dev q) (narrow : (r : Reading) → g.leaves c1 new.dev 0 r → g.leaves c0 old.dev 0 r)
     (down : is_up (slot_at old.slots turn.p) ≡ false) (falls : Falls (slot_at old.slots turn.p) (slot_at new.slots turn.p)) (slots_same : (q : ℕ) → turn.p ≢ q → slot_at new.slots q ≡ slot_at old.slots q)
     → length new.slots ≡ length old.slots → new.protocol ≡ old.protocol → new.inputs ≡ old.inputs → new.acts ≡ old.acts → new.exposed ≡ old.exposed → new.lines ≡ old.lines → new.left ≤ old.left
-    → IsTurned g images core old new (entry.Turn turn) mark.Stopped None
+    → IsTurned g images core old new (entry.Turn turn) (marked mark.Stopped None)
 failing {C} {D} g laws images core old new alone world turn there c0 c1 at0 stores_are place_own others narrow down falls slots_same long protocol inputs acts exposed lines left = record {
   after = core;
   turned = (inside, subst (λ (b : Bool). RunsOr b S core (record { t = old.entries; p = turn.p; answer = answer S.guests core turn.p turn.word turn.clock }) mark.Stopped core) (sym (world.up_are turn.p inside ∙ down)) (inr (refl, refl)));

@@ -22,7 +22,7 @@ use Rattle.dc_world.proofs.Waiting.{ready_next, well_counted}
 use Rattle.dc_world.specs.Processes.{FallsStore, IsWell}
 use Rattle.dc_world.specs.Slots.{Falls, slot_at}
 use Rattle.dc_world.specs.Stages.{IsHandled, IsOwn, IsReady, IsWorld, Stage, leaves_of, stage_of}
-use Rattle.dc_world.specs.Turns.{IsTurned, later}
+use Rattle.dc_world.specs.Turns.{IsTurned, later, marked}
 use Rattle.dc_world.specs.Worlds.{counted}
 use Rattle.dc_world.specs.declared.processes.Processes.{Processes}
 use Rattle.dc_world.specs.declared.slot.Slot.{Slot}
@@ -60,7 +60,7 @@ module _ {C D : Type 0} (g : checkpoint.Ghosts C D) where
     abbrev new : Stage C D
     new = later 0 (stage_of (set stores p c1) dev w1)
 
-    pub turned_fallen : (images : List Image) (core : Core) → IsWorld g (system images old.inputs old.protocol) core old → IsTurned g images core old new (entry.Stop p) mark.Marked None
+    pub turned_fallen : (images : List Image) (core : Core) → IsWorld g (system images old.inputs old.protocol) core old → IsTurned g images core old new (entry.Stop p) (marked mark.Marked None)
     turned_fallen images core world =
         let place_own : (q : ℕ) (x : C) → slice_get stores q ≡ Some x → g.place x ≡ q = λ q x is. (ready.own q x is).place_is in
         let untouched : (q : ℕ) → q ≢ g.place c0 → g.untouched dev dev q = λ q ne. laws.untouched_self dev q in
@@ -121,7 +121,7 @@ module _ {C D : Type 0} (g : checkpoint.Ghosts C D) where
         by_store None at x = absurd x
         by_store (Some c) at x = let was = before_it stores stores1 q c as_many at in and_some (λ z. g.leaves z dev 0 r) (slice_get stores q) was.0 was.1 ((pairs q was.0 c was.1 at).stands dev 0 r (omega arith) x)
 
-    pub turned_powered : (images : List Image) (core : Core) → IsWorld g (system images before.inputs before.protocol) core before → IsTurned g images core before below entry.Power mark.Marked None
+    pub turned_powered : (images : List Image) (core : Core) → IsWorld g (system images before.inputs before.protocol) core before → IsTurned g images core before below entry.Power (marked mark.Marked None)
     turned_powered images core world =
         let no_more : w.lines + 0 ≡ w.lines = omega arith in record {
           after = after_power core;

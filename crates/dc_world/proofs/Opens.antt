@@ -25,7 +25,7 @@ use Rattle.dc_twophase.proofs.Pairs.{known}
 use Rattle.dc_words.specs.Words.{bytes_in}
 use Rattle.dc_world.proofs.Beginning.{none_received, none_sent}
 use Rattle.dc_world.proofs.Beside.{some_and}
-use Rattle.dc_world.specs.Opened.{AreBegun, IsBegun, IsHeldFirst, IsOpened, first_kernel}
+use Rattle.dc_world.specs.Opened.{AreBegun, IsBegun, IsHeldFirst, IsOpened, first_kernel, whose}
 use Rattle.dc_world.specs.Slots.{IsOf, based_in, held_in, is_up, slot_at}
 use Rattle.dc_world.specs.Stages.{IsHandled, IsOwn, IsReady, IsTold, IsWorld, Stage, leaves_of, memory_of, seen_of, stage_of, store_of, words_of}
 use Rattle.dc_world.specs.declared.opening.Setup.{Setup}
@@ -127,7 +127,7 @@ module _ {C D : Type 0} (g : checkpoint.Ghosts C D) (setup : Setup) (entries : �
   at p = slot_at w.slots.items p
 
   -- one of its processes
-  one : (p : ℕ) → p < length images → (c : C) × (slice_get stores p ≡ Some c) × (image : Image) × (slice_get images p ≡ Some image) × IsBegun g setup.protocol (length images) p image c dev (at p)
+  one : (p : ℕ) → p < length images → (c : C) × (slice_get stores p ≡ Some c) × (image : Image) × (slice_get images p ≡ Some image) × IsBegun g setup.protocol (whose (length images) p) image c dev (at p)
   one p less = let store = known stores p (subst (λ m. p < m) (sym stores_long) less) in let begun = each p store.0 store.1 in (store.0, store.1, begun.0, begun.1, begun.2)
 
   pub ready : 0 < length images → length images ≤ 8 → length setup.inputs.items ≡ length images → entries ≤ w.acts.room → IsReady g stores dev w

@@ -48,7 +48,7 @@ use Rattle.dc_world.proofs.Telling.{told_at}
 use Rattle.dc_world.specs.Processes.{Learns, LearnsAll, learned_held}
 use Rattle.dc_world.specs.Slots.{based_in, held_in, is_up, slot_at}
 use Rattle.dc_world.specs.Stages.{IsWorld, Stage, leaves_of, memory_of, seen_of, store_of, words_of}
-use Rattle.dc_world.specs.Turns.{IsTurned}
+use Rattle.dc_world.specs.Turns.{IsTurned, marked}
 use Rattle.dc_world.specs.declared.slot.Slot.TheVariants.{Up}
 
 module _ {C D : Type 0} (g : checkpoint.Ghosts C D) (laws : Laws g) (told_contents : (c : C) (dev : D) → g.ready c dev → g.told dev (g.place c) → IsSome (g.contents c dev)) (images : List Image) (schedule : List Entry) (core : Core)
@@ -191,7 +191,7 @@ module _ {C D : Type 0} (g : checkpoint.Ghosts C D) (laws : Laws g) (told_conten
               (cases_eq p z)
 
       -- it is up again in the theory
-      pub returned : IsTurned g images core old new (entry.Turn turn) (mark.Recovered u1.kernel.position) None
+      pub returned : IsTurned g images core old new (entry.Turn turn) (marked (mark.Recovered u1.kernel.position) None)
       returned = record {
         after = after_rise S core p k;
         turned = (

@@ -1,6 +1,6 @@
 -- What a world is when it was opened.
 use Rattle.std.specs.Prelude.{◌≡◌, ◌<◌, ◌≤◌, ◌*◌, ◌-◌, ℕ, List, [], true, false, Option, Some, IfSome, length, replicate, slice_get, slice_index, slice_set}
-use Rattle.dc_checkpoint.specs.States.{Reading}
+use Rattle.dc_checkpoint.specs.States.{Form, Reading}
 use Rattle.dc_checkpoint.specs.declared.checkpoint.Checkpoint as checkpoint
 use Rattle.dc_elf.specs.declared.image.Image.{Image}
 use Rattle.dc_kernel.specs.Kernels.{IsKernel, Kernel, fresh}
@@ -35,23 +35,27 @@ pub record IsHeldFirst (kernel : Kernel) (held : Held) : Type 0 where
   pub left_is : held.log_left ≡ 64
   pub others_are : (q : ℕ) → q < kernel.n → slice_index held.others q ≡ 0
 
--- process p of n before its first event, with its store, whose images all stand for that; up, it may take any turns of a run
-pub record IsBegun {C D : Type 0} (g : checkpoint.Ghosts C D) (protocol : Protocol) (n p : ℕ) (image : Image) (c : C) (dev : D) (slot : Option Slot) : Type 0 where
+-- process p of n
+abbrev pub whose : ℕ → ℕ → Form
+whose n p = record { n = n; p = p }
+
+-- a process before its first event, with its store, whose images all stand for that; up, it may take any turns of a run
+pub record IsBegun {C D : Type 0} (g : checkpoint.Ghosts C D) (protocol : Protocol) (form : Form) (image : Image) (c : C) (dev : D) (slot : Option Slot) : Type 0 where
   pub words : List ℕ
   pub bytes_are : bytes_in words ≡ image.memory.items
-  pub of : (s : Slot) → slot ≡ Some s → IsOf protocol n p s
-  pub own : IsOwn g n p c
+  pub of : (s : Slot) → slot ≡ Some s → IsOf protocol form.n form.p s
+  pub own : IsOwn g form.n form.p c
   pub handled : (turns : ℕ) → turns ≤ 1000000 → IsHandled g turns c dev slot
-  pub kernel_ok : IsKernel n p (first_kernel n p image)
-  pub leaves : (d : ℕ) (r : Reading) → g.leaves c dev d r → r ≡ reading_of (record { words = words; kernel = first_kernel n p image; log = [] })
-  pub based : (s : ℕ) → s < n → slice_index (based_in slot) s ≡ 0
-  pub held : is_up slot ≡ true → IsHeldFirst (first_kernel n p image) (held_in slot)
+  pub kernel_ok : IsKernel form.n form.p (first_kernel form.n form.p image)
+  pub leaves : (d : ℕ) (r : Reading) → g.leaves c dev d r → r ≡ reading_of (record { words = words; kernel = first_kernel form.n form.p image; log = [] })
+  pub based : (s : ℕ) → s < form.n → slice_index (based_in slot) s ≡ 0
+  pub held : is_up slot ≡ true → IsHeldFirst (first_kernel form.n form.p image) (held_in slot)
   pub memory : is_up slot ≡ true → IfSome (g.contents c dev) (λ told. told ≡ words)
 
 -- each that has a store is
 abbrev pub AreBegun : {C D : Type 0} → checkpoint.Ghosts C D → Protocol → List Image → List (Option Slot) → List C → D → Type 0
 AreBegun g protocol images slots stores dev = (p : ℕ) (c : _) → slice_get stores p ≡ Some c
-    → (image : Image) × (slice_get images p ≡ Some image) × IsBegun g protocol (length images) p image c dev (slot_at slots p)
+    → (image : Image) × (slice_get images p ≡ Some image) × IsBegun g protocol (whose (length images) p) image c dev (slot_at slots p)
 
 -- a process is down exactly for a stop of its device, and one that is up had no refusal of it
 pub record IsUpFor {C D : Type 0} (g : checkpoint.Ghosts C D) (p : ℕ) (old new : D) (slot : Option Slot) : Type 0 where

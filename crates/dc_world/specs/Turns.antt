@@ -26,17 +26,25 @@ abbrev pub lines_of : Option Visible → List Visible
 lines_of None = []
 lines_of (Some visible) = visible ∷ []
 
+-- what an entry did, and what it showed
+pub record Marked : Type 0 where
+  pub mark : Mark
+  pub shown : Option Visible
+
+abbrev pub marked : Mark → Option Visible → Marked
+marked mark shown = record { mark = mark; shown = shown }
+
 -- the theory allows it: the core that the world stands for after the entry, which shows this more
-pub record IsTurned {C D : Type 0} (g : checkpoint.Ghosts C D) (images : List Image) (c : Core) (old new : Stage C D) (entry : Entry) (mark : Mark) (shown : Option Visible) : Type 0 where
+pub record IsTurned {C D : Type 0} (g : checkpoint.Ghosts C D) (images : List Image) (c : Core) (old new : Stage C D) (entry : Entry) (did : Marked) : Type 0 where
   pub after : Core
-  pub turned : Turned (system images old.inputs old.protocol) old.entries c entry mark after
-  pub lines_are : after.lines ≡ lines_of shown ++ c.lines
+  pub turned : Turned (system images old.inputs old.protocol) old.entries c entry did.mark after
+  pub lines_are : after.lines ≡ lines_of did.shown ++ c.lines
   pub stands : IsWorld g (system images old.inputs old.protocol) after new
 
 -- wherever the run had come to, whatever its guests, where its devices were told and still tell
 abbrev pub GoesOn : {C D : Type 0} → checkpoint.Ghosts C D → Stage C D → Stage C D → Entry → Mark → Option Visible → Type 0
 GoesOn g old new entry mark shown = (images : List Image) (schedule : List Entry) (c : Core) → IsTold g old → IsTold g new
-    → Holds (system images old.inputs old.protocol) schedule old.entries c → IsWorld g (system images old.inputs old.protocol) c old → IsTurned g images c old new entry mark shown
+    → Holds (system images old.inputs old.protocol) schedule old.entries c → IsWorld g (system images old.inputs old.protocol) c old → IsTurned g images c old new entry (marked mark shown)
 
 -- there is no run that has come to such a world, where its devices were told and still tell
 abbrev pub HasNoRun : {C D : Type 0} → checkpoint.Ghosts C D → Stage C D → Stage C D → Type 0

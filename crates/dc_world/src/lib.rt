@@ -11,6 +11,8 @@ mod processes;
 mod recovering;
 mod slot;
 mod stopping;
+#[cfg(test)]
+mod tests;
 mod turning;
 mod world;
 

@@ -9,7 +9,7 @@ ghost use Rattle.dc_proc.specs.Carried.{system};
 ghost use Rattle.dc_proc.specs.Processes.{form_of};
 ghost use Rattle.dc_protocols.specs.Rules.{is_global};
 ghost use Rattle.dc_recovery.specs.Core.{opened_core};
-ghost use Rattle.dc_world.specs.Opened.{AreBegun, CanOpen, IsBegun, IsOpened, IsUpFor, kernel_at};
+ghost use Rattle.dc_world.specs.Opened.{AreBegun, CanOpen, IsBegun, IsOpened, IsUpFor, kernel_at, whose};
 ghost use Rattle.dc_world.specs.Stages.{IsReady, IsTold, IsWorld, KeepsTelling, stage_of};
 ghost use Rattle.dc_world.specs.Slots.{is_up, slot_at};
 ghost use Rattle.dc_world.specs.declared.faults.OpenFault.TheVariants as faults;
@@ -76,7 +76,7 @@ fn begin<C: Checkpoint + Drop>(
     requires few { n ≤ 8 }
     requires one_of { p < n }
     requires good { CanOpen image.now }
-    ensures begun { IfOk result (λ made. IsBegun C.Checkpoint protocol n p image.now made.1 dev.new (Some made.0)) }
+    ensures begun { IfOk result (λ made. IsBegun C.Checkpoint protocol (whose n p) image.now made.1 dev.new (Some made.0)) }
     ensures up { IfOk result (λ made. IsUpFor C.Checkpoint p dev.old dev.new (Some made.0)) }
     ensures failed { (q : ℕ) → result ≡ Err (faults.Failed q) → (q ≡ p) × Rose (C.faults dev.old p) (C.faults dev.new p) }
     ensures tells { KeepsTelling C.Checkpoint dev.old dev.new p }

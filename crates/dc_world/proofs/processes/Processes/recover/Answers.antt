@@ -13,7 +13,7 @@ use Rattle.dc_world.proofs.Slots.{knows_beside, past_same, put_other, put_same, 
 use Rattle.dc_world.specs.Processes.{Learns, LearnsAll}
 use Rattle.dc_world.specs.Slots.{Falls, IsOf, based_in, is_up, size_in, slot_at}
 use Rattle.dc_world.specs.Stages.{IsHandled, stage_of}
-use Rattle.dc_world.specs.Turns.{HasNoRun, IsTurned, WithStores, later, with_slot}
+use Rattle.dc_world.specs.Turns.{HasNoRun, IsTurned, WithStores, later, marked, with_slot}
 use Rattle.dc_world.specs.declared.processes.Processes.{Processes}
 use Rattle.dc_world.specs.declared.slot.Slot.TheVariants.{Down, Up}
 use Rattle.dc_world.proofs.processes.Processes.recover.Given as given
@@ -180,4 +180,4 @@ returns-in-Ok-clause-turned g c stores at place images schedule core told_old to
     (λ q less ne. subst (λ s. Learns p (slice_index (held up).based q) s (slot_at w2.slots.items q)) (sym (put_other slots0 p q (Some (Down c.args.down)) ne)) (c.rise.ensures.others q (subst (λ m. q < m) long_old less) ne))
     (c.rise.ensures.long ∙ sym long_old) (ap (λ (w : Processes). w.protocol) c.rise.ensures.rest) (ap (λ (w : Processes). lists_of w.inputs.items) c.rise.ensures.rest) (ap (λ (w : Processes). w.exposed.items) c.rise.ensures.rest)
     (ap (λ (w : Processes). w.lines + 0) c.rise.ensures.rest ∙ no_more) (omega (arith, left_is)) c.rise.ensures.acts in
-    subst (λ m. IsTurned g.C.Checkpoint images core old new (entry.Turn c.args.turn.now) m None) (sym c.rise.ensures.mark) turned
+    subst (λ m. IsTurned g.C.Checkpoint images core old new (entry.Turn c.args.turn.now) (marked m None)) (sym c.rise.ensures.mark) turned
