@@ -1,11 +1,11 @@
 -- A device with planned stops as contracts see it, and what its calls do.
-use Rattle.std.specs.Prelude.{◌≡◌, ◌⊎◌, ◌+◌, ℕ, Result, IsErr, IsErrOf}
+use Rattle.std.specs.Prelude.{◌≡◌, ◌≤◌, ◌⊎◌, ◌+◌, ℕ, Result, IsErr, IsErrOf}
 use Rattle.dc_media.specs.declared.faults.DeviceFault.{DeviceFault}
 use Rattle.dc_media.specs.declared.faults.DeviceFault.TheVariants.{Stopped}
 use Rattle.dc_media.specs.Causes.{IsCaused}
 use Rattle.dc_media.specs.Told.{Becomes, Device, showing}
 use Rattle.dc_armed.specs.Torn.{counted_by}
-use Rattle.dc_armed.specs.Stops.{Plan, Comes, came_to, calls_to}
+use Rattle.dc_armed.specs.Stops.{Plan, Comes, Progresses, came_to, calls_to}
 
 -- the device within, and the stops that are planned for it
 pub record Armed (D : Type 0) : Type 0 where
@@ -56,3 +56,10 @@ pub record IsPlannedAlone {D T : Type 0} (p : ℕ) (result : Result T DeviceFaul
 -- the planned stop came, or the device within refused the call, which is then the answer
 abbrev pub ComesOrRefused : {D C T : Type 0} → Device D C → ℕ → Work C → Result T DeviceFault → Armed D → Armed D → Type 0
 ComesOrRefused device p work result old new = IsPlanned device p work result old new ⊎ (IsErr result × IsOwn device p result old new)
+
+-- a later state of an armed device: the device within is a later one, none of its stops and faults is forgotten, and the plan has gone on
+pub record IsLater {D : Type 0} (continues : D → D → Type 0) (stops faults : D → ℕ → ℕ) (old new : Armed D) : Type 0 where
+  pub device : continues old.device new.device
+  pub stopped : (p : ℕ) → stops old.device p ≤ stops new.device p
+  pub failed : (p : ℕ) → faults old.device p ≤ faults new.device p
+  pub plan : Progresses old.plan new.plan

@@ -2,3 +2,4 @@ pub mod Armed
 pub mod Stops
 pub mod Torn
 pub mod Turns
+pub mod Laws

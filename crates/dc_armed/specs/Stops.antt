@@ -1,5 +1,5 @@
 -- Planned stops: which one waits for a process in a turn, how its calls count it down, and how many came.
-use Rattle.std.specs.Prelude.{◌≡◌, ◌≢◌, ℕ, ◌-◌, ◌^◌, ◌≤◌, ◌==◌, ◌&&◌, nat_lt, List, Bool, Option, None, Some, Result, Ok, Err, if◌then◌else◌, get_or}
+use Rattle.std.specs.Prelude.{◌≡◌, ◌≢◌, ℕ, ◌+◌, ◌-◌, ◌^◌, ◌≤◌, ◌==◌, ◌&&◌, nat_lt, List, Bool, Option, None, Some, Result, Ok, Err, if◌then◌else◌, get_or}
 use Rattle.dc_media.specs.declared.faults.DeviceFault.{DeviceFault}
 use Rattle.dc_media.specs.declared.faults.DeviceFault.TheVariants.{Stopped, Failed}
 use Rattle.dc_media.specs.declared.TheConstants.{STORES}
@@ -81,3 +81,14 @@ pub record Comes (p : ℕ) (old new : Plan) : Type 0 where
 pub record Calls (p : ℕ) (old new : Plan) : Type 0 where
   pub here : calls_to new p ≡ counted (calls_to old p)
   pub others : (q : ℕ) → q ≢ p → calls_to new q ≡ calls_to old q
+
+-- whether a stop waits, as a count
+abbrev pub count_of : Option Waiting → ℕ
+count_of None = 0
+count_of (Some waiting) = 1
+
+-- a later state of the plan within a turn: its stops are the same, and no stop came to a process but one that waited for it, which waits no more
+pub record Progresses (old new : Plan) : Type 0 where
+  pub stops_same : new.stops ≡ old.stops
+  pub later : (p : ℕ) → came_to old p ≤ came_to new p
+  pub once : (p : ℕ) → came_to new p + count_of (waiting_for new p) ≤ came_to old p + count_of (waiting_for old p)

@@ -1,5 +1,5 @@
 -- A turn of a process that is up is one of the theory, wherever the run had come to.
-use Rattle.std.proofs.Common.{◌≡◌, ◌≢◌, ◌∙◌, ◌++◌, ◌<◌, ◌≤◌, ◌-◌, ◌*◌, ◌^◌, ℕ, List, [], true, false, Option, None, Some, IfSome, IsSome, refl, sym, ap, subst, arith, length, slice_get, unwrap_or}
+use Rattle.std.proofs.Common.{◌≡◌, ◌∙◌, ◌++◌, ◌<◌, ◌≤◌, ◌-◌, ◌*◌, ◌^◌, ℕ, List, [], true, false, Option, None, Some, IfSome, IsSome, refl, sym, ap, subst, arith, length, slice_get, unwrap_or}
 use Rattle.dc_calls.specs.declared.call.Call.{Call}
 use Rattle.dc_checkpoint.specs.declared.checkpoint.Checkpoint as checkpoint
 use Rattle.dc_elf.specs.Images.{Image}
@@ -31,14 +31,15 @@ use Rattle.dc_recovery.specs.Parts.Place.{Nowhere}
 use Rattle.dc_recovery.specs.Systems.{System}
 use Rattle.dc_recovery.specs.Turned.{after_turn}
 use Rattle.dc_world.proofs.Beside.{some_there}
-use Rattle.dc_world.proofs.Running.{answer_is, given_is, turned_ended, turned_full, turned_stopped, turned_whole}
+use Rattle.dc_world.proofs.Replying.{answer_is, given_is}
+use Rattle.dc_world.proofs.Running.{turned_ended, turned_full, turned_stopped, turned_whole}
 use Rattle.dc_world.proofs.Standing.{at_now}
 use Rattle.dc_world.proofs.Telling.{lines_kept, shown_is, told_at}
 use Rattle.dc_world.specs.Answers.{HasCallRoom, IsTold as IsLogged, drawn_for, kind_by}
 use Rattle.dc_world.specs.Slots.{slot_at}
 use Rattle.dc_world.specs.Stages.{IsTold, IsWorld, Stage, leaves_of, memory_of, store_of}
+use Rattle.dc_world.specs.Taking.{IsIdle}
 use Rattle.dc_world.specs.Turns.{Fell, IsTurned, Went, marked, taken_mark, visible_shown}
-use Rattle.dc_world.specs.declared.slot.Slot.{Slot}
 use Rattle.dc_world.specs.declared.slot.Slot.TheVariants.{Up}
 
 -- an entry that left all as it was
@@ -72,10 +73,14 @@ same_stage old new protocol stores dev slots inputs acts exposed lines = λ i. r
   left = new.left;
 }
 
+-- the call that a guest makes next, where its memory is told
+next_told : (u : Process) (memory : Option (List ℕ)) → (call : Option Call) × IfSome memory (λ words. call ≡ called_by (next_of (over u.guest words)))
+next_told u None = (None, tt)
+next_told u (Some words) = (called_by (next_of (over u.guest words)), refl)
+
 module _ {C D : Type 0} (g : checkpoint.Ghosts C D) (told_contents : (c : C) (dev : D) → g.ready c dev → g.told dev (g.place c) → IsSome (g.contents c dev)) (images : List Image) (schedule : List Entry) (core : Core)
     (old new : Stage C D) (alone : is_global old.protocol ≡ false) (told_old : IsTold g old) (now : Holds (system images old.inputs old.protocol) schedule old.entries core) (world : IsWorld g (system images old.inputs old.protocol) core old)
-    (turn : Turn) (there : turn.p < length old.slots) (c0 : C) (at0 : store_of old turn.p ≡ Some c0) (place0 : g.place c0 ≡ turn.p) (u0 : Process) (slot0 : slot_at old.slots turn.p ≡ Some (Up u0)) (fit : IsFit g u0 c0 old.dev)
-    (call : Option Call) (found : IfSome (g.contents c0 old.dev) (λ words. call ≡ called_by (next_of (over u0.guest words)))) where
+    (turn : Turn) (there : turn.p < length old.slots) (c0 : C) (at0 : store_of old turn.p ≡ Some c0) (place0 : g.place c0 ≡ turn.p) (u0 : Process) (slot0 : slot_at old.slots turn.p ≡ Some (Up u0)) (fit : IsFit g u0 c0 old.dev) where
   abbrev S : System Guest
   S = system images old.inputs old.protocol
 
@@ -92,9 +97,6 @@ module _ {C D : Type 0} (g : checkpoint.Ghosts C D) (told_contents : (c : C) (de
   abbrev told : g.contents c0 old.dev ≡ Some words
   told = memory.1
 
-  called : call ≡ called_by (next_of (over u0.guest words))
-  called = told_at (λ ws. call ≡ called_by (next_of (over u0.guest ws))) (g.contents c0 old.dev) words told found
-
   memory_old : memory_of g (store_of old turn.p) old.dev ≡ Some words
   memory_old = ap (λ o. memory_of g o old.dev) at0 ∙ told
 
@@ -102,58 +104,61 @@ module _ {C D : Type 0} (g : checkpoint.Ghosts C D) (told_contents : (c : C) (de
   idle : (same : new ≡ record old { entries = new.entries; left = new.left }) → new.left ≤ old.left → IsWorld g S core new
   idle same less = world_later g S core old new same less world
 
-  answered_ended : u0.guest.ended ≡ true → new ≡ record old { entries = new.entries; left = new.left } → new.left ≤ old.left → IsTurned g images core old new (entry.Turn turn) (marked (mark.Idle Ended) None)
-  answered_ended ended same less = record {
-    after = core;
-    turned = (inside, turned_ended g images old.inputs old.protocol alone schedule old.entries core now old world turn inside c0 at0 u0 slot0 fit.whole words told call called ended);
-    lines_are = refl;
-    stands = idle same less;
-  }
+  -- its next event, as the code finds it
+  module _ (call : Option Call) (found : IfSome (g.contents c0 old.dev) (λ words. call ≡ called_by (next_of (over u0.guest words)))) where
+    called : call ≡ called_by (next_of (over u0.guest words))
+    called = told_at (λ ws. call ≡ called_by (next_of (over u0.guest ws))) (g.contents c0 old.dev) words told found
 
-  module _ (runs : u0.guest.ended ≡ false) where
-    answered_full : (HasCallRoom u0.kernel call → ⊥) → new ≡ record old { entries = new.entries; left = new.left } → new.left ≤ old.left → IsTurned g images core old new (entry.Turn turn) (marked (mark.Idle LinkFull) None)
-    answered_full full same less = record {
+    answered_ended : u0.guest.ended ≡ true → new ≡ record old { entries = new.entries; left = new.left } → new.left ≤ old.left → IsTurned g images core old new (entry.Turn turn) (marked (mark.Idle Ended) None)
+    answered_ended ended same less = record {
       after = core;
-      turned = (inside, turned_full g images old.inputs old.protocol alone schedule old.entries core now old world turn inside c0 at0 u0 slot0 fit.whole words told call called runs full);
+      turned = (inside, turned_ended g images old.inputs old.protocol alone schedule old.entries core now old world turn inside c0 at0 u0 slot0 fit.whole words told call called ended);
       lines_are = refl;
       stands = idle same less;
     }
 
-    module _ (room : HasCallRoom u0.kernel call) (slots : List (Option Slot)) (slots_long : length slots ≡ length old.slots) (slots_same : (s : ℕ) → s ≢ turn.p → slot_at slots s ≡ slot_at old.slots s)
-        (ins : List (List ℕ)) (ins_are : ins ≡ unwrap_or (slice_get old.inputs turn.p) []) (a : Answer)
-        (says : (rec : LogRecord) → slice_get (held u0).unread 0 ≡ Some rec → IsLogged (length slots) turn.p call rec → a ≡ answer_logged rec)
-        (draws : (held u0).unread ≡ [] → a ≡ drawn_for slots ins u0.kernel turn call) (asks : at_inputs (kind_by call) ≡ false → a ≡ drawn_for slots ins u0.kernel turn call) where
-      a_is : a ≡ answer S.guests core turn.p turn.word turn.clock
-      a_is = answer_is g images old.inputs old.protocol alone schedule old.entries core now old world turn inside c0 at0 u0 slot0 fit.whole words told call called runs slots slots_long slots_same ins ins_are a says draws asks
+    module _ (runs : u0.guest.ended ≡ false) where
+      answered_full : (HasCallRoom u0.kernel call → ⊥) → new ≡ record old { entries = new.entries; left = new.left } → new.left ≤ old.left → IsTurned g images core old new (entry.Turn turn) (marked (mark.Idle LinkFull) None)
+      answered_full full same less = record {
+        after = core;
+        turned = (inside, turned_full g images old.inputs old.protocol alone schedule old.entries core now old world turn inside c0 at0 u0 slot0 fit.whole words told call called runs full);
+        lines_are = refl;
+        stands = idle same less;
+      }
 
-      given : IsGiven S.guests core turn.p a
-      given = subst (IsGiven S.guests core turn.p) (sym a_is) (given_is g images old.inputs old.protocol alone schedule old.entries core now old world turn inside c0 at0 u0 slot0 fit.whole words told call called runs)
+      module _ (room : HasCallRoom u0.kernel call) (ins : List (List ℕ)) (ins_are : ins ≡ unwrap_or (slice_get old.inputs turn.p) []) (a : Answer)
+          (says : (rec : LogRecord) → slice_get (held u0).unread 0 ≡ Some rec → IsLogged (length old.slots) turn.p call rec → a ≡ answer_logged rec)
+          (draws : (held u0).unread ≡ [] → a ≡ drawn_for old.slots ins u0.kernel turn call) (asks : at_inputs (kind_by call) ≡ false → a ≡ drawn_for old.slots ins u0.kernel turn call) where
+        a_is : a ≡ answer S.guests core turn.p turn.word turn.clock
+        a_is = answer_is g images old.inputs old.protocol alone schedule old.entries core now old world turn inside c0 at0 u0 slot0 fit.whole words told call called runs ins ins_are a says draws asks
 
-      -- it went whole
-      pub answered_whole : (shown : Option Shown) → IfSome (g.contents c0 old.dev) (λ ws. shown ≡ shown_of (effect_of (event_of (next_of (over u0.guest ws)) (machine_over u0.guest ws))) u0.kernel.visible)
-          → (c1 : C) → store_of new turn.p ≡ Some c1 → g.ready c1 new.dev → g.told new.dev (g.place c1) → Went g old new turn.p a → IsTurned g images core old new (entry.Turn turn) (marked (taken_mark shown) (visible_shown turn.p shown))
-      answered_whole shown shows c1 at1 ready1 told1 went =
-          let showed = told_at (λ ws. shown ≡ shown_of (effect_of (event_of (next_of (over u0.guest ws)) (machine_over u0.guest ws))) u0.kernel.visible) (g.contents c0 old.dev) words told shows in
-          let later = some_there (g.contents c1 new.dev) (told_contents c1 new.dev ready1 told1) in
-          let here = at_now g S alone schedule old.entries core now old world turn.p c0 at0 u0 slot0 inside words told in record {
-            after = after_turn S old.entries core turn.p a Nowhere;
-            turned = (inside, turned_whole g images old.inputs old.protocol alone schedule old.entries core now old world turn inside c0 at0 u0 slot0 fit.whole words told call called runs room a a_is shown showed);
-            lines_are = ap (λ xs. xs ++ core.lines) (shown_is images old.inputs old.protocol turn.p (own turn.p core.acts) (core.procs turn.p) words u0 fit.whole here runs a call shown called showed);
-            stands = went images schedule core words later.0 alone memory_old (ap (λ o. memory_of g o new.dev) at1 ∙ later.1) now world inside given;
-          }
+        given : IsGiven S.guests core turn.p a
+        given = subst (IsGiven S.guests core turn.p) (sym a_is) (given_is g images old.inputs old.protocol alone schedule old.entries core now old world turn inside c0 at0 u0 slot0 fit.whole words told call called runs)
 
-      -- it was stopped in one of its places
-      pub answered_stopped : Fell g old new turn.p a → IsTurned g images core old new (entry.Turn turn) (marked mark.Stopped None)
-      answered_stopped fell =
-          let x = fell images schedule core words alone memory_old now world inside given in record {
-            after = after_turn S old.entries core turn.p a x.0;
-            turned = (inside, turned_stopped g images old.inputs old.protocol alone schedule old.entries core now old world turn inside c0 at0 u0 slot0 fit.whole words told call called runs room a a_is x.0 x.1 x.2);
-            lines_are = lines_kept x.0 x.1 _ core.lines;
-            stands = x.3;
-          }
+        -- it went whole
+        pub answered_whole : (shown : Option Shown) → IfSome (g.contents c0 old.dev) (λ ws. shown ≡ shown_of (effect_of (event_of (next_of (over u0.guest ws)) (machine_over u0.guest ws))) u0.kernel.visible)
+            → (c1 : C) → store_of new turn.p ≡ Some c1 → g.ready c1 new.dev → g.told new.dev (g.place c1) → Went g old new turn.p a → IsTurned g images core old new (entry.Turn turn) (marked (taken_mark shown) (visible_shown turn.p shown))
+        answered_whole shown shows c1 at1 ready1 told1 went =
+            let showed = told_at (λ ws. shown ≡ shown_of (effect_of (event_of (next_of (over u0.guest ws)) (machine_over u0.guest ws))) u0.kernel.visible) (g.contents c0 old.dev) words told shows in
+            let later = some_there (g.contents c1 new.dev) (told_contents c1 new.dev ready1 told1) in
+            let here = at_now g S alone schedule old.entries core now old world turn.p c0 at0 u0 slot0 inside words told in record {
+              after = after_turn S old.entries core turn.p a Nowhere;
+              turned = (inside, turned_whole g images old.inputs old.protocol alone schedule old.entries core now old world turn inside c0 at0 u0 slot0 fit.whole words told call called runs room a a_is shown showed);
+              lines_are = ap (λ xs. xs ++ core.lines) (shown_is images old.inputs old.protocol turn.p (own turn.p core.acts) (core.procs turn.p) words u0 fit.whole here runs a call shown called showed);
+              stands = went images schedule core words later.0 alone memory_old (ap (λ o. memory_of g o new.dev) at1 ∙ later.1) now world inside given;
+            }
+
+        -- it was stopped in one of its places
+        pub answered_stopped : Fell g old new turn.p a → IsTurned g images core old new (entry.Turn turn) (marked mark.Stopped None)
+        answered_stopped fell =
+            let x = fell images schedule core words alone memory_old now world inside given in record {
+              after = after_turn S old.entries core turn.p a x.0;
+              turned = (inside, turned_stopped g images old.inputs old.protocol alone schedule old.entries core now old world turn inside c0 at0 u0 slot0 fit.whole words told call called runs room a a_is x.0 x.1 x.2);
+              lines_are = lines_kept x.0 x.1 _ core.lines;
+              stands = x.3;
+            }
 
   -- it did nothing, and why
-  pub answered_idle : (i : Idle) → (i ≡ Ended → u0.guest.ended ≡ true) → (i ≡ LinkFull → (u0.guest.ended ≡ false) × (HasCallRoom u0.kernel call → ⊥)) → new ≡ record old { entries = new.entries; left = new.left } → new.left ≤ old.left
-      → IsTurned g images core old new (entry.Turn turn) (marked (mark.Idle i) None)
-  answered_idle Ended ended full same less = answered_ended (ended refl) same less
-  answered_idle LinkFull ended full same less = answered_full (full refl).0 (full refl).1 same less
+  pub answered_idle : (i : Idle) → IsIdle g c0 old.dev u0 i → new ≡ record old { entries = new.entries; left = new.left } → new.left ≤ old.left → IsTurned g images core old new (entry.Turn turn) (marked (mark.Idle i) None)
+  answered_idle Ended ended same less = let next = next_told u0 (g.contents c0 old.dev) in answered_ended next.0 next.1 ended same less
+  answered_idle LinkFull full same less = answered_full full.1.0 full.1.1 full.0 full.1.2 same less

@@ -1,5 +1,5 @@
 -- Stops between turns, at the stores and at the processes of the code.
-use Rattle.std.proofs.Common.{◌≡◌, ◌≢◌, ◌∙◌, ◌<◌, ◌+◌, ◌-◌, ◌*◌, ℕ, List, false, Option, None, Some, IsSomeAnd, inl, refl, sym, ap, subst, arith, drop, length, set, slice_get, take, ◌++◌, ⊎_elim}
+use Rattle.std.proofs.Common.{◌≡◌, ◌≢◌, ◌∙◌, ◌<◌, ◌+◌, ◌-◌, ◌*◌, ℕ, List, false, Option, None, Some, IsSome, IsSomeAnd, inl, refl, sym, ap, subst, arith, drop, length, set, slice_get, take, ◌++◌, ⊎_elim}
 use Rattle.std.proofs.lemmas.Bool.{cases_eq, true≢false}
 use Rattle.std.proofs.lemmas.List.{append-nil, drop_all, take_all}
 use Rattle.std.proofs.lemmas.Option.{slice_get_within}
@@ -20,7 +20,7 @@ use Rattle.dc_world.proofs.Beside.{and_some, leaves_self, leaves_stay, leaves_we
 use Rattle.dc_world.proofs.Fallen.{world_fallen, world_powered}
 use Rattle.dc_world.proofs.Waiting.{ready_next, well_counted}
 use Rattle.dc_world.specs.Processes.{FallsStore, IsWell}
-use Rattle.dc_world.specs.Slots.{Falls, slot_at}
+use Rattle.dc_world.specs.Slots.{Falls, size_in, slot_at}
 use Rattle.dc_world.specs.Stages.{IsHandled, IsOwn, IsReady, IsWorld, Stage, leaves_of, stage_of}
 use Rattle.dc_world.specs.Turns.{IsTurned, later, marked}
 use Rattle.dc_world.specs.Worlds.{counted}
@@ -44,6 +44,12 @@ module _ {C D : Type 0} (g : checkpoint.Ghosts C D) where
   handled_falls k m c0 c1 dev (Some s) (Some (Up v)) falls store is = absurd (true≢false falls.down)
   handled_falls k m c0 c1 dev (Some (Up u)) (Some (Down d)) falls store is = (store.lent dev is.0.lent, falls.size_same ∙ is.0.sized ∙ ap (λ n. 4 * n) (sym store.same.size_same))
   handled_falls k m c0 c1 dev (Some (Down e)) (Some (Down d)) falls store is = (store.lent dev is.0, falls.size_same ∙ is.1 ∙ ap (λ n. 4 * n) (sym store.same.size_same))
+
+  -- what one needs that fell in its turn
+  pub handled_down : (m : ℕ) (c0 c1 : C) (dev : D) (old new : Option Slot) → Falls old new → IsSome old → FallsStore g c0 c1 → g.lent c0 dev → size_in old ≡ 4 * g.size c0 → IsHandled g m c1 dev new
+  handled_down m c0 c1 dev old None falls some store lent sized = absurd (true≢false (sym (falls.there some)))
+  handled_down m c0 c1 dev old (Some (Up v)) falls some store lent sized = absurd (true≢false falls.down)
+  handled_down m c0 c1 dev old (Some (Down d)) falls some store lent sized = (store.lent dev lent, falls.size_same ∙ sized ∙ ap (λ n. 4 * n) (sym store.same.size_same))
 
   -- one process fell
   module _ (laws : Laws g) (stores : List C) (dev : D) (w w1 : Processes) (p : ℕ) (c0 c1 : C) (ready : IsReady g stores dev w) (there : p < length w.slots.items) (at0 : slice_get stores p ≡ Some c0)

@@ -18,7 +18,11 @@ pub mod Risen
 pub mod Outputs
 pub mod Drawing
 pub mod Telling
+pub mod Marking
+pub mod Allowing
 pub mod Handling
+pub mod Hearing
+pub mod Replying
 pub mod Running
 pub mod Answered
 pub mod Failing
@@ -30,3 +34,4 @@ pub mod Begun
 pub mod Beginning
 pub mod Opens
 pub mod Torn
+pub mod Ended

@@ -1,5 +1,5 @@
 -- A process at a place of a list.
-use Rattle.std.proofs.Common.{get_or, ◌≡◌, ◌≢◌, ◌∙◌, ◌<◌, ◌≤◌, ℕ, List, true, Option, None, Some, refl, sym, ap, subst, length, slice_set, ⊎_elim}
+use Rattle.std.proofs.Common.{get_or, ◌≡◌, ◌≢◌, ◌∙◌, ◌<◌, ◌≤◌, ℕ, List, Bool, true, false, Option, None, Some, if◌then◌else◌, refl, sym, ap, subst, length, slice_set, ⊎_elim}
 use Rattle.std.proofs.lemmas.Bool.{cases_eq, true≢false}
 use Rattle.std.proofs.lemmas.List.{get_or-set_same, get_or-set_other, get_or_past, length-set, set-get_or, set-set}
 use Rattle.std.proofs.lemmas.Option.{get_or_from_slice_get, slice_get_read}
@@ -49,14 +49,6 @@ inside_each w p q well less there up = by_slot (slot_at w.slots.items p) refl up
     by_slot (Some (Up u)) e on = let one = well.each p (Up u) less e in
         (subst (λ m. q < m) (sym (one.0.others_long ∙ one.1)) there, subst (λ m. q < m) (sym (one.0.links_long ∙ one.1)) there)
 
--- what was put last is there
-pub put_twice : (slots : List (Option Slot)) (p q : ℕ) (x y : Option Slot) → p < length slots → slot_at (slice_set (slice_set slots p x) p y) q ≡ slot_at (slice_set slots p y) q
-put_twice slots p q x y less = ⊎_elim
-    (λ (same : p ≡ q). subst (λ r. slot_at (slice_set (slice_set slots p x) p y) r ≡ slot_at (slice_set slots p y) r) same
-    (put_same (slice_set slots p x) p y (subst (λ m. p < m) (sym (length-set slots p x)) less) ∙ sym (put_same slots p y less)))
-    (λ (ne : p ≢ q). put_other (slice_set slots p x) p q y (λ e. ne (sym e)) ∙ put_other slots p q x (λ e. ne (sym e)) ∙ sym (put_other slots p q y (λ e. ne (sym e))))
-    (cases_eq p q)
-
 -- behind the last place nothing is there
 pub past_same : (old new : List (Option Slot)) (q : ℕ) → length old ≤ q → length new ≡ length old → slot_at new q ≡ slot_at old q
 past_same old new q past long = get_or_past new q None (subst (λ m. m ≤ q) (sym long) past) ∙ sym (get_or_past old q None past)
@@ -97,3 +89,26 @@ put_back slots p x s at = set-set slots p x s ∙ ap (slice_set slots p) (sym at
 -- what is read at a place is there
 pub read_there : (slots : List (Option Slot)) (p : ℕ) (x s : Option Slot) → p < length slots → x ≡ get_or slots p x → x ≡ s → slot_at slots p ≡ s
 read_there slots p x s inside read is = get_or_from_slice_get slots p x None (slice_get_read slots (length slots) p x refl inside read) ∙ is
+
+-- and what is there is read
+pub there_read : (slots : List (Option Slot)) (p : ℕ) (x s : Option Slot) → p < length slots → x ≡ get_or slots p x → slot_at slots p ≡ s → x ≡ s
+there_read slots p x s inside read at = sym (read_there slots p x x inside read refl) ∙ at
+
+-- each is that of its place once one took its turn there, whatever became of acts, and of exposed acts that are as many
+pub well_put : (w w2 : Processes) (p : ℕ) (s : Slot) → IsWell w → p < length w.slots.items → IsOf w.protocol (length w.slots.items) p s → w2.slots.items ≡ slice_set w.slots.items p (Some s) → w2.protocol ≡ w.protocol → w2.inputs ≡ w.inputs
+    → length w2.exposed.items ≡ length w.exposed.items → IsWell w2
+well_put w w2 p s well inside is put protocol inputs exposed =
+    let long : length w2.slots.items ≡ length w.slots.items = ap (λ xs. length xs) put ∙ length-set w.slots.items p (Some s) in
+    let mid : IsWell (record w { slots = w2.slots }) = each_put w (record w { slots = w2.slots }) p s well is (ap (λ xs. slot_at xs p) put ∙ put_same w.slots.items p (Some s) inside)
+    (λ q ne. ap (λ xs. slot_at xs q) put ∙ put_other w.slots.items p q (Some s) ne) long refl in record {
+      some = mid.some;
+      few = mid.few;
+      exposed_long = exposed ∙ well.exposed_long ∙ sym long;
+      inputs_long = ap (λ xs. length xs.items) inputs ∙ well.inputs_long ∙ sym long;
+      each = λ q x less at. subst (λ pr. IsOf pr (length w2.slots.items) q x) (sym protocol) (mid.each q x less at);
+    }
+
+-- as many, with one or with none noted
+pub noted_long : (b : Bool) (xs : List ℕ) (p n : ℕ) → length (if b then slice_set xs p n else xs) ≡ length xs
+noted_long true xs p n = length-set xs p n
+noted_long false xs p n = refl

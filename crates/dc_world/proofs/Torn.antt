@@ -1,4 +1,4 @@
--- An entry whose line was cut off.
+-- An entry and its line, written whole or cut off.
 use Rattle.std.proofs.Common.{◌≡◌, ◌<◌, ◌+◌, ◌++◌, ℕ, List, Option, None, Some, IfSome, IsSome, sym, subst, length, take}
 use Rattle.std.proofs.lemmas.Bool.{true≢false}
 use Rattle.std.proofs.lemmas.List.{append-nil}
@@ -14,6 +14,13 @@ use Rattle.dc_world.specs.Turns.{GoesOn, later, lines_of}
 use Rattle.dc_world.specs.Worlds.{IsCutOff, counted}
 use Rattle.dc_world.specs.declared.processes.Processes.{Processes}
 
+-- it was written whole
+pub line_whole : {C D : Type 0} (g : checkpoint.Ghosts C D) (old : Stage C D) (stores : List C) (dev : D) (w w2 : Processes) (entry : Entry) (mark : Mark) (shown : Option Visible) (n : ℕ) → w2 ≡ counted w → n ≡ length (lines_of shown)
+    → GoesOn g old (later (length (lines_of shown)) (stage_of stores dev w)) entry mark shown → GoesOn g old (record (stage_of stores dev w2) { lines = w2.lines + n }) entry mark shown
+line_whole g old stores dev w w2 entry mark shown n is count goes = subst (λ (x : Processes). GoesOn g old (record (stage_of stores dev x) { lines = x.lines + n }) entry mark shown) (sym is)
+    (subst (λ m. GoesOn g old (later m (stage_of stores dev w)) entry mark shown) (sym count) goes)
+
+-- it was cut off
 pub cut_off : {C D : Type 0} (g : checkpoint.Ghosts C D) (old : Stage C D) (stores : List C) (dev : D) (w w2 : Processes) (entry : Entry) (mark : Mark) (shown : Option Visible) (before after : Option (List ℕ)) → w2 ≡ counted w → IsSome shown
     → GoesOn g old (later (length (lines_of shown)) (stage_of stores dev w)) entry mark shown → IfSome shown (λ visible. mark ≡ Showed visible.k)
     → (n : ℕ) × (n < length (text_of (lines_of shown))) × Becomes before after (λ x y. y ≡ x ++ take n (text_of (lines_of shown)))

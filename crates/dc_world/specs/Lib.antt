@@ -4,5 +4,7 @@ pub mod Answers
 pub mod Stages
 pub mod Faults
 pub mod Turns
+pub mod Taking
 pub mod Worlds
 pub mod Opened
+pub mod Ended

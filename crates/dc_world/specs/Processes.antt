@@ -20,8 +20,10 @@ pub record IsWell (w : Processes) : Type 0 where
 
 -- what is held once process q is known to have committed its messages below upto
 abbrev pub learned_held : ℕ → ℕ → Held → Held
-learned_held q upto h = let known = max (slice_index h.others q) upto in
-    record h { kernel = record h.kernel { links = slice_set h.kernel.links q (trimmed (link_to h.kernel.links q) known) }; others = slice_set h.others q known }
+learned_held q upto h = let known = max (slice_index h.others q) upto in record h {
+  kernel = record h.kernel { links = slice_set h.kernel.links q (trimmed (link_to h.kernel.links q) known) };
+  others = slice_set h.others q known;
+}
 
 -- a process that is up has learned it, and one that is down is as it was
 pub record Learns (q upto : ℕ) (old new : Option Slot) : Type 0 where

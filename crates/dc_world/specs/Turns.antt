@@ -31,6 +31,7 @@ pub record Marked : Type 0 where
   pub mark : Mark
   pub shown : Option Visible
 
+-- this mark, with this shown
 abbrev pub marked : Mark → Option Visible → Marked
 marked mark shown = record { mark = mark; shown = shown }
 

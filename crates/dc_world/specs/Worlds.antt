@@ -30,6 +30,11 @@ IsOfProcesses n (entry.Turn turn) = turn.p < n
 IsOfProcesses n (entry.Stop p) = p < n
 IsOfProcesses n entry.Power = Unit {0}
 
+-- an entry is a turn of this process
+abbrev pub IsTurnOf : ℕ → Entry → Type 0
+IsTurnOf p (entry.Turn turn) = turn.p ≡ p
+IsTurnOf p _ = ⊥
+
 -- its line was cut off: the entry went whole but for a last part of the line, which is not counted
 pub record IsCutOff {C D : Type 0} (g : checkpoint.Ghosts C D) (old new : Stage C D) (entry : Entry) (before after : Option (List ℕ)) : Type 0 where
   pub shown : Visible

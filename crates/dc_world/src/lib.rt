@@ -11,6 +11,7 @@ mod processes;
 mod recovering;
 mod slot;
 mod stopping;
+mod taking;
 #[cfg(test)]
 mod tests;
 mod turning;

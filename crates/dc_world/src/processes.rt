@@ -3,7 +3,7 @@
 ghost use Rattle.std.specs.Prelude.{◌≡◌, ◌≢◌, ◌<◌, ◌≤◌, ◌-◌, ◌^◌, ℕ, None, Some, false, IfSome, length, slice_index, slice_set};
 ghost use Rattle.dc_world.specs.Processes.{IsWell, Learns, LearnsBelow};
 ghost use Rattle.dc_world.specs.Worlds.{counted};
-ghost use Rattle.dc_world.specs.Slots.{IsOf, based_in, have_ended, is_up, slot_at};
+ghost use Rattle.dc_world.specs.Slots.{IsOf, based_in, have_ended, held_in, is_up, slot_at};
 
 use crate::slot::Slot;
 use dc_acts::Acts;
@@ -15,7 +15,7 @@ use dc_protocols::Protocol;
 #[derive(Drop)]
 pub(crate) struct Processes {
     pub protocol: Protocol,
-    /// Each is there between two calls; its place is empty while it takes a turn.
+    /// Each is there between two calls; its place is empty only while it recovers or falls.
     pub slots: Vec<Option<Slot>>,
     pub inputs: Vec<Vec<Message>>,
     pub acts: Acts,
@@ -49,6 +49,23 @@ impl Processes {
         }
     }
 
+    /// Whether the process of a number is up.
+    pub fn is_up(&self, p: u32) -> bool
+        ensures { result ≡ is_up (slot_at self.now.slots.items p) }
+    {
+        self.up(p).is_some()
+    }
+
+    /// The number of the last commit of a process that is up; 0 for any other.
+    pub fn commit_of(&self, p: u32) -> u32
+        ensures { result ≡ (held_in (slot_at self.now.slots.items p)).kernel.commit }
+    {
+        match self.up(p) {
+            Some(up) => up.kernel().commit(),
+            None => 0,
+        }
+    }
+
     /// Puts a process at its place.
     pub fn put(&mut self, p: u32, slot: Slot)
         requires well { IsWell self.old }
@@ -79,6 +96,13 @@ impl Processes {
     {
         self.entries += 1;
         self.left -= 1;
+    }
+
+    /// The acts alone.
+    pub fn into_acts(self) -> Acts
+        ensures { result ≡ self.acts }
+    {
+        self.acts
     }
 
     /// How many messages of process `s` process `p` had received by its last commit.

@@ -12,9 +12,10 @@ ghost use Rattle.dc_model.specs.declared.mark.Mark.TheVariants as marks;
 ghost use Rattle.dc_model.specs.declared.visible.Visible.{Visible as Visibles};
 ghost use Rattle.dc_world.specs.Processes.{IsWell};
 ghost use Rattle.dc_world.specs.Stages.{IsReady, KeepsTelling};
+ghost use Rattle.dc_world.specs.Ended.{TellsEnd};
 ghost use Rattle.dc_world.specs.Slots.{have_ended};
 ghost use Rattle.dc_world.specs.Turns.{GoesOn, HasNoRun, later, lines_of};
-ghost use Rattle.dc_world.specs.Worlds.{IsCutOff, IsOfProcesses, MayRun, counted, stage_in};
+ghost use Rattle.dc_world.specs.Worlds.{IsCutOff, IsOfProcesses, IsTurnOf, MayRun, counted, stage_in};
 ghost use Rattle.dc_world.specs.declared.faults.TurnFault.TheVariants as faults;
 
 use crate::faults::{TurnFault, answer_to};
@@ -50,30 +51,34 @@ pub struct World<C: Drop> {
 }
 
 impl<C: Checkpoint + Drop> World<C> {
-    /// A turn of a process: it takes its next event, or recovers where it is down.
+    /// A turn of a process: it takes its next event, or recovers where it is down. What it shows is handed on.
     fn take_turn(
         &mut self,
         turn: &Turn,
         dev: &mut C::Device,
-    ) -> Result<(Mark, Option<Visible>), CheckFault>
+        shown: &mut Option<Visible>,
+    ) -> Result<Mark, CheckFault>
         requires ready { MayRun C.Checkpoint self.old dev.old }
         requires left { 0 < self.old.processes.left }
         requires process { turn.now.p < length self.old.processes.slots.items }
+        requires nothing { shown.old ≡ None }
         ensures ready { IsReady C.Checkpoint self.new.stores.items dev.new (counted self.new.processes) }
         ensures rest { self.new.processes ≡ record self.old.processes { slots = self.new.processes.slots; acts = self.new.processes.acts; exposed = self.new.processes.exposed } }
         ensures long { length self.new.processes.slots.items ≡ length self.old.processes.slots.items }
         ensures counts { IsCounted C.told C.stops C.faults turn.now.p dev.old dev.new result }
         ensures tells { (p : ℕ) → KeepsTelling C.Checkpoint dev.old dev.new p }
         ensures others { (q : ℕ) → q ≢ turn.now.p → C.untouched dev.old dev.new q }
+        ensures later { (p : ℕ) → (C.stops dev.old p ≤ C.stops dev.new p) × (C.faults dev.old p ≤ C.faults dev.new p) }
         ensures continues { C.continues dev.old dev.new }
-        ensures whole { IfOk result (λ r. r.0 ≡ marks.Stopped → ⊥) }
-        ensures shows { IfOk result (λ r. IfSome r.1 (λ visible. r.0 ≡ marks.Showed visible.k)) }
+        ensures whole { IfOk result (λ mark. mark ≡ marks.Stopped → ⊥) }
+        ensures shows { IfOk result (λ mark. IfSome shown.new (λ visible. mark ≡ marks.Showed visible.k)) }
+        ensures unshown { OnErr result (shown.new ≡ None) }
         ensures refused { (fault : stores.StoreFault) → IsErrOf result (CheckFault.Refused fault) → HasNoRun C.Checkpoint (stage_in self.old dev.old) (later 0 (stage_in self.new dev.new)) }
-        ensures turned { IfOk result (λ r. GoesOn C.Checkpoint (stage_in self.old dev.old) (later (length (lines_of r.1)) (stage_in self.new dev.new)) (entries.Turn turn.now) r.0 r.1) }
+        ensures turned { IfOk result (λ mark. GoesOn C.Checkpoint (stage_in self.old dev.old) (later (length (lines_of shown.new)) (stage_in self.new dev.new)) (entries.Turn turn.now) mark shown.new) }
         ensures stopped { OnErr result (GoesOn C.Checkpoint (stage_in self.old dev.old) (later 0 (stage_in self.new dev.new)) (entries.Turn turn.now) marks.Stopped None) }
     {
         let store = &mut self.stores[turn.p as usize];
-        self.processes.turn(turn, store, dev)
+        self.processes.turn(turn, store, dev, shown)
     }
 
     /// A stop of a process between turns.
@@ -101,41 +106,45 @@ impl<C: Checkpoint + Drop> World<C> {
         self.processes.power(&mut self.stores);
     }
 
-    /// What an entry does, and what it shows.
+    /// What an entry does. What it shows is handed on.
     fn take_entry(
         &mut self,
         entry: &Entry,
         dev: &mut C::Device,
-    ) -> Result<(Mark, Option<Visible>), TurnFault>
+        shown: &mut Option<Visible>,
+    ) -> Result<Mark, TurnFault>
         requires ready { MayRun C.Checkpoint self.old dev.old }
         requires left { 0 < self.old.processes.left }
         requires process { IsOfProcesses (length self.old.processes.slots.items) entry.now }
+        requires nothing { shown.old ≡ None }
         ensures ready { IsReady C.Checkpoint self.new.stores.items dev.new (counted self.new.processes) }
         ensures rest { self.new.processes ≡ record self.old.processes { slots = self.new.processes.slots; acts = self.new.processes.acts; exposed = self.new.processes.exposed } }
         ensures long { length self.new.processes.slots.items ≡ length self.old.processes.slots.items }
         ensures tells { (p : ℕ) → KeepsTelling C.Checkpoint dev.old dev.new p }
-        ensures others { (q : ℕ) → length self.old.processes.slots.items ≤ q → C.untouched dev.old dev.new q }
+        ensures others { (q : ℕ) → (IsTurnOf q entry.now → ⊥) → C.untouched dev.old dev.new q }
+        ensures later { (p : ℕ) → (C.stops dev.old p ≤ C.stops dev.new p) × (C.faults dev.old p ≤ C.faults dev.new p) }
         ensures continues { C.continues dev.old dev.new }
-        ensures stopped { IfOk result (λ r. r.0 ≡ marks.Stopped → (p : ℕ) × (p < length self.old.processes.slots.items) × Rose (C.stops dev.old p) (C.stops dev.new p)) }
-        ensures device { (p : ℕ) → IsErrOf result (faults.Device p) → (p < length self.old.processes.slots.items) × Rose (C.faults dev.old p) (C.faults dev.new p) }
+        ensures stopped { IfOk result (λ mark. mark ≡ marks.Stopped → (p : ℕ) × IsTurnOf p entry.now × Rose (C.stops dev.old p) (C.stops dev.new p)) }
+        ensures device { (p : ℕ) → IsErrOf result (faults.Device p) → IsTurnOf p entry.now × Rose (C.faults dev.old p) (C.faults dev.new p) }
         ensures store { (p : ℕ) (fault : stores.StoreFault) → IsErrOf result (faults.Store p fault) → HasNoRun C.Checkpoint (stage_in self.old dev.old) (later 0 (stage_in self.new dev.new)) }
         ensures sink { IsErrOf result faults.Sink → ⊥ }
-        ensures shows { IfOk result (λ r. IfSome r.1 (λ visible. r.0 ≡ marks.Showed visible.k)) }
-        ensures turned { IfOk result (λ r. GoesOn C.Checkpoint (stage_in self.old dev.old) (later (length (lines_of r.1)) (stage_in self.new dev.new)) entry.now r.0 r.1) }
+        ensures shows { IfOk result (λ mark. IfSome shown.new (λ visible. mark ≡ marks.Showed visible.k)) }
+        ensures unshown { OnErr result (shown.new ≡ None) }
+        ensures turned { IfOk result (λ mark. GoesOn C.Checkpoint (stage_in self.old dev.old) (later (length (lines_of shown.new)) (stage_in self.new dev.new)) entry.now mark shown.new) }
         ensures failed { OnErr result (GoesOn C.Checkpoint (stage_in self.old dev.old) (later 0 (stage_in self.new dev.new)) entry.now marks.Stopped None) }
     {
         match *entry {
-            Entry::Turn(turn) => match self.take_turn(&turn, dev) {
-                Ok(done) => Ok(done),
-                Err(fault) => Ok((answer_to(fault, turn.p)?, None)),
+            Entry::Turn(turn) => match self.take_turn(&turn, dev, shown) {
+                Ok(mark) => Ok(mark),
+                Err(fault) => answer_to(fault, turn.p),
             },
             Entry::Stop(p) => {
                 self.stop(p);
-                Ok((Mark::Marked, None))
+                Ok(Mark::Marked)
             }
             Entry::Power => {
                 self.power();
-                Ok((Mark::Marked, None))
+                Ok(Mark::Marked)
             }
         }
     }
@@ -156,24 +165,30 @@ impl<C: Checkpoint + Drop> World<C> {
         requires process { IsOfProcesses (length self.old.processes.slots.items) entry.now }
         ensures ready { MayRun C.Checkpoint self.new dev.new }
         ensures left { self.new.processes.left + 1 ≡ self.old.processes.left }
+        ensures entries { self.new.processes.entries ≡ self.old.processes.entries + 1 }
+        ensures setting { (self.new.processes.protocol ≡ self.old.processes.protocol) × (self.new.processes.inputs ≡ self.old.processes.inputs) }
         ensures long { length self.new.processes.slots.items ≡ length self.old.processes.slots.items }
         ensures tells { (p : ℕ) → KeepsTelling C.Checkpoint dev.old dev.new p }
-        ensures others { (q : ℕ) → length self.old.processes.slots.items ≤ q → C.untouched dev.old dev.new q }
+        ensures others { (q : ℕ) → (IsTurnOf q entry.now → ⊥) → C.untouched dev.old dev.new q }
+        ensures later { (p : ℕ) → (C.stops dev.old p ≤ C.stops dev.new p) × (C.faults dev.old p ≤ C.faults dev.new p) }
         ensures continues { C.continues dev.old dev.new }
         ensures out_tells { TellsOn 0 (O.faults out.new) (O.held out.old) (O.held out.new) }
         ensures out_later { O.faults out.old ≤ O.faults out.new }
-        ensures stopped { IfOk result (λ mark. mark ≡ marks.Stopped → (p : ℕ) × (p < length self.old.processes.slots.items) × Rose (C.stops dev.old p) (C.stops dev.new p)) }
-        ensures device { (p : ℕ) → IsErrOf result (faults.Device p) → (p < length self.old.processes.slots.items) × Rose (C.faults dev.old p) (C.faults dev.new p) }
+        ensures stopped { IfOk result (λ mark. mark ≡ marks.Stopped → (p : ℕ) × IsTurnOf p entry.now × Rose (C.stops dev.old p) (C.stops dev.new p)) }
+        ensures device { (p : ℕ) → IsErrOf result (faults.Device p) → IsTurnOf p entry.now × Rose (C.faults dev.old p) (C.faults dev.new p) }
         ensures store { (p : ℕ) (fault : stores.StoreFault) → IsErrOf result (faults.Store p fault) → HasNoRun C.Checkpoint (stage_in self.old dev.old) (stage_in self.new dev.new) }
         ensures failed { OnErr result ((result ≡ Err faults.Sink → ⊥) → GoesOn C.Checkpoint (stage_in self.old dev.old) (stage_in self.new dev.new) entry.now marks.Stopped None × (out.new ≡ out.old)) }
         ensures sink { IsErrOf result faults.Sink → Rose (O.faults out.old) (O.faults out.new) × IsCutOff C.Checkpoint (stage_in self.old dev.old) (stage_in self.new dev.new) entry.now (O.held out.old) (O.held out.new) }
         ensures turned { IfOk result (λ mark. (shown : Option Visibles) × GoesOn C.Checkpoint (stage_in self.old dev.old) (stage_in self.new dev.new) entry.now mark shown
-            × Becomes (O.held out.old) (O.held out.new) (λ before after. after ≡ before ++ text_of (lines_of shown))) }
+            × Becomes (O.held out.old) (O.held out.new) (λ before after. after ≡ before ++ text_of (lines_of shown))
+            × (self.new.processes.lines ≡ self.old.processes.lines + length (lines_of shown))) }
+        ensures unshown { OnErr result (self.new.processes.lines ≡ self.old.processes.lines) }
     {
-        let taken = self.take_entry(entry, dev);
+        let mut shown = None;
+        let taken = self.take_entry(entry, dev, &mut shown);
         self.processes.count_entry();
         match taken {
-            Ok((mark, shown)) => match write_shown(&shown, out) {
+            Ok(mark) => match write_shown(&shown, out) {
                 Ok(lines) => {
                     self.processes.lines += lines;
                     Ok(mark)
@@ -200,8 +215,20 @@ impl<C: Checkpoint + Drop> World<C> {
 
     /// Whether every process is up and has ended.
     pub fn ended(&self) -> bool
-        ensures { result ≡ have_ended self.now.processes.slots.items }
+        ensures slots { result ≡ have_ended self.now.processes.slots.items }
+        ensures core { (dev : C.Device) → TellsEnd C.Checkpoint self.now dev result }
     {
         self.processes.have_ended()
+    }
+
+    /// The acts of the run, when no more of it is needed.
+    pub fn into_acts(self) -> Acts
+        ensures { result ≡ self.processes.acts }
+    {
+        let World {
+            processes,
+            stores: _,
+        } = self;
+        processes.into_acts()
     }
 }

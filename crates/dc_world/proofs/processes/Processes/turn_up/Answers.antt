@@ -1,30 +1,101 @@
-use Rattle.std.proofs.Common.{◌≡◌, ◌<◌, ◌+◌, ◌∙◌, ◌*◌, Some, ap, arith, length, length-set, refl, slice_set, subst, sym}
-use Rattle.dc_plain.specs.Playing.{lists_of}
-use Rattle.dc_world.proofs.Answered.{answered_idle, same_stage}
-use Rattle.dc_world.proofs.Beside.{set_same}
-use Rattle.dc_world.proofs.Slots.{put_same}
-use Rattle.dc_world.specs.Stages.{stage_of}
-use Rattle.dc_world.specs.Turns.{later, with_slot}
-use Rattle.dc_world.specs.declared.processes.Processes.{Processes}
+use Rattle.std.proofs.Common.{◌≡◌, ◌<◌, ◌+◌, ◌-◌, ◌∙◌, Some, IfSome, ap, arith, length, refl, slice_set, subst, sym}
+use Rattle.std.proofs.lemmas.Result.{IfOk-weaker, on_err_weaker}
+use Rattle.dc_guest.specs.Answers.{answer_of}
+use Rattle.dc_model.specs.declared.entry.Entry.TheVariants as entry
+use Rattle.dc_model.specs.declared.mark.Mark.TheVariants as mark
+use Rattle.dc_proc.specs.declared.up.Up.{Up as Process}
+use Rattle.dc_world.proofs.Answered.{answered_idle, answered_stopped, answered_whole, same_stage}
+use Rattle.dc_world.proofs.Beside.{set_same, store_set}
+use Rattle.dc_world.proofs.Drawing.{items_are}
+use Rattle.dc_world.proofs.Handling.{handled_less}
+use Rattle.dc_world.proofs.Marking.{if_ok_three, taken_shows, taken_whole}
+use Rattle.dc_world.specs.Slots.{slot_at}
+use Rattle.dc_world.specs.Stages.{IsHandled, Stage, stage_of}
+use Rattle.dc_world.specs.Turns.{IsTurned, later, lines_of, marked, taken_mark, visible_shown}
 use Rattle.dc_world.specs.declared.slot.Slot.TheVariants.{Up}
 use Rattle.dc_world.proofs.processes.Processes.turn_up.Goals as goal
 
-pub idle-requires-clause-fits : goal.idle-requires-clause-fits
-idle-requires-clause-fits g c = (4 * g.C.Checkpoint.size c.args.store.now, c.next_call-call.ensures.fits)
-
-pub returns-in-Some-clause-turned : goal.returns-in-Some-clause-turned
-returns-in-Some-clause-turned g c stores at place images schedule core told_old told_new now world =
+pub next_call-requires : goal.next_call-requires
+next_call-requires g c =
     let p = c.args.turn.now.p in
     let slots0 = c.args.self.now.slots.items in
-    let w2 = c.put.new.self in
-    let old = with_slot p (Up c.args.up) (stage_of stores c.args.dev.now c.args.self.now) in
-    let new = later 0 (stage_of (slice_set stores p c.args.store.now) c.args.dev.now w2) in
-    let long_old : length (slice_set slots0 p (Some (Up c.args.up))) ≡ length slots0 = length-set slots0 p (Some (Up c.args.up)) in
-    let no_more : c.args.self.now.lines + 0 ≡ c.args.self.now.lines = omega arith in
-    let left_is : w2.left ≡ c.args.self.now.left = ap (λ (w : Processes). w.left) c.put.ensures.rest in
-    let same = same_stage old new (ap (λ (w : Processes). w.protocol) c.put.ensures.rest) (set_same stores p c.args.store.now at) refl c.put.ensures.set (ap (λ (w : Processes). lists_of w.inputs.items) c.put.ensures.rest)
-    (ap (λ (w : Processes). w.acts.items) c.put.ensures.rest) (ap (λ (w : Processes). w.exposed.items) c.put.ensures.rest) (ap (λ (w : Processes). w.lines + 0) c.put.ensures.rest ∙ no_more) in
-    let there = put_same slots0 p (Some (Up c.args.up)) c.requires.process in
-    let inside = subst (λ m. p < m) (sym long_old) c.requires.process in
-    answered_idle g.C.Checkpoint g.met.C.Checkpoint.told_contents images schedule core old new c.requires.alone told_old now world c.args.turn.now inside c.args.store.now at (place p c.args.store.now at) c.args.up there c.requires.fit
-    c.next_call-call.result c.next_call-call.ensures.exact c.in-Some.idle (λ e. c.idle.ensures.ended (c.in-Some.is ∙ ap Some e)) (λ e. c.idle.ensures.full (c.in-Some.is ∙ ap Some e)) same (omega (arith, left_is))
+    let u : Process = c.in-Some.up.now in
+    let there : slot_at slots0 p ≡ Some (Up u) = c.in-Some.ensures.up in
+    let handled : IsHandled g.C.Checkpoint c.args.self.now.left c.args.store.now c.args.dev.now (Some (Up u)) = subst (IsHandled g.C.Checkpoint c.args.self.now.left c.args.store.now c.args.dev.now) there c.requires.handled in
+    record { fit = handled.0 }
+
+pub answer-answer-requires-clause-of : goal.answer-answer-requires-clause-of
+answer-answer-requires-clause-of g c =
+    let p = c.args.turn.now.p in
+    let slots0 = c.args.self.now.slots.items in
+    let u : Process = c.in-Some.up.now in
+    let there : slot_at slots0 p ≡ Some (Up u) = c.in-Some.ensures.up in
+    let handled : IsHandled g.C.Checkpoint c.args.self.now.left c.args.store.now c.args.dev.now (Some (Up u)) = subst (IsHandled g.C.Checkpoint c.args.self.now.left c.args.store.now c.args.dev.now) there c.requires.handled in
+    c.requires.well.each p (Up u) c.requires.process there
+
+pub take-requires-clause-next : goal.take-requires-clause-next
+take-requires-clause-next g c =
+    let p = c.args.turn.now.p in
+    let slots0 = c.args.self.now.slots.items in
+    let u : Process = c.in-Some.up.now in
+    let there : slot_at slots0 p ≡ Some (Up u) = c.in-Some.ensures.up in
+    let handled : IsHandled g.C.Checkpoint c.args.self.now.left c.args.store.now c.args.dev.now (Some (Up u)) = subst (IsHandled g.C.Checkpoint c.args.self.now.left c.args.store.now c.args.dev.now) there c.requires.handled in
+    record { up = u; there = there; fit = handled.0; counts = handled.1; floor = handled.2; runs = c.in-Ok.ensures.runs; room = c.in-Ok.ensures.room; found = c.in-Ok.ensures.found }
+
+pub returns-in-Ok-clause-whole : goal.returns-in-Ok-clause-whole
+returns-in-Ok-clause-whole g c = IfOk-weaker c.take.result _ _ (λ did shows e. taken_whole shows.done (sym shows.mark_is ∙ e)) c.take.ensures.showed
+
+pub returns-in-Ok-clause-shows : goal.returns-in-Ok-clause-shows
+returns-in-Ok-clause-shows g c = IfOk-weaker c.take.result _ _ (λ did shows. subst (λ v. IfSome v (λ visible. did ≡ mark.Showed visible.k)) (sym shows.shown_is)
+    (subst (λ m. IfSome (visible_shown c.args.turn.now.p shows.done) (λ visible. m ≡ mark.Showed visible.k)) (sym shows.mark_is) (taken_shows shows.done c.args.turn.now.p))) c.take.ensures.showed
+
+pub returns-in-Ok-clause-turned : goal.returns-in-Ok-clause-turned
+returns-in-Ok-clause-turned g c = if_ok_three _ _ _ _ c.take.result c.take.ensures.ready c.take.ensures.went c.take.ensures.showed (λ did ready went shows stores at place images schedule core told_old told_new now world.
+    let p = c.args.turn.now.p in
+    let slots0 = c.args.self.now.slots.items in
+    let u : Process = c.in-Some.up.now in
+    let there : slot_at slots0 p ≡ Some (Up u) = c.in-Some.ensures.up in
+    let handled : IsHandled g.C.Checkpoint c.args.self.now.left c.args.store.now c.args.dev.now (Some (Up u)) = subst (IsHandled g.C.Checkpoint c.args.self.now.left c.args.store.now c.args.dev.now) there c.requires.handled in
+    let old = stage_of stores c.args.dev.now c.args.self.now in
+    let new = later (length (lines_of c.take.new.shown)) (stage_of (slice_set stores p c.take.new.store) c.take.new.dev c.take.new.self) in
+    let place1 : g.C.Checkpoint.place c.take.new.store ≡ p = c.take.ensures.call.same.place_same ∙ place p c.args.store.now at in
+    let turned : IsTurned g.C.Checkpoint images core old new (entry.Turn c.args.turn.now) (marked (taken_mark shows.done) (visible_shown p shows.done)) =
+    answered_whole g.C.Checkpoint g.met.C.Checkpoint.told_contents images schedule core old new c.requires.alone told_old now world c.args.turn.now c.requires.process
+    c.args.store.now at (place p c.args.store.now at) u there handled.0 c.in-Ok.call c.in-Ok.ensures.found c.in-Ok.ensures.runs c.in-Ok.ensures.room
+    _ (items_are c.args.self.now.inputs.items p) (answer_of c.answer-answer.result) c.answer-answer.ensures.told c.answer-answer.ensures.drawn c.answer-answer.ensures.asked
+    shows.done (shows.showed u there) c.take.new.store (store_set stores p c.args.store.now c.take.new.store at) ready
+    (subst (g.C.Checkpoint.told c.take.new.dev) (sym place1) (told_new.told p (subst (λ m. p < m) (sym c.take.ensures.long) c.requires.process))) (went stores at place) in
+    subst (λ v. IsTurned g.C.Checkpoint images core old new (entry.Turn c.args.turn.now) (marked did v)) (sym shows.shown_is)
+    (subst (λ m. IsTurned g.C.Checkpoint images core old new (entry.Turn c.args.turn.now) (marked m (visible_shown p shows.done))) (sym shows.mark_is) turned))
+
+pub returns-in-Ok-clause-stopped : goal.returns-in-Ok-clause-stopped
+returns-in-Ok-clause-stopped g c = on_err_weaker c.take.result (λ fell stores at place images schedule core told_old told_new now world.
+    let p = c.args.turn.now.p in
+    let slots0 = c.args.self.now.slots.items in
+    let u : Process = c.in-Some.up.now in
+    let there : slot_at slots0 p ≡ Some (Up u) = c.in-Some.ensures.up in
+    let handled : IsHandled g.C.Checkpoint c.args.self.now.left c.args.store.now c.args.dev.now (Some (Up u)) = subst (IsHandled g.C.Checkpoint c.args.self.now.left c.args.store.now c.args.dev.now) there c.requires.handled in
+    let old = stage_of stores c.args.dev.now c.args.self.now in
+    let new = later 0 (stage_of (slice_set stores p c.take.new.store) c.take.new.dev c.take.new.self) in
+    answered_stopped g.C.Checkpoint g.met.C.Checkpoint.told_contents images schedule core old new c.requires.alone told_old now world c.args.turn.now c.requires.process
+    c.args.store.now at (place p c.args.store.now at) u there handled.0 c.in-Ok.call c.in-Ok.ensures.found c.in-Ok.ensures.runs c.in-Ok.ensures.room
+    _ (items_are c.args.self.now.inputs.items p) (answer_of c.answer-answer.result) c.answer-answer.ensures.told c.answer-answer.ensures.drawn c.answer-answer.ensures.asked (fell stores at place)) c.take.ensures.fell
+
+pub returns-in-Err-clause-handled : goal.returns-in-Err-clause-handled
+returns-in-Err-clause-handled g c = handled_less g.C.Checkpoint c.args.self.now.left (c.args.self.now.left - 1) c.args.store.now c.args.dev.now (slot_at c.args.self.now.slots.items c.args.turn.now.p) (omega arith) c.requires.handled
+
+pub returns-in-Err-clause-turned : goal.returns-in-Err-clause-turned
+returns-in-Err-clause-turned g c stores at place images schedule core told_old told_new now world =
+    let p = c.args.turn.now.p in
+    let slots0 = c.args.self.now.slots.items in
+    let u : Process = c.in-Some.up.now in
+    let there : slot_at slots0 p ≡ Some (Up u) = c.in-Some.ensures.up in
+    let handled : IsHandled g.C.Checkpoint c.args.self.now.left c.args.store.now c.args.dev.now (Some (Up u)) = subst (IsHandled g.C.Checkpoint c.args.self.now.left c.args.store.now c.args.dev.now) there c.requires.handled in
+    let old = stage_of stores c.args.dev.now c.args.self.now in
+    let new : Stage _ _ = later (length (lines_of c.args.shown.now)) (stage_of (slice_set stores p c.args.store.now) c.args.dev.now c.args.self.now) in
+    let none : length (lines_of c.args.shown.now) ≡ 0 = ap (λ v. length (lines_of v)) c.requires.nothing in
+    let no_more : c.args.self.now.lines + length (lines_of c.args.shown.now) ≡ c.args.self.now.lines = omega (arith, none) in
+    let same = same_stage old new refl (set_same stores p c.args.store.now at) refl refl refl refl refl no_more in
+    subst (λ v. IsTurned g.C.Checkpoint images core old new (entry.Turn c.args.turn.now) (marked (mark.Idle c.in-Err.idle) v)) (sym c.requires.nothing)
+    (answered_idle g.C.Checkpoint g.met.C.Checkpoint.told_contents images schedule core old new c.requires.alone told_old now world c.args.turn.now c.requires.process
+    c.args.store.now at (place p c.args.store.now at) u there handled.0 c.in-Err.idle c.in-Err.ensures.idle same (omega arith))

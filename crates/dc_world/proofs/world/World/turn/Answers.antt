@@ -1,13 +1,23 @@
-use Rattle.std.proofs.Common.{◌≡◌, Err, ap}
-use Rattle.dc_world.proofs.Torn.{cut_off}
+use Rattle.std.proofs.Common.{◌≡◌, ◌∙◌, ◌+◌, Err, ap}
+use Rattle.dc_world.proofs.Torn.{cut_off, line_whole}
 use Rattle.dc_world.specs.Worlds.{stage_in}
 use Rattle.dc_world.specs.declared.faults.TurnFault.TheVariants as faults
+use Rattle.dc_world.specs.declared.processes.Processes.{Processes}
 use Rattle.dc_world.proofs.world.World.turn.Goals as goal
+
+pub returns-in-Ok-write_shown-clause-turned : goal.returns-in-Ok-write_shown-clause-turned
+returns-in-Ok-write_shown-clause-turned g c = (
+  c.take_entry-taken.new.shown,
+  line_whole g.C.Checkpoint (stage_in c.args.self.now c.args.dev.now) c.take_entry-taken.new.self.stores.items c.take_entry-taken.new.dev c.take_entry-taken.new.self.processes c.count_entry.new.self c.args.entry.now c.in-Ok.mark c.take_entry-taken.new.shown
+      c.in-Ok-write_shown.lines c.count_entry.ensures c.in-Ok-write_shown.ensures.count c.in-Ok.ensures.turned,
+  c.in-Ok-write_shown.ensures.held,
+  ap (λ (w : Processes). w.lines + c.in-Ok-write_shown.lines) c.count_entry.ensures ∙ ap (λ (w : Processes). w.lines + c.in-Ok-write_shown.lines) c.take_entry-taken.ensures.rest ∙ ap (λ n. c.args.self.now.processes.lines + n) c.in-Ok-write_shown.ensures.count,
+)
 
 pub returns-in-Err-write_shown-clause-sink : goal.returns-in-Err-write_shown-clause-sink
 returns-in-Err-write_shown-clause-sink g c e = (
   c.in-Err-write_shown.ensures.cause.failed,
-  cut_off g.C.Checkpoint (stage_in c.args.self.now c.args.dev.now) c.take_entry-taken.new.self.stores.items c.take_entry-taken.new.dev c.take_entry-taken.new.self.processes c.count_entry.new.self c.args.entry.now c.in-Ok.mark c.in-Ok.shown
+  cut_off g.C.Checkpoint (stage_in c.args.self.now c.args.dev.now) c.take_entry-taken.new.self.stores.items c.take_entry-taken.new.dev c.take_entry-taken.new.self.processes c.count_entry.new.self c.args.entry.now c.in-Ok.mark c.take_entry-taken.new.shown
       (g.O.Sink.held c.args.out.now) (g.O.Sink.held c.write_shown.new.out) c.count_entry.ensures c.in-Err-write_shown.ensures.something c.in-Ok.ensures.turned c.in-Ok.ensures.shows c.in-Err-write_shown.ensures.held,
 )
 

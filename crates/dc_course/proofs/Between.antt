@@ -1,0 +1,54 @@
+-- What is told at the beginning and at the end of a part of a run is told between.
+use Rattle.std.proofs.Common.{◌≡◌, ◌≤◌, ◌<◌, ◌+◌, ◌-◌, ◌^◌, ◌∙◌, ℕ, List, Some, ap, arith, length, reverse, slice_get, subst, sym}
+use Rattle.dc_checkpoint.specs.declared.checkpoint.Checkpoint as checkpoint
+use Rattle.dc_model.specs.declared.entry.Entry.{Entry}
+use Rattle.dc_model.specs.declared.mark.Mark.{Mark}
+use Rattle.dc_world.specs.Stages.{IsTold, KeepsTelling, Stage}
+use Rattle.dc_world.specs.declared.faults.TurnFault.{TurnFault}
+use Rattle.dc_course.specs.Headline.{Setting, IsCountedOn, unplanned}
+use Rattle.dc_course.specs.Running.{Moment, RunsOff, RunsOn, StepsOff, StepsOn}
+
+-- counts of a device never fall
+abbrev pub Later : {C D : Type 0} → checkpoint.Ghosts C D → D → D → Type 0
+Later g old new = (p : ℕ) → (g.stops old p ≤ g.stops new p) × (g.faults old p ≤ g.faults new p)
+
+module _ {C D : Type 0} (g : checkpoint.Ghosts C D) where
+  -- in two parts
+  pub later_on : (old mid new : D) → Later g old mid → Later g mid new → Later g old new
+  later_on old mid new first then p = let a = first p in let b = then p in (omega (arith, a.0, b.0), omega (arith, a.1, b.1))
+
+  -- what is told on twice
+  pub tells_on : (old mid new : D) (p : ℕ) → KeepsTelling g old mid p → Later g mid new → KeepsTelling g mid new p → KeepsTelling g old new p
+  tells_on old mid new p first later then stops faults told = let l = later p in then stops faults (first (omega (arith, l.0, stops)) (omega (arith, l.1, faults)) told)
+
+  module _ (start mid new : Stage C D) (long : length mid.slots ≡ length start.slots) (same : length new.slots ≡ length mid.slots)
+      (tells : (p : ℕ) → KeepsTelling g start.dev mid.dev p) (later : Later g mid.dev new.dev) where
+    -- it is told between
+    pub told_between : IsTold g start → IsTold g new → IsTold g mid
+    told_between told still = record {
+      told = λ p less. tells p (below p less).0 (below p less).1 (told.told p (subst (λ n. p < n) long less));
+      stops = λ p less. (below p less).0;
+      faults = λ p less. (below p less).1;
+    }
+      where
+        -- its counts are below their last values
+        below : (p : ℕ) → p < length mid.slots → (g.stops mid.dev p < 2 ^ 64 - 1) × (g.faults mid.dev p < 2 ^ 64 - 1)
+        below p less = let there = subst (λ n. p < n) (sym same) less in let l = later p in let s = still.stops p there in let f = still.faults p there in (omega (arith, l.0, s), omega (arith, l.1, f))
+
+  module _ (schedule : List Entry) (entry : Entry) (start mid new : Moment C D) (at : slice_get schedule (length mid.marks) ≡ Some entry) (long : length mid.stage.slots ≡ length start.stage.slots) (same : length new.stage.slots ≡ length mid.stage.slots)
+      (tells : (p : ℕ) → KeepsTelling g start.stage.dev mid.stage.dev p) (later : Later g mid.stage.dev new.stage.dev) (runs : RunsOn g schedule start mid) where
+    -- an entry more
+    pub runs_more : StepsOn g entry mid new → RunsOn g schedule start new
+    runs_more steps setting up first alone is told still begun =
+        let between = told_between start.stage mid.stage new.stage long same tells later told still in
+        steps setting up first alone (ap (λ s. slice_get s (length mid.marks)) is ∙ at) between still (runs setting up first alone is told between begun)
+
+    -- or the last
+    pub runs_off : (fault : TurnFault) → StepsOff g entry fault mid new → RunsOff g schedule fault start new
+    runs_off fault steps setting up first alone is told still begun =
+        let between = told_between start.stage mid.stage new.stage long same tells later told still in
+        steps setting up first alone (ap (λ s. slice_get s (length mid.marks)) is ∙ at) between still (runs setting up first alone is told between begun)
+
+-- the stops of two parts
+pub counted_twice : (setting : Setting) (p : ℕ) (first mid last : List Mark) (a b c : ℕ) → IsCountedOn setting p first mid a b → IsCountedOn setting p mid last b c → IsCountedOn setting p first last a c
+counted_twice setting p first mid last a b c one two = omega (arith, one, two)

@@ -1,0 +1,145 @@
+-- A run from its opening to its end.
+use Rattle.std.proofs.Common.{◌≡◌, ◌∙◌, ◌≤◌, ◌<◌, ◌+◌, ◌-◌, ◌^◌, ◌++◌, ℕ, Bool, true, false, List, [], Option, None, Some, ap, arith, length, map, refl, reverse, slice_get, subst, sym, ⊎_elim}
+use Rattle.std.proofs.lemmas.Bool.{cases_lt}
+use Rattle.std.proofs.lemmas.List.{append-nil}
+use Rattle.dc_acts.specs.Lines.{text_of}
+use Rattle.dc_checkpoint.specs.declared.checkpoint.Checkpoint as checkpoint
+use Rattle.dc_media.specs.Told.{Becomes}
+use Rattle.dc_model.specs.declared.mark.Mark.{Mark}
+use Rattle.dc_protocols.specs.Rules.{is_global}
+use Rattle.dc_guest.specs.Guest.{Guest}
+use Rattle.dc_proc.specs.Processes.{IsAt}
+use Rattle.dc_proc.specs.Worlds.{IsUp}
+use Rattle.dc_recovery.proofs.Unstopping.{determined}
+use Rattle.dc_recovery.specs.Core.{Core, at_start, opened_core}
+use Rattle.dc_recovery.specs.Systems.{System}
+use Rattle.dc_recovery.specs.Turned.{LeadsTo}
+use Rattle.dc_world.specs.Ended.{HaveEnded}
+use Rattle.dc_world.specs.Slots.{slot_at}
+use Rattle.dc_world.specs.Stages.{IsHandled, IsOwn, IsReady, IsTold, IsWorld, KeepsTelling, Stage, seen_of, stage_of}
+use Rattle.dc_world.specs.declared.faults.TurnFault.{TurnFault}
+use Rattle.dc_world.specs.declared.faults.TurnFault.TheVariants as fault
+use Rattle.dc_world.specs.declared.processes.Processes.{Processes}
+use Rattle.dc_world.specs.declared.slot.Slot.{Slot}
+use Rattle.dc_world.specs.declared.slot.Slot.TheVariants.{Up, Down}
+use Rattle.dc_course.proofs.Between.{Later}
+use Rattle.dc_course.proofs.Promised.{promised}
+use Rattle.dc_course.proofs.Steps.{steps_whole}
+use Rattle.dc_course.specs.Courses.{IsCourse, Stops, StoresLeft, TellsThroughout, ending_by, ending_of}
+use Rattle.dc_course.specs.Headline.{IsEnding, Last, Setting, StopsTold, marks_at, system_in}
+use Rattle.dc_course.specs.Headline.Last.{Whole, CutOff, Broken}
+use Rattle.dc_course.specs.declared.ending.Ending.{Ending}
+use Rattle.dc_course.specs.Running.{IsEnded, IsEndedBy, IsRunning, Moment, Output, output}
+
+-- nothing was written
+nothing_written : (held : Option (List ℕ)) → Becomes held held (λ before now. now ≡ before ++ text_of [])
+nothing_written None = tt
+nothing_written (Some text) = sym (append-nil text)
+
+-- a run that was just opened
+pub opened_running : {C D : Type 0} (g : checkpoint.Ghosts C D) (setting : Setting) (up : ℕ → Bool) (x : Stage C D) (marks : List Mark) (held : Option (List ℕ)) → x.protocol ≡ setting.protocol → x.inputs ≡ setting.inputs → x.entries ≡ 0 → marks ≡ []
+    → IsWorld g (system_in setting) (opened_core up) x → IsRunning g setting up x marks (output held held)
+opened_running g setting up x marks held protocol inputs none empty world = subst (λ ms. IsRunning g setting up x ms (output held held)) (sym empty) (record {
+  core = opened_core up;
+  of = record { protocol_is = protocol; inputs_are = inputs };
+  led = refl;
+  world = world;
+  entries_are = none;
+  shows = nothing_written held;
+})
+
+-- a world stands for the opened core whatever is said of processes that are not there
+pub up_as : {C D : Type 0} (g : checkpoint.Ghosts C D) (S : System Guest) (x : Stage C D) (up up1 : ℕ → Bool) → ((p : ℕ) → p < S.guests.count → up1 p ≡ up p) → IsWorld g S (opened_core up) x → IsWorld g S (opened_core up1) x
+up_as g S x up up1 same world = record {
+  count_is = world.count_is;
+  protocol_is = world.protocol_is;
+  inputs_are = world.inputs_are;
+  stands = record {
+    each = λ p inside on. let was : IsUp S (opened_core up) p (seen_of g x p) = world.stands.each p inside (sym (same p inside) ∙ on) in record {
+      here = subst (λ b. IsAt S p [] (at_start b) (seen_of g x p).words (seen_of g x p).held) (sym (same p inside)) was.here;
+      known = was.known;
+    };
+    stores = record { one = world.stands.stores.one; all = world.stands.stores.all };
+  };
+  up_are = λ p inside. same p inside ∙ world.up_are p inside;
+  based_are = world.based_are;
+  acts_are = world.acts_are;
+  exposed_are = world.exposed_are;
+  lines_are = world.lines_are;
+  numbered = world.numbered;
+}
+
+-- a moment of a run whose devices tell throughout is told
+pub told_at : {C D : Type 0} (g : checkpoint.Ghosts C D) (n : ℕ) (old new : D) (x : Stage C D) → length x.slots ≡ n → TellsThroughout g n old new → ((p : ℕ) → KeepsTelling g old x.dev p) → Later g x.dev new → IsTold g x
+told_at g n old new x long tells keeps later = record {
+  told = λ p less. let i = inside p less in keeps p (below p i).0 (below p i).1 (tells.told p i);
+  stops = λ p less. (below p (inside p less)).0;
+  faults = λ p less. (below p (inside p less)).1;
+}
+  where
+    -- one of n
+    inside : (p : ℕ) → p < length x.slots → p < n
+    inside p less = subst (λ m. p < m) long less
+
+    -- its counts are below their last values
+    below : (p : ℕ) → p < n → (g.stops x.dev p < 2 ^ 64 - 1) × (g.faults x.dev p < 2 ^ 64 - 1)
+    below p less = let l = later p in let s = tells.stops p less in let f = tells.faults p less in (omega (arith, l.0, s), omega (arith, l.1, f))
+
+-- a store that its process may use is lent
+lent_of : {C D : Type 0} (g : checkpoint.Ghosts C D) (turns : ℕ) (c : C) (dev : D) (slot : Option Slot) → IsHandled g turns c dev slot → g.lent c dev
+lent_of g turns c dev None is = absurd is
+lent_of g turns c dev (Some (Up u)) is = is.0.lent
+lent_of g turns c dev (Some (Down d)) is = is.0
+
+-- how the last entry of a run went, and that it ended so
+pub record Came {C D : Type 0} (g : checkpoint.Ghosts C D) (setting : Setting) (up : ℕ → Bool) (ending : Ending) (m : Moment C D) (first : Option (List ℕ)) : Type 0 where
+  pub last : Last
+  pub ended : IsEnded g setting up m.stage m.marks last (output first m.held)
+  pub is : IsEnding setting ending m.marks last ended.core
+
+module _ {C D : Type 0} (g : checkpoint.Ghosts C D) (setting : Setting) (up : ℕ → Bool) (m : Moment C D) (first : Option (List ℕ)) where
+  -- with its schedule
+  pub ending_whole : (b : Bool) (r : IsRunning g setting up m.stage m.marks (output first m.held)) → HaveEnded b (system_in setting).guests r.core → length m.marks ≡ length setting.schedule → Came g setting up (ending_of b) m first
+  unfolding steps_whole
+  ending_whole true r have used = record { last = Whole; ended = steps_whole g setting up m.stage m.marks (output first m.held) r; is = ((used, refl), have) }
+  ending_whole false r have used = record { last = Whole; ended = steps_whole g setting up m.stage m.marks (output first m.held) r; is = ((used, refl), have) }
+
+  -- by a fault
+  pub ending_broken : (f : TurnFault) → IsEndedBy g f setting up m first → Came g setting up (ending_by f) m first
+  ending_broken (fault.Device p) ended = record { last = Broken; ended = ended.0; is = (refl, ended.1) }
+  ending_broken (fault.Store p why) ended = absurd ended
+  ending_broken fault.Sink ended = record { last = CutOff ended.0; ended = ended.1; is = (ended.0, refl, ended.2) }
+
+module _ {C D : Type 0} (g : checkpoint.Ghosts C D) (setting : Setting) (alone : is_global setting.protocol ≡ false) (up : ℕ → Bool) (stores : List C) (dev : D) (w : Processes) (marks : List Mark) (last : Last) (out : Output)
+    (ended : IsEnded g setting up (stage_of stores dev w) marks last out) (ready : IsReady g stores dev w) (long : length w.slots.items ≡ length setting.images) (beyond : (p : ℕ) → length setting.images ≤ p → up p ≡ true) where
+  -- the stores that it leaves
+  stores_left : StoresLeft g setting ended.core dev
+  stores_left = record {
+    stores = stores;
+    all = ready.stores_long ∙ long;
+    own = λ p c at. subst (λ n. IsOwn g n p c) long (ready.own p c at);
+    lent = λ p c at. lent_of g w.left c dev (slot_at w.slots.items p) (ready.handled p c at);
+    stand = ended.stores;
+  }
+
+  -- nothing is down where no process of the run is
+  all_up : ((p : ℕ) → p < length setting.images → up p ≡ true) → (p : ℕ) → up p ≡ true
+  all_up below p = ⊎_elim (λ (less : p < length setting.images). below p less) (λ (high : length setting.images ≤ p). beyond p high) (cases_lt p (length setting.images))
+
+  -- so the marks lead there from where all are up
+  led_up : ((p : ℕ) → p < length setting.images → up p ≡ true) → LeadsTo (system_in setting) setting.schedule 0 (opened_core (λ p. true)) (marks_at last marks) ended.core
+  led_up below = subst (λ u. LeadsTo (system_in setting) setting.schedule 0 (opened_core u) (marks_at last marks) ended.core) (λ i p. all_up below p i) ended.led
+
+  -- it keeps what it promises
+  pub course_is : (stops : Stops) (ending : Ending) → IsEnding setting ending marks last ended.core → StopsTold setting up marks stops.before stops.after
+      → IsCourse setting (record { acts = w.acts.items; marks = marks; lines = w.lines }) ending out stops (λ core. StoresLeft g setting core dev)
+  course_is stops ending is told = record {
+    last = last;
+    up = up;
+    core = ended.core;
+    headline = promised g setting alone up (stage_of stores dev w) marks last out ended;
+    ending_is = is;
+    stops_told = told;
+    left = stores_left;
+    determined = λ below only whole. determined (system_in setting) setting.schedule only (marks_at last marks) ended.core (led_up below) whole;
+  }

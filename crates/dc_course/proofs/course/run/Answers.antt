@@ -1,0 +1,127 @@
+use Rattle.std.proofs.Common.{◌≡◌, ◌∙◌, ◌≤◌, ◌<◌, ◌+◌, ◌-◌, ◌^◌, ◌||◌, ℕ, Bool, true, false, List, Err, ap, arith, length, map, nat_le, refl, reverse, rules, slice_get, subst, sym}
+use Rattle.std.proofs.lemmas.Bool.{le-leb, lt-leb}
+use Rattle.std.proofs.lemmas.List.{length-map}
+use Rattle.dc_course.proofs.Between.{tells_on}
+use Rattle.dc_course.proofs.Steps.{now_world, steps_whole}
+use Rattle.dc_course.proofs.Whole.{course_is, ending_broken, ending_whole, opened_running, told_at, up_as}
+use Rattle.dc_course.specs.Headline.{IsEnding, Last, Setting, StopsTold, late, system_in, unplanned}
+use Rattle.dc_course.specs.Headline.Last.{Whole}
+use Rattle.dc_course.specs.Courses.{IsCourse, StoresLeft, TellsThroughout, account_of, setting_of, stops_of}
+use Rattle.dc_course.specs.Running.{IsEnded, IsRunning, moment_of, output}
+use Rattle.dc_course.specs.declared.course.Course.{Course}
+use Rattle.dc_course.specs.declared.ending.Ending.{Ending}
+use Rattle.dc_guest.specs.Guest.{guests_of}
+use Rattle.dc_plain.specs.Playing.{seen_image}
+use Rattle.dc_recovery.specs.Core.{Core}
+use Rattle.dc_world.specs.Ended.{HaveEnded}
+use Rattle.dc_world.specs.Slots.{is_up, slot_at}
+use Rattle.dc_world.specs.Stages.{IsTold}
+use Rattle.dc_world.specs.Worlds.{stage_in}
+use Rattle.dc_world.specs.declared.faults.OpenFault.TheVariants as opening
+use Rattle.dc_course.proofs.course.run.Goals.{in-Ok-run, in-Err-run}
+use Rattle.dc_course.proofs.course.run.Given.{Over}
+use Rattle.dc_course.proofs.course.run.Goals as goal
+
+pub returns-in-Err-clause-failed : goal.returns-in-Err-clause-failed
+returns-in-Err-clause-failed g c p e = c.in-Err.ensures.failed p (let same : c.in-Err.fault ≡ opening.Failed p = cc in ap Err same)
+
+pub returns-clause-lasts : goal.returns-clause-lasts
+returns-clause-lasts g c = g.met.C.Planned.lasts_on c.args.dev.now c.open.new.dev c.run.new.dev (g.met.C.Planned.lasts_within c.args.dev.now c.open.new.dev c.open.ensures.continues) c.run.ensures.lasts
+
+pub returns-clause-loan : goal.returns-clause-loan
+returns-clause-loan g c = g.met.C.Planned.loan_same c.args.dev.now c.run.new.dev
+    (g.met.C.Planned.lasts_on c.args.dev.now c.open.new.dev c.run.new.dev (g.met.C.Planned.lasts_within c.args.dev.now c.open.new.dev c.open.ensures.continues) c.run.ensures.lasts)
+
+pub returns-clause-others : goal.returns-clause-others
+returns-clause-others g c q high = g.met.C.Checkpoint.untouched_on c.args.dev.now c.open.new.dev c.run.new.dev q (c.open.ensures.others q high)
+    (c.run.ensures.others q (let long = c.in-Ok.ensures.begins.slots_long in omega (arith, long, high)))
+
+-- what the run was given
+abbrev given : (g : Over) → goal.After-course g → Setting
+given g c = setting_of c.args.setup c.args.schedule.now (g.C.Planned.planned c.args.dev.now)
+
+-- which processes are up when it begins
+abbrev up : (g : Over) → goal.After-course g → ℕ → Bool
+up g c p = nat_le (length c.args.setup.images.items) p || is_up (slot_at c.in-Ok.world.processes.slots.items p)
+
+-- of a process that is there
+up_is : (g : Over) (c : goal.After-course g) (p : ℕ) → p < length c.args.setup.images.items → up g c p ≡ is_up (slot_at c.in-Ok.world.processes.slots.items p)
+up_is g c p less = ap (λ b. b || is_up (slot_at c.in-Ok.world.processes.slots.items p)) (lt-leb (length c.args.setup.images.items) p less)
+
+-- of one that is not
+up_beyond : (g : Over) (c : goal.After-course g) (p : ℕ) → length (given g c).images ≤ p → up g c p ≡ true
+up_beyond g c p high = ap (λ b. b || is_up (slot_at c.in-Ok.world.processes.slots.items p))
+    (le-leb (length c.args.setup.images.items) p (subst (λ n. n ≤ p) (length-map c.args.setup.images.items seen_image) high))
+
+-- it was told when it was opened
+told_opened : (g : Over) (c : goal.After-course g) → TellsThroughout g.C.Checkpoint (length c.args.setup.images.items) c.args.dev.now c.run.new.dev → IsTold g.C.Checkpoint (stage_in c.in-Ok.world c.open.new.dev)
+told_opened g c tells = told_at g.C.Checkpoint (length c.args.setup.images.items) c.args.dev.now c.run.new.dev (stage_in c.in-Ok.world c.open.new.dev) c.in-Ok.ensures.begins.slots_long tells c.open.ensures.tells c.run.ensures.later
+
+-- and it is told at its end
+told_ended : (g : Over) (c : goal.After-course g) → TellsThroughout g.C.Checkpoint (length c.args.setup.images.items) c.args.dev.now c.run.new.dev → IsTold g.C.Checkpoint (stage_in c.run.new.self.world c.run.new.dev)
+told_ended g c tells = told_at g.C.Checkpoint (length c.args.setup.images.items) c.args.dev.now c.run.new.dev (stage_in c.run.new.self.world c.run.new.dev) (c.run.ensures.long ∙ c.in-Ok.ensures.begins.slots_long) tells
+    (λ p. tells_on g.C.Checkpoint c.args.dev.now c.open.new.dev c.run.new.dev p (c.open.ensures.tells p) c.run.ensures.later (c.run.ensures.tells p)) (λ p. (omega arith, omega arith))
+
+-- it began
+begun : (g : Over) (c : goal.After-course g) → TellsThroughout g.C.Checkpoint (length c.args.setup.images.items) c.args.dev.now c.run.new.dev
+    → IsRunning g.C.Checkpoint (given g c) (up g c) (stage_in c.in-Ok.world c.open.new.dev) c.in_ok-marks.marks.items (output (g.O.Sink.held c.args.out.now) (g.O.Sink.held c.args.out.now))
+begun g c tells = opened_running g.C.Checkpoint (given g c) (up g c) (stage_in c.in-Ok.world c.open.new.dev) c.in_ok-marks.marks.items (g.O.Sink.held c.args.out.now)
+    c.in-Ok.ensures.begins.protocol_is c.in-Ok.ensures.begins.inputs_are c.in-Ok.ensures.begins.entries_are c.in_ok-marks.ensures.items
+    (up_as g.C.Checkpoint (system_in (given g c)) (stage_in c.in-Ok.world c.open.new.dev) (λ p. is_up (slot_at c.in-Ok.world.processes.slots.items p)) (up g c)
+    (λ p inside. up_is g c p (subst (λ n. p < n) (length-map c.args.setup.images.items seen_image) inside)) (c.in-Ok.ensures.opened (told_opened g c tells)))
+
+-- a process that is down at the beginning was stopped as its store was made
+late_told : (g : Over) (c : goal.After-course g) (p : ℕ) → p < length c.args.setup.images.items → g.C.Checkpoint.stops c.open.new.dev p < 2 ^ 64 - 1 → (b : Bool) → up g c p ≡ b
+    → g.C.Planned.unplanned c.args.dev.now p + late b ≤ g.C.Planned.unplanned c.open.new.dev p
+late_told g c p less below true is = let later = g.met.C.Planned.unplanned_later c.args.dev.now c.open.new.dev p (g.met.C.Planned.lasts_within c.args.dev.now c.open.new.dev c.open.ensures.continues) in omega (arith, later)
+late_told g c p less below false is = let rose = g.met.C.Planned.idle_stopped c.args.dev.now c.open.new.dev p c.requires.idle c.open.ensures.continues (c.in-Ok.ensures.stopped p less (sym (up_is g c p less) ∙ is)) below in omega (arith, rose)
+
+-- the stops that no plan lists
+stops_told : (g : Over) (c : goal.After-course g) → TellsThroughout g.C.Checkpoint (length c.args.setup.images.items) c.args.dev.now c.run.new.dev
+    → StopsTold (given g c) (up g c) c.run.new.self.marks.items (g.C.Planned.unplanned c.args.dev.now) (g.C.Planned.unplanned c.run.new.dev)
+stops_told g c tells p less =
+    let inside : p < length c.args.setup.images.items = subst (λ n. p < n) (length-map c.args.setup.images.items seen_image) less in
+    let later = c.run.ensures.later p in
+    let below = tells.stops p inside in
+    let first = late_told g c p inside (omega (arith, later.0, below)) (up g c p) refl in
+    let planned = sym (g.met.C.Planned.planned_same c.args.dev.now c.open.new.dev (g.met.C.Planned.lasts_within c.args.dev.now c.open.new.dev c.open.ensures.continues)) in
+    let rest = c.run.ensures.stops (given g c) p planned refl below in
+    let none : unplanned (given g c) p (reverse c.in_ok-marks.marks.items) ≡ 0 = ap (λ ms. unplanned (given g c) p (reverse ms)) c.in_ok-marks.ensures.items in
+    omega (arith, first, rest, none)
+
+-- its last entry went so, and it ended so
+course : (g : Over) (c : goal.After-course g) (tells : TellsThroughout g.C.Checkpoint (length c.args.setup.images.items) c.args.dev.now c.run.new.dev) (ending : Ending) → c.match-run.ending ≡ ending → (last : Last)
+    (ended : IsEnded g.C.Checkpoint (given g c) (up g c) (stage_in c.run.new.self.world c.run.new.dev) c.run.new.self.marks.items last (output (g.O.Sink.held c.args.out.now) (g.O.Sink.held c.run.new.out)))
+    → IsEnding (given g c) ending c.run.new.self.marks.items last ended.core
+    → IsCourse (given g c) (account_of c.course.result) c.course.result.ending (output (g.O.Sink.held c.args.out.now) (g.O.Sink.held c.run.new.out)) (stops_of (g.C.Planned.unplanned c.args.dev.now) (g.C.Planned.unplanned c.run.new.dev))
+    (λ core. StoresLeft g.C.Checkpoint (given g c) core c.run.new.dev)
+course g c tells ending same last ended is =
+    let out = output (g.O.Sink.held c.args.out.now) (g.O.Sink.held c.run.new.out) in
+    let stops = stops_of (g.C.Planned.unplanned c.args.dev.now) (g.C.Planned.unplanned c.run.new.dev) in
+    let w = c.run.new.self.world in
+    let left = (λ (core : Core). StoresLeft g.C.Checkpoint (given g c) core c.run.new.dev) in
+    subst (λ (o : Course). IsCourse (given g c) (account_of o) o.ending out stops left) (sym c.course.ensures)
+    (subst (λ e. IsCourse (given g c) (record { acts = w.processes.acts.items; marks = c.run.new.self.marks.items; lines = w.processes.lines }) e out stops left) (sym same)
+    (course_is g.C.Checkpoint (given g c) c.requires.alone (up g c) w.stores.items c.run.new.dev w.processes c.run.new.self.marks.items last out ended c.run.ensures.ready
+    (c.run.ensures.long ∙ c.in-Ok.ensures.begins.slots_long ∙ sym (length-map c.args.setup.images.items seen_image)) (up_beyond g c) stops ending is (stops_told g c tells)))
+
+pub returns-clause-headline : goal.returns-clause-headline
+returns-clause-headline g c tells = elim c.match-run.branch [
+  | in-Ok-run w ↦ (
+      let x = stage_in c.run.new.self.world c.run.new.dev in
+      let out = output (g.O.Sink.held c.args.out.now) (g.O.Sink.held c.run.new.out) in
+      let marks = c.run.new.self.marks.items in
+      let images = (given g c).images in
+      let r : IsRunning g.C.Checkpoint (given g c) (up g c) x marks out = w.in-Ok-run.ensures.runs_on (given g c) (up g c) (g.O.Sink.held c.args.out.now) c.requires.alone refl (told_opened g c tells) (told_ended g c tells) (begun g c tells) in
+      let have = w.ended.ensures.core c.run.new.dev images r.core c.run.ensures.ready (now_world g.C.Checkpoint (given g c) c.requires.alone (up g c) x marks out r) in
+      let came = ending_whole g.C.Checkpoint (given g c) (up g c) (moment_of c.run.new.self c.run.new.dev (g.O.Sink.held c.run.new.out)) (g.O.Sink.held c.args.out.now) w.ended.result r
+      (subst (λ i. HaveEnded w.ended.result (guests_of images i) r.core) r.of.inputs_are have) w.in-Ok-run.ensures.used in
+      course g c tells _ (w.ending-is ∙ w.ended-ending.ensures) came.last came.ended came.is)
+  | in-Err-run w ↦ (
+      let came = ending_broken g.C.Checkpoint (given g c) (up g c) (moment_of c.run.new.self c.run.new.dev (g.O.Sink.held c.run.new.out)) (g.O.Sink.held c.args.out.now) w.in-Err-run.fault
+      (w.in-Err-run.ensures.runs_off w.in-Err-run.fault refl (given g c) (up g c) (g.O.Sink.held c.args.out.now) c.requires.alone refl (told_opened g c tells) (told_ended g c tells) (begun g c tells)) in
+      course g c tells _ (w.ending-is ∙ w.ended_by-ending.ensures) came.last came.ended came.is)
+]
+
+pub returns-clause-planned : goal.returns-clause-planned
+returns-clause-planned g c p = let first = g.met.C.Planned.idle_none c.args.dev.now c.open.new.dev p c.requires.idle c.open.ensures.continues in let rest = c.run.ensures.planned p in omega (arith, first, rest)

@@ -1,0 +1,40 @@
+use Rattle.std.proofs.Common.{◌≡◌, ◌≤◌, ◌<◌, ℕ, Err, IfOk, IsSome, ap, arith, length, refl, rules, subst, sym}
+use Rattle.std.proofs.lemmas.Result.{IfOk-weaker}
+use Rattle.dc_course.proofs.Segments.{memory_course}
+use Rattle.dc_vista.specs.Handles.{shape_of}
+use Rattle.dc_course.specs.Courses.{IsCourse, account_of, setting_of, stops_of}
+use Rattle.dc_course.specs.Running.{output}
+use Rattle.dc_course.specs.Segments.{SegmentsLeft, TellsStores}
+use Rattle.dc_course.specs.declared.ending.Ending.TheVariants as endings
+use Rattle.dc_media.specs.Causes.{Rose}
+use Rattle.dc_world.specs.declared.faults.OpenFault.TheVariants as opening
+use Rattle.dc_course.proofs.memory.run_on_memory.Goals as goal
+
+pub returns-clause-later : goal.returns-clause-later
+returns-clause-later g c p = subst (λ k. (g.K.Keeps.stops c.args.keeps.now p ≤ g.K.Keeps.stops k p) × (g.K.Keeps.faults c.args.keeps.now p ≤ g.K.Keeps.faults k p)) (search rules) (
+  subst (λ k. g.K.Keeps.stops k p ≤ g.K.Keeps.stops c.run-course.new.dev.device.now p) (ap (λ k. k.now) c.new-armed.ensures.device) (c.run-course.ensures.lasts.stopped p),
+  subst (λ k. g.K.Keeps.faults k p ≤ g.K.Keeps.faults c.run-course.new.dev.device.now p) (ap (λ k. k.now) c.new-armed.ensures.device) (c.run-course.ensures.lasts.failed p),
+)
+
+pub returns-clause-failed : goal.returns-clause-failed
+returns-clause-failed g c p e =
+    let told = c.run-course.ensures.failed p e in
+    subst (λ k. (p < length c.args.setup.images.items) × Rose (g.K.Keeps.faults c.args.keeps.now p) (g.K.Keeps.faults k p)) {x = c.run-course.new.dev.device.now} (search rules)
+    (told.0, subst (λ k. Rose (g.K.Keeps.faults k p) (g.K.Keeps.faults c.run-course.new.dev.device.now p)) (ap (λ b. b.now) c.new-armed.ensures.device) told.1)
+
+pub returns-clause-headline : goal.returns-clause-headline
+returns-clause-headline g c =
+    let setting = setting_of c.args.setup c.args.schedule.now c.args.stops.items in
+    let out = output (g.O.Sink.held c.args.out.now) (g.O.Sink.held c.run-course.new.out) in
+    subst (λ k. IfOk c.run-course.result (λ course. TellsStores g.K.Keeps (length c.args.setup.images.items) c.args.keeps.now k →
+    IsCourse setting (account_of course) course.ending out (stops_of (g.K.Keeps.stops c.args.keeps.now) (g.K.Keeps.stops k)) (λ core. SegmentsLeft g.K.Keeps setting core k))) {x = c.run-course.new.dev.device.now} (search rules)
+    (IfOk-weaker c.run-course.result _ _ (λ course says tells.
+    let armed = c.new-armed.result in
+    let dev = c.run-course.new.dev in
+    let lent : armed.device.now ≡ c.args.keeps.now = ap (λ b. b.now) c.new-armed.ensures.device in
+    memory_course g.K.Keeps c.args.setup c.args.schedule.now armed.plan.stops c.args.stops.items (account_of course) course.ending out armed.device.now c.args.keeps.now dev.device.now dev
+    (says (record {
+      told = λ p less. subst (λ x. IsSome (g.K.Keeps.told x p)) (sym lent) (tells.told p less);
+      stops = λ p less. let all = c.run-course.ensures.planned p in let none = c.new-armed.ensures.came p in let few = tells.stops p less in let long = c.requires.entries in omega (arith, all, none, few, long);
+      faults = tells.faults;
+    })) c.new-armed.ensures.stops lent c.requires.some (λ s. shape_of s.frame) (λ s. refl) (λ s is. is) (λ s d r l. l) (λ s d l. l)) c.run-course.ensures.headline)

@@ -1,0 +1,99 @@
+use Rattle.std.proofs.Common.{◌≡◌, ◌≢◌, ◌⊎◌, ◌∙◌, ◌≤◌, ◌<◌, ◌+◌, ℕ, Bool, false, List, Option, Some, Err, IsErrOf, ap, arith, length, refl, reverse, rules, slice_get, subst, sym}
+use Rattle.dc_course.proofs.Steps.{steps_on}
+use Rattle.dc_course.proofs.Counting.{counted_on, unplanned_parts}
+use Rattle.dc_course.proofs.Breaking.{Broke, ended_by, turn_below}
+use Rattle.dc_media.specs.Causes.{Rose}
+use Rattle.dc_plain.specs.Playing.{lists_of}
+use Rattle.dc_course.proofs.Still.{running_still, told_still}
+use Rattle.dc_course.specs.Headline.{Setting, is_planned, unplanned}
+use Rattle.dc_course.specs.Running.{IsRunning, IsEndedBy, moment_of, output}
+use Rattle.dc_media.specs.Told.{TellsOn}
+use Rattle.dc_model.specs.declared.mark.Mark.{Mark}
+use Rattle.dc_protocols.specs.Rules.{is_global}
+use Rattle.dc_twophase.proofs.Laws.{Laws, QuietLaws}
+use Rattle.dc_world.specs.Stages.{IsTold}
+use Rattle.dc_world.specs.Worlds.{stage_in}
+use Rattle.dc_world.specs.declared.faults.TurnFault.{TurnFault}
+use Rattle.dc_world.specs.declared.faults.TurnFault.TheVariants as fault
+use Rattle.dc_course.proofs.running.Running.turn.Given.{Over}
+use Rattle.dc_course.proofs.running.Running.turn.Goals as goal
+
+-- the laws of the store
+laws : (g : Over) → Laws g.C.Checkpoint
+laws g = let met = g.met.C.Checkpoint in record {
+  untouched_self = met.untouched_self;
+  untouched_on = met.untouched_on;
+  untouched_back = met.untouched_back;
+  lent_still = met.lent_still;
+  ready_still = met.ready_still;
+  prepared_still = met.prepared_still;
+  decidable_still = met.decidable_still;
+  steady_still = met.steady_still;
+  leaves_still = met.leaves_still;
+  numbers_still = met.numbers_still;
+  contents_still = met.contents_still;
+  continues_self = met.continues_self;
+  continues_on = met.continues_on;
+}
+
+-- those of its counts
+quiet : (g : Over) → QuietLaws g.C.Checkpoint
+quiet g = let met = g.met.C.Checkpoint in record { told_still = met.told_still; counts_same = met.counts_same }
+
+pub returns-in-Ok-clause-others : goal.returns-in-Ok-clause-others
+returns-in-Ok-clause-others g c q high = g.met.C.Checkpoint.untouched_on c.args.dev.now c.begin.new.dev c.turn.new.dev q (c.begin.ensures.untouched q)
+    (c.turn.ensures.others q (turn_below c.args.entry.now (length c.args.self.now.world.processes.slots.items) q c.requires.process high))
+
+pub returns-in-Err-clause-others : goal.returns-in-Err-clause-others
+returns-in-Err-clause-others g c q high = g.met.C.Checkpoint.untouched_on c.args.dev.now c.begin.new.dev c.turn.new.dev q (c.begin.ensures.untouched q)
+    (c.turn.ensures.others q (turn_below c.args.entry.now (length c.args.self.now.world.processes.slots.items) q c.requires.process high))
+
+pub returns-in-Err-clause-device : goal.returns-in-Err-clause-device
+returns-in-Err-clause-device g c p e =
+    let f : c.in-Err.fault ≡ fault.Device p = cc in
+    let told = c.in-Err.ensures.device p (ap Err f) in
+    (told.0, subst (λ n. Rose n (g.C.Checkpoint.faults c.turn.new.dev p)) (c.begin.ensures.same p).1 told.1)
+
+pub returns-in-Ok-clause-steps_on : goal.returns-in-Ok-clause-steps_on
+returns-in-Ok-clause-steps_on g c setting up first alone at told still r =
+    let x = stage_in c.args.self.now.world c.args.dev.now in
+    let told1 = told_still g.C.Checkpoint (laws g) (quiet g) c.args.dev.now c.begin.new.dev c.begin.ensures.untouched x told in
+    let r1 = running_still g.C.Checkpoint (laws g) (quiet g) c.args.dev.now c.begin.new.dev c.begin.ensures.untouched x setting up c.args.self.now.marks.items (output first (g.O.Sink.held c.args.out.now)) r in
+    subst (λ ms. IsRunning g.C.Checkpoint setting up (stage_in c.turn.new.self c.turn.new.dev) ms (output first (g.O.Sink.held c.turn.new.out))) (sym c.push.ensures.items)
+    (steps_on g.C.Checkpoint setting alone up (stage_in c.args.self.now.world c.begin.new.dev) (stage_in c.turn.new.self c.turn.new.dev) c.args.self.now.marks.items c.args.entry.now at told1 still first (g.O.Sink.held c.args.out.now) (g.O.Sink.held c.turn.new.out) r1
+    c.in-Ok.mark c.in-Ok.ensures.turned.0 c.in-Ok.ensures.turned.1 c.in-Ok.ensures.entries c.in-Ok.ensures.setting.0 (ap (λ v. lists_of v.items) c.in-Ok.ensures.setting.1) c.in-Ok.ensures.turned.2)
+
+pub returns-in-Err-clause-steps_off : goal.returns-in-Err-clause-steps_off
+returns-in-Err-clause-steps_off g c f e setting up first alone at told still r =
+    let x = stage_in c.args.self.now.world c.args.dev.now in
+    let told1 = told_still g.C.Checkpoint (laws g) (quiet g) c.args.dev.now c.begin.new.dev c.begin.ensures.untouched x told in
+    let r1 = running_still g.C.Checkpoint (laws g) (quiet g) c.args.dev.now c.begin.new.dev c.begin.ensures.untouched x setting up c.args.self.now.marks.items (output first (g.O.Sink.held c.args.out.now)) r in
+    ended_by g.C.Checkpoint setting alone up (stage_in c.args.self.now.world c.begin.new.dev) (stage_in c.turn.new.self c.turn.new.dev) c.args.self.now.marks.items c.args.entry.now at told1 still first (g.O.Sink.held c.args.out.now) (g.O.Sink.held c.turn.new.out) r1 f
+    (let same : c.in-Err.fault ≡ f = cc in subst (λ h. Broke g.C.Checkpoint c.args.entry.now (stage_in c.args.self.now.world c.begin.new.dev) (stage_in c.turn.new.self c.turn.new.dev) (g.O.Sink.held c.args.out.now) (g.O.Sink.held c.turn.new.out) h) same (record {
+      failed = λ ne. let goes = c.in-Err.ensures.failed (λ e. ne (let is : c.in-Err.fault ≡ fault.Sink = cc in is)) in (goes.0, ap g.O.Sink.held goes.1);
+      device = λ p is. (c.in-Err.ensures.device p (ap Err is)).0;
+      store = λ p why is. c.in-Err.ensures.store p why (ap Err is);
+      sink = λ is. (c.in-Err.ensures.sink (ap Err is)).1;
+    }))
+
+pub returns-in-Ok-clause-stops : goal.returns-in-Ok-clause-stops
+returns-in-Ok-clause-stops g c setting p planned at below =
+    let marks = c.args.self.now.marks.items in
+    let lasts = c.begin.ensures.lasts c.turn.new.dev c.turn.ensures.continues in
+    subst (λ ms. g.C.Planned.unplanned c.args.dev.now p + unplanned setting p (reverse ms) ≤ g.C.Planned.unplanned c.turn.new.dev p + unplanned setting p (reverse marks)) (sym c.push.ensures.items)
+    (counted_on setting marks c.in-Ok.mark p (g.C.Planned.unplanned c.args.dev.now p) (g.C.Planned.unplanned c.turn.new.dev p) (g.met.C.Planned.unplanned_later c.args.dev.now c.turn.new.dev p lasts)
+    (λ is. let parts = unplanned_parts setting (length marks) c.args.entry.now p c.in-Ok.mark at is in
+    let stop = c.in-Ok.ensures.stopped parts.stopped in
+    let rose = subst (λ q. Rose (g.C.Checkpoint.stops c.begin.new.dev q) (g.C.Checkpoint.stops c.turn.new.dev q)) (parts.here stop.0 stop.1) stop.2 in
+    c.begin.ensures.stopped c.turn.new.dev p c.turn.ensures.continues (subst (λ t. is_planned (g.C.Planned.planned c.args.dev.now) t p ≡ false) (let n : length marks ≡ _ = search rules in n) (subst (λ ss. is_planned ss (length marks) p ≡ false) planned parts.free))
+    (subst (λ n. Rose n (g.C.Checkpoint.stops c.turn.new.dev p)) (c.begin.ensures.same p).0 rose) below))
+
+pub returns-in-Err-clause-stops : goal.returns-in-Err-clause-stops
+returns-in-Err-clause-stops g c setting p planned at below =
+    let later = g.met.C.Planned.unplanned_later c.args.dev.now c.turn.new.dev p (c.begin.ensures.lasts c.turn.new.dev c.turn.ensures.continues) in omega (arith, later)
+
+pub returns-in-Ok-clause-once : goal.returns-in-Ok-clause-once
+returns-in-Ok-clause-once g c p = c.begin.ensures.once c.turn.new.dev p c.turn.ensures.continues
+
+pub returns-in-Err-clause-once : goal.returns-in-Err-clause-once
+returns-in-Err-clause-once g c p = c.begin.ensures.once c.turn.new.dev p c.turn.ensures.continues

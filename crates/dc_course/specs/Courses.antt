@@ -1,0 +1,76 @@
+-- What a whole run promises: of what it lists and shows, of how it ended, and of the devices that it was lent.
+use Rattle.std.specs.Prelude.{◌≡◌, ◌<◌, ◌≤◌, ◌-◌, ◌^◌, ℕ, Bool, true, false, List, IsSomeAnd, Some, length, map, slice_get}
+use Rattle.dc_armed.specs.declared.stop.PlannedStop.{PlannedStop}
+use Rattle.dc_checkpoint.specs.States.{Reading}
+use Rattle.dc_checkpoint.specs.declared.checkpoint.Checkpoint as checkpoint
+use Rattle.dc_model.specs.declared.entry.Entry.{Entry}
+use Rattle.dc_plain.specs.Playing.{lists_of, seen_image}
+use Rattle.dc_proc.specs.Worlds.{StoresStand}
+use Rattle.dc_protocols.specs.Rules.{is_global}
+use Rattle.dc_recovery.specs.Core.{Core}
+use Rattle.dc_recovery.specs.Unstopped.{AreTurns, IsDetermined, Unstopped}
+use Rattle.dc_world.specs.Stages.{IsOwn, decided_by}
+use Rattle.dc_world.specs.declared.opening.Setup.{Setup}
+use Rattle.dc_course.specs.Headline.{Account, IsEnding, IsHeadline, Last, Setting, StopsTold, marks_at, system_in}
+use Rattle.dc_course.specs.Running.{Output}
+use Rattle.dc_course.specs.declared.course.Course.{Course}
+use Rattle.dc_course.specs.declared.ending.Ending.{Ending}
+use Rattle.dc_course.specs.declared.ending.Ending.TheVariants as ending
+use Rattle.dc_world.specs.declared.faults.TurnFault.{TurnFault}
+use Rattle.dc_world.specs.declared.faults.TurnFault.TheVariants as fault
+
+-- what a run is given
+abbrev pub setting_of : Setup → List Entry → List PlannedStop → Setting
+setting_of setup schedule stops = record { protocol = setup.protocol; images = map seen_image setup.images.items; inputs = lists_of setup.inputs.items; schedule = schedule; stops = stops }
+
+-- what it lists of itself
+abbrev pub account_of : Course → Account
+account_of course = record { acts = course.acts.items; marks = course.marks.items; lines = course.lines }
+
+-- how many stops of each process's device there were before and after, other than those that were planned
+pub record Stops : Type 0 where
+  pub before : ℕ → ℕ
+  pub after : ℕ → ℕ
+
+-- these
+abbrev pub stops_of : (ℕ → ℕ) → (ℕ → ℕ) → Stops
+stops_of before after = record { before = before; after = after }
+
+-- the devices of n processes were told before, and no count of theirs stands at its last value after
+pub record TellsThroughout {C D : Type 0} (g : checkpoint.Ghosts C D) (n : ℕ) (old new : D) : Type 0 where
+  pub told : (p : ℕ) → p < n → g.told old p
+  pub stops : (p : ℕ) → p < n → g.stops new p < 2 ^ 64 - 1
+  pub faults : (p : ℕ) → p < n → g.faults new p < 2 ^ 64 - 1
+
+-- the stores that a run leaves on a device: each is that of its process, and every image of it stands for one of the core's saves
+pub record StoresLeft {C D : Type 0} (g : checkpoint.Ghosts C D) (setting : Setting) (core : Core) (dev : D) : Type 0 where
+  pub stores : List C
+  pub all : length stores ≡ length setting.images
+  pub own : (p : ℕ) (c : C) → slice_get stores p ≡ Some c → IsOwn g (length setting.images) p c
+  pub lent : (p : ℕ) (c : C) → slice_get stores p ≡ Some c → g.lent c dev
+  pub stand : StoresStand (system_in setting) core (decided_by (is_global setting.protocol) (λ d. IsSomeAnd (slice_get stores 0) (λ c. g.numbers c dev d))) (λ p d r. IsSomeAnd (slice_get stores p) (λ c. g.leaves c dev d r))
+
+-- A run: it keeps the promise, ended as it says, was stopped no more often than was planned or its devices say, and left its stores so.
+pub record IsCourse (setting : Setting) (run : Account) (ending : Ending) (out : Output) (stops : Stops) (Left : Core → Type 0) : Type 0 where
+  pub last : Last
+  -- which processes are up when the run begins
+  pub up : ℕ → Bool
+  pub core : Core
+  pub headline : IsHeadline setting run last up core out.before out.now
+  pub ending_is : IsEnding setting ending run.marks last core
+  pub stops_told : StopsTold setting up run.marks stops.before stops.after
+  pub left : Left core
+  -- where nothing was stopped, and only turns were given, marks, acts and lines have no choice
+  pub determined : ((p : ℕ) → p < length setting.images → up p ≡ true) → AreTurns setting.schedule → Unstopped (marks_at last run.marks)
+      → IsDetermined (system_in setting) setting.schedule (marks_at last run.marks) core
+
+-- what a fault of the world ends a run with
+abbrev pub ending_by : TurnFault → Ending
+ending_by (fault.Device p) = ending.Device p
+ending_by (fault.Store p why) = ending.Store p why
+ending_by fault.Sink = ending.Sink
+
+-- what a run ends with whose schedule is used up, by whether all have ended
+abbrev pub ending_of : Bool → Ending
+ending_of true = ending.Done
+ending_of false = ending.Unfinished

@@ -1,0 +1,140 @@
+-- What users are promised of a run, wherever its processes are stopped.
+use Rattle.std.specs.Prelude.{◌≡◌, ◌<◌, ◌≤◌, ◌+◌, ◌==◌, ◌&&◌, not, ℕ, Bool, true, false, List, [], ◌∷◌, ◌++◌, if◌then◌else◌, length, reverse, slice_get, take, Option, None, Some, is_some}
+use Rattle.dc_acts.specs.Lines.{text_of, visible_line}
+use Rattle.dc_armed.specs.Stops.{first_stop}
+use Rattle.dc_armed.specs.declared.stop.PlannedStop.{PlannedStop}
+use Rattle.dc_elf.specs.Images.{Image}
+use Rattle.dc_guest.specs.Guest.{Guest}
+use Rattle.dc_media.specs.Told.{Becomes}
+use Rattle.dc_model.specs.Drawn.{Drawn}
+use Rattle.dc_model.specs.Repeats.{RepeatsEqual}
+use Rattle.dc_model.specs.World.{World, reported, thin}
+use Rattle.dc_model.specs.World.{run as run_of}
+use Rattle.dc_model.specs.declared.act.Taken.{Taken}
+use Rattle.dc_model.specs.declared.entry.Entry.{Entry}
+use Rattle.dc_model.specs.declared.entry.Entry.TheVariants as entry
+use Rattle.dc_model.specs.declared.mark.Mark.{Mark}
+use Rattle.dc_model.specs.declared.mark.Mark.TheVariants as mark
+use Rattle.dc_model.specs.declared.visible.Visible.{Visible}
+use Rattle.dc_proc.specs.Carried.{system}
+use Rattle.dc_protocols.specs.Rules.{is_global}
+use Rattle.dc_protocols.specs.declared.protocol.Protocol.{Protocol}
+use Rattle.dc_recovery.specs.Core.{Core, opened_core}
+use Rattle.dc_recovery.specs.Systems.{System}
+use Rattle.dc_recovery.specs.Turned.{LeadsTo}
+use Rattle.dc_world.specs.Ended.{HaveEnded}
+use Rattle.dc_course.specs.declared.ending.Ending.{Ending}
+use Rattle.dc_course.specs.declared.ending.Ending.TheVariants.{Done, Unfinished, Device, Store, Sink}
+
+-- what a run is given: the protocol of its processes, their images and inputs, the schedule, and the stops that are planned
+pub record Setting : Type 0 where
+  pub protocol : Protocol
+  pub images : List Image
+  pub inputs : List (List (List ℕ))
+  pub schedule : List Entry
+  pub stops : List PlannedStop
+
+-- its guests, under its protocol
+abbrev pub system_in : Setting → System Guest
+system_in setting = system setting.images setting.inputs setting.protocol
+
+-- what a run lists of itself: the acts that count, the marks of its entries, and how many whole lines it wrote
+pub record Account : Type 0 where
+  pub acts : List Taken
+  pub marks : List Mark
+  pub lines : ℕ
+
+-- how the last entry went: whole, as all before it; or its line was cut off by a fault of the output; or a device failed at it
+pub data Last : Type 0 where
+  Whole : Last
+  CutOff : (torn : Visible) → Last
+  Broken : Last
+
+-- the record whose line was cut off counts as shown
+abbrev pub torn_at : Last → List Visible
+torn_at (CutOff torn) = torn ∷ []
+torn_at _ = []
+
+-- the marks, the last first; an entry that a fault ended has none, and counts as one that was stopped, where the output failed as one that showed
+abbrev pub marks_at : Last → List Mark → List Mark
+marks_at Whole marks = reverse marks
+marks_at (CutOff torn) marks = mark.Showed torn.k ∷ reverse marks
+marks_at Broken marks = mark.Stopped ∷ reverse marks
+
+-- the lines of records stand behind what was there; of one that a fault cut off a part of its front
+abbrev pub Shows : List Visible → List Visible → List ℕ → List ℕ → Type 0
+Shows whole [] before after = after ≡ before ++ text_of whole
+Shows whole (cut ∷ more) before after = (n : ℕ) × (n < length (visible_line cut)) × (after ≡ before ++ text_of whole ++ take n (visible_line cut))
+
+-- the lines on the output: whole ones, as many as were counted, then a part of the one that a fault cut off;
+-- dropping those whose number came before, they are the visible records
+pub record LinesShown (whole torn : List Visible) (lines : ℕ) (visibles : List Visible) (before after : Option (List ℕ)) : Type 0 where
+  pub count : length whole ≡ lines
+  pub thinned : thin (whole ++ torn) ≡ visibles
+  pub written : Becomes before after (Shows whole torn)
+
+-- the marks lead from the opened core, in which these processes are up, to one of these acts and records
+pub record CoreLed (setting : Setting) (up : ℕ → Bool) (marks : List Mark) (core : Core) (acts : List Taken) (records : List Visible) : Type 0 where
+  pub led : LeadsTo (system_in setting) setting.schedule 0 (opened_core up) marks core
+  pub acts_are : reported core.acts ≡ acts
+  pub lines_are : reverse core.lines ≡ records
+
+-- The lines on the output, dropping a process's outputs whose number came before, are exactly the visible records of the failure-free
+-- run of the same guests on the same inputs whose acts are listed; each act was drawn at its turn of the schedule, in order; a repeat
+-- equals its first line and follows a recovery.
+pub record IsHeadline (setting : Setting) (run : Account) (last : Last) (up : ℕ → Bool) (core : Core) (before after : Option (List ℕ)) : Type 0 where
+  pub world : World Guest
+  pub whole : List Visible
+  pub acts_run : run_of (system_in setting).guests run.acts ≡ Some world
+  pub acts_drawn : Drawn (length setting.images) setting.schedule run.acts
+  pub lines_shown : LinesShown whole (torn_at last) run.lines world.visibles before after
+  pub repeats_equal : RepeatsEqual (is_global setting.protocol) setting.schedule (marks_at last run.marks) (reverse (whole ++ torn_at last))
+  pub core_led : CoreLed setting up (marks_at last run.marks) core run.acts (whole ++ torn_at last)
+
+-- an entry is a turn of this process
+abbrev pub is_turn_of : ℕ → Option Entry → Bool
+is_turn_of p (Some (entry.Turn turn)) = turn.p == p
+is_turn_of p _ = false
+
+-- the schedule was used up
+abbrev pub IsUsedUp : List Entry → List Mark → Last → Type 0
+IsUsedUp schedule marks last = (length marks ≡ length schedule) × (last ≡ Whole)
+
+-- done where the schedule is used up and every process is up and has ended, unfinished where one is not; else a fault at the entry behind the
+-- marked ones: of the device of the process whose turn it was, or of the output
+abbrev pub IsEnding : Setting → Ending → List Mark → Last → Core → Type 0
+IsEnding setting Done marks last core = IsUsedUp setting.schedule marks last × HaveEnded true (system_in setting).guests core
+IsEnding setting Unfinished marks last core = IsUsedUp setting.schedule marks last × HaveEnded false (system_in setting).guests core
+IsEnding setting (Device p) marks last core = (last ≡ Broken) × (is_turn_of p (slice_get setting.schedule (length marks)) ≡ true)
+IsEnding setting (Store p fault) marks last core = ⊥
+IsEnding setting Sink marks last core = (torn : Visible) × (last ≡ CutOff torn) × (length marks < length setting.schedule)
+
+-- a stop is planned for this turn and process
+abbrev pub is_planned : List PlannedStop → ℕ → ℕ → Bool
+is_planned stops turn p = is_some (first_stop stops turn p)
+
+-- an entry was stopped
+abbrev pub is_stopped : Mark → Bool
+is_stopped mark.Stopped = true
+is_stopped _ = false
+
+-- a stop of process p at this turn that no plan lists
+abbrev pub is_unplanned : Setting → ℕ → ℕ → Mark → Bool
+is_unplanned setting p turn m = is_stopped m && (is_turn_of p (slice_get setting.schedule turn) && not (is_planned setting.stops turn p))
+
+-- how many of process p's turns were stopped for which no stop of it was planned, by the marks, the last first
+abbrev pub unplanned : Setting → ℕ → List Mark → ℕ
+unplanned setting p [] = 0
+unplanned setting p (m ∷ marks) = (if is_unplanned setting p (length marks) m then 1 else 0) + unplanned setting p marks
+
+-- whether the making of a process's store was stopped, as a count
+abbrev pub late : Bool → ℕ
+late up = if up then 0 else 1
+
+-- the stops of the device that was handed in are no fewer than those that no plan lists: of the opening, and of turns
+abbrev pub StopsTold : Setting → (ℕ → Bool) → List Mark → (ℕ → ℕ) → (ℕ → ℕ) → Type 0
+StopsTold setting up marks before after = (p : ℕ) → p < length setting.images → before p + late (up p) + unplanned setting p (reverse marks) ≤ after p
+
+-- from some marks to more, the stops of a process's device that no plan lists are no fewer than those of its turns
+abbrev pub IsCountedOn : Setting → ℕ → List Mark → List Mark → ℕ → ℕ → Type 0
+IsCountedOn setting p old new before after = before + unplanned setting p (reverse new) ≤ after + unplanned setting p (reverse old)

@@ -1,0 +1,5 @@
+pub mod Planned
+pub mod Headline
+pub mod Running
+pub mod Courses
+pub mod Segments

@@ -1,0 +1,133 @@
+//! A run, from its opening to its end.
+
+ghost use Rattle.std.specs.Prelude.{◌≡◌, ◌<◌, ◌≤◌, ◌+◌, ◌-◌, ◌^◌, ℕ, All, Err, IfOk, OnErr, [], false, length};
+ghost use Rattle.dc_course.specs.Courses.{IsCourse, StoresLeft, TellsThroughout, account_of, ending_by, ending_of, setting_of, stops_of};
+ghost use Rattle.dc_course.specs.Running.{output};
+ghost use Rattle.dc_course.specs.declared.ending.Ending.TheVariants as endings;
+ghost use Rattle.dc_media.specs.Causes.{Rose};
+ghost use Rattle.dc_media.specs.Told.{TellsOn};
+ghost use Rattle.dc_protocols.specs.Rules.{is_global};
+ghost use Rattle.dc_world.specs.Opened.{CanOpen};
+ghost use Rattle.dc_world.specs.Stages.{KeepsTelling};
+ghost use Rattle.dc_world.specs.Worlds.{IsOfProcesses};
+ghost use Rattle.dc_world.specs.declared.faults.OpenFault.TheVariants as opening;
+
+use crate::ending::Ending;
+use crate::planned::Planned;
+use crate::running::Running;
+use dc_acts::{Acts, Reserved};
+use dc_media::Sink;
+use dc_model::{Entry, Mark};
+use dc_world::{OpenFault, Setup, TurnFault, World};
+use std::alloc::{AllocError, Global};
+
+/// What a run did, and how it ended.
+#[derive(Drop)]
+pub struct Course {
+    /// The acts that count, in order.
+    pub acts: Acts,
+    /// The mark of each entry, in order. An entry that a fault ended has none.
+    pub marks: Reserved<Mark>,
+    /// How many whole lines were written, repeats counted.
+    pub lines: u32,
+    pub ending: Ending,
+}
+
+impl<C: Planned + Drop> Running<C> {
+    /// What the run did, when no more of it is needed.
+    fn course(self, ending: Ending) -> Course
+        ensures { result ≡ record { acts = self.world.processes.acts; marks = self.marks; lines = self.world.processes.lines; ending = ending } }
+    {
+        let Running { world, marks } = self;
+        let lines = world.lines();
+        Course {
+            acts: world.into_acts(),
+            marks,
+            lines,
+            ending,
+        }
+    }
+}
+
+/// No marks, and room for so many.
+fn marks_for(alloc: Global, entries: usize) -> Result<Reserved<Mark>, AllocError>
+    ensures items { IfOk result (λ marks. marks.items ≡ []) }
+    ensures room { IfOk result (λ marks. entries ≤ marks.room) }
+{
+    let mut marks = Reserved::new(alloc);
+    marks.reserve(entries)?;
+    Ok(marks)
+}
+
+/// What a fault of a world ends a run with.
+fn ended_by(fault: TurnFault) -> Ending
+    ensures { result ≡ ending_by fault }
+{
+    match fault {
+        TurnFault::Device(p) => Ending::Device(p),
+        TurnFault::Store(p, why) => Ending::Store(p, why),
+        TurnFault::Sink => Ending::Sink,
+    }
+}
+
+/// What a run ends with whose schedule is used up.
+fn ended(all: bool) -> Ending
+    ensures { result ≡ ending_of all }
+{
+    if all {
+        Ending::Done
+    } else {
+        Ending::Unfinished
+    }
+}
+
+/// Runs a schedule over a world that is opened for it, up to its end or to a fault, and writes the lines of what its processes show.
+///
+/// The device is lent with the stops that are planned for it. All room is taken in the opening; after it no want of memory is answered.
+/// `Failed(p)`: the device of that process's store failed as it was made, and nothing was run.
+pub fn run<C: Planned + Drop, O: Sink>(
+    alloc: Global,
+    setup: Setup,
+    schedule: &[Entry],
+    dev: &mut C::Device,
+    out: &mut O,
+) -> Result<Course, OpenFault>
+    requires some { 0 < length setup.images.items }
+    requires few { length setup.images.items ≤ 8 }
+    requires inputs { length setup.inputs.items ≡ length setup.images.items }
+    requires alone { is_global setup.protocol ≡ false }
+    requires good { All CanOpen setup.images.items }
+    requires entries { length schedule.now ≤ 1000000 }
+    requires processes { All (IsOfProcesses (length setup.images.items)) schedule.now }
+    requires idle { C.idle dev.old }
+    // Where the devices tell what they hold, the promise; and what a fault of a device or of the output says.
+    ensures headline { IfOk result (λ course. TellsThroughout C.Checkpoint (length setup.images.items) dev.old dev.new →
+        IsCourse (setting_of setup schedule.now (C.planned dev.old)) (account_of course) course.ending (output (O.held out.old) (O.held out.new)) (stops_of (C.unplanned dev.old) (C.unplanned dev.new))
+        (λ core. StoresLeft C.Checkpoint (setting_of setup schedule.now (C.planned dev.old)) core dev.new)) }
+    ensures device { IfOk result (λ course. (p : ℕ) → course.ending ≡ endings.Device p → Rose (C.faults dev.old p) (C.faults dev.new p)) }
+    ensures sink { IfOk result (λ course. course.ending ≡ endings.Sink → Rose (O.faults out.old) (O.faults out.new)) }
+    ensures marks { IfOk result (λ course. length course.marks.items ≤ length schedule.now) }
+    // Nothing was run.
+    ensures failed { (p : ℕ) → result ≡ Err (opening.Failed p) → (p < length setup.images.items) × Rose (C.faults dev.old p) (C.faults dev.new p) }
+    ensures unopened { OnErr result (out.new ≡ out.old) }
+    // What becomes of what was lent.
+    ensures planned { (p : ℕ) → C.stops dev.new p + C.unplanned dev.old p ≤ C.unplanned dev.new p + C.stops dev.old p + length schedule.now }
+    ensures loan { C.loan dev.old dev.new }
+    ensures lasts { C.lasts dev.old dev.new }
+    ensures tells { (p : ℕ) → KeepsTelling C.Checkpoint dev.old dev.new p }
+    ensures others { (q : ℕ) → length setup.images.items ≤ q → C.untouched dev.old dev.new q }
+    ensures out_tells { TellsOn 0 (O.faults out.new) (O.held out.old) (O.held out.new) }
+    ensures out_later { O.faults out.old ≤ O.faults out.new }
+{
+    let marks = marks_for(alloc, schedule.len())?;
+    let world = match World::<C>::open(alloc, setup, schedule.len() as u32, dev) {
+        Ok(world) => world,
+        Err(fault) => return Err(fault),
+    };
+    let mut running = Running { world, marks };
+    let ending = match running.run(schedule, dev, out) {
+        Ok(()) => ended(running.world.ended()),
+        Err(fault) => ended_by(fault),
+    };
+    Ok(running.course(ending))
+}

@@ -1,0 +1,16 @@
+//! The course of a run: the entries of a schedule over a world of processes whose devices stop as planned, up to the end of the schedule or
+//! a fault, and what users are promised of it.
+#![tactic(auto)]
+
+mod course;
+mod ending;
+mod memory;
+mod planned;
+mod running;
+#[cfg(test)]
+mod tests;
+
+pub use course::{Course, run};
+pub use ending::Ending;
+pub use memory::run_on_memory;
+pub use planned::Planned;

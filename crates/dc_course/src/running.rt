@@ -1,0 +1,124 @@
+//! A run that was opened: one entry after the other.
+
+ghost use Rattle.std.specs.Prelude.{◌≡◌, ◌<◌, ◌≤◌, ◌+◌, ◌-◌, ◌^◌, ℕ, All, IsErrOf, OnErr, OnOk, Some, false, length, slice_get};
+ghost use Rattle.dc_course.specs.Headline.{IsCountedOn, is_planned};
+ghost use Rattle.dc_course.specs.Headline.{Setting as Settings};
+ghost use Rattle.dc_course.specs.Running.{RunsOff, RunsOn, StepsOff, StepsOn, moment_of};
+ghost use Rattle.dc_media.specs.Causes.{Rose};
+ghost use Rattle.dc_media.specs.Told.{TellsOn};
+ghost use Rattle.dc_world.specs.Stages.{KeepsTelling};
+ghost use Rattle.dc_world.specs.Worlds.{IsOfProcesses, IsTurnOf, MayRun};
+ghost use Rattle.dc_world.specs.declared.faults.TurnFault.TheVariants as faults;
+ghost use Rattle.dc_world.specs.declared.faults.TurnFault.{TurnFault as TurnFaults};
+
+use crate::planned::Planned;
+use dc_acts::Reserved;
+use dc_media::Sink;
+use dc_model::{Entry, Mark};
+use dc_world::{TurnFault, World};
+
+/// A run that was opened: its world, and the marks of its entries.
+#[derive(Drop)]
+pub(crate) struct Running<C: Drop> {
+    pub world: World<C>,
+    pub marks: Reserved<Mark>,
+}
+
+/// Begins a turn of a world.
+fn begin<C: Planned + Drop>(world: &World<C>, dev: &mut C::Device, turn: u32)
+    requires ready { MayRun C.Checkpoint world.now dev.old }
+    ensures ready { MayRun C.Checkpoint world.now dev.new }
+    ensures untouched { (q : ℕ) → C.untouched dev.old dev.new q }
+    ensures same { (q : ℕ) → (C.stops dev.new q ≡ C.stops dev.old q) × (C.faults dev.new q ≡ C.faults dev.old q) }
+    ensures tells { (q : ℕ) → C.told dev.old q → C.told dev.new q }
+    ensures lasts { (now : C.Device) → C.continues dev.new now → C.lasts dev.old now }
+    ensures once { (now : C.Device) (p : ℕ) → C.continues dev.new now → C.stops now p + C.unplanned dev.old p ≤ C.unplanned now p + C.stops dev.old p + 1 }
+    ensures stopped { (now : C.Device) (p : ℕ) → C.continues dev.new now → is_planned (C.planned dev.old) turn p ≡ false
+        → Rose (C.stops dev.old p) (C.stops now p) → C.stops now p < 2 ^ 64 - 1 → C.unplanned dev.old p < C.unplanned now p }
+{
+    C::at_turn(dev, turn);
+}
+
+impl<C: Planned + Drop> Running<C> {
+    /// Runs one entry, and notes its mark. At a fault it has none.
+    fn turn<O: Sink>(
+        &mut self,
+        entry: &Entry,
+        dev: &mut C::Device,
+        out: &mut O,
+    ) -> Result<(), TurnFault>
+        requires ready { MayRun C.Checkpoint self.old.world dev.old }
+        requires left { 0 < self.old.world.processes.left }
+        requires process { IsOfProcesses (length self.old.world.processes.slots.items) entry.now }
+        requires room { length self.old.marks.items < self.old.marks.room }
+        requires few { length self.old.marks.items < 2 ^ 32 }
+        ensures ready { MayRun C.Checkpoint self.new.world dev.new }
+        ensures left { self.new.world.processes.left + 1 ≡ self.old.world.processes.left }
+        ensures long { length self.new.world.processes.slots.items ≡ length self.old.world.processes.slots.items }
+        ensures room { self.old.marks.room ≤ self.new.marks.room }
+        ensures marked { OnOk result (length self.new.marks.items ≡ length self.old.marks.items + 1) }
+        ensures unmarked { OnErr result (self.new.marks.items ≡ self.old.marks.items) }
+        ensures steps_on { OnOk result (StepsOn C.Checkpoint entry.now (moment_of self.old dev.old (O.held out.old)) (moment_of self.new dev.new (O.held out.new))) }
+        ensures steps_off { (fault : TurnFaults) → IsErrOf result fault → StepsOff C.Checkpoint entry.now fault (moment_of self.old dev.old (O.held out.old)) (moment_of self.new dev.new (O.held out.new)) }
+        ensures device { (p : ℕ) → IsErrOf result (faults.Device p) → IsTurnOf p entry.now × Rose (C.faults dev.old p) (C.faults dev.new p) }
+        ensures sink { IsErrOf result faults.Sink → Rose (O.faults out.old) (O.faults out.new) }
+        ensures lasts { C.lasts dev.old dev.new }
+        ensures stops { (setting : Settings) (p : ℕ) → setting.stops ≡ C.planned dev.old → slice_get setting.schedule (length self.old.marks.items) ≡ Some entry.now → C.stops dev.new p < 2 ^ 64 - 1
+            → IsCountedOn setting p self.old.marks.items self.new.marks.items (C.unplanned dev.old p) (C.unplanned dev.new p) }
+        ensures once { (p : ℕ) → C.stops dev.new p + C.unplanned dev.old p ≤ C.unplanned dev.new p + C.stops dev.old p + 1 }
+        ensures later { (p : ℕ) → (C.stops dev.old p ≤ C.stops dev.new p) × (C.faults dev.old p ≤ C.faults dev.new p) }
+        ensures tells { (p : ℕ) → KeepsTelling C.Checkpoint dev.old dev.new p }
+        ensures others { (q : ℕ) → length self.old.world.processes.slots.items ≤ q → C.untouched dev.old dev.new q }
+        ensures out_tells { TellsOn 0 (O.faults out.new) (O.held out.old) (O.held out.new) }
+        ensures out_later { O.faults out.old ≤ O.faults out.new }
+    {
+        begin(&self.world, dev, self.marks.len() as u32);
+        match self.world.turn(entry, dev, out) {
+            Ok(mark) => {
+                self.marks.push(mark);
+                Ok(())
+            }
+            Err(fault) => Err(fault),
+        }
+    }
+
+    /// The whole schedule, entry by entry, up to a fault.
+    pub fn run<O: Sink>(
+        &mut self,
+        schedule: &[Entry],
+        dev: &mut C::Device,
+        out: &mut O,
+    ) -> Result<(), TurnFault>
+        requires ready { MayRun C.Checkpoint self.old.world dev.old }
+        requires begun { length self.old.marks.items ≡ 0 }
+        requires left { length schedule.now ≤ self.old.world.processes.left }
+        requires processes { All (IsOfProcesses (length self.old.world.processes.slots.items)) schedule.now }
+        requires room { length schedule.now ≤ self.old.marks.room }
+        requires few { length schedule.now ≤ 1000000 }
+        ensures ready { MayRun C.Checkpoint self.new.world dev.new }
+        ensures long { length self.new.world.processes.slots.items ≡ length self.old.world.processes.slots.items }
+        ensures used { OnOk result (length self.new.marks.items ≡ length schedule.now) }
+        ensures few { length self.new.marks.items ≤ length schedule.now }
+        ensures runs_on { OnOk result (RunsOn C.Checkpoint schedule.now (moment_of self.old dev.old (O.held out.old)) (moment_of self.new dev.new (O.held out.new))) }
+        ensures runs_off { (fault : TurnFaults) → IsErrOf result fault → RunsOff C.Checkpoint schedule.now fault (moment_of self.old dev.old (O.held out.old)) (moment_of self.new dev.new (O.held out.new)) }
+        ensures device { (p : ℕ) → IsErrOf result (faults.Device p) → Rose (C.faults dev.old p) (C.faults dev.new p) }
+        ensures sink { IsErrOf result faults.Sink → Rose (O.faults out.old) (O.faults out.new) }
+        ensures lasts { C.lasts dev.old dev.new }
+        ensures stops { (setting : Settings) (p : ℕ) → setting.stops ≡ C.planned dev.old → setting.schedule ≡ schedule.now → C.stops dev.new p < 2 ^ 64 - 1
+            → IsCountedOn setting p self.old.marks.items self.new.marks.items (C.unplanned dev.old p) (C.unplanned dev.new p) }
+        ensures planned { (p : ℕ) → C.stops dev.new p + C.unplanned dev.old p ≤ C.unplanned dev.new p + C.stops dev.old p + length schedule.now }
+        ensures later { (p : ℕ) → (C.stops dev.old p ≤ C.stops dev.new p) × (C.faults dev.old p ≤ C.faults dev.new p) }
+        ensures tells { (p : ℕ) → KeepsTelling C.Checkpoint dev.old dev.new p }
+        ensures others { (q : ℕ) → length self.old.world.processes.slots.items ≤ q → C.untouched dev.old dev.new q }
+        ensures out_tells { TellsOn 0 (O.faults out.new) (O.held out.old) (O.held out.new) }
+        ensures out_later { O.faults out.old ≤ O.faults out.new }
+    {
+        for entry in schedule {
+            match self.turn(entry, dev, out) {
+                Ok(()) => {}
+                Err(fault) => return Err(fault),
+            }
+        }
+        Ok(())
+    }
+}
