@@ -3,6 +3,7 @@ use Rattle.std.proofs.Common.{◌≡◌, ◌≤◌, ◌+◌, ℕ, zero, suc, Res
 use Rattle.std.specs.Result.{result_and}
 use Rattle.dc_media.specs.Told.{Device, IsSameStore, TellsOn}
 use Rattle.dc_media.specs.Causes.{IsCaused, counted}
+use Rattle.dc_armed.specs.Stops.{capped}
 use Rattle.dc_armed.specs.Torn.{IsInCalls, counted_by}
 use Rattle.dc_media.specs.declared.faults.DeviceFault.{DeviceFault}
 
@@ -40,6 +41,11 @@ TellsOn-twice s s' f f' a b c later later' one two = λ below below' told. two b
 counted_by-more : (j k n : ℕ) → counted_by (j + k) n ≡ counted_by k (counted_by j n)
 counted_by-more j zero n = let none : j + 0 ≡ j = omega arith in ap (λ m. counted_by m n) none
 counted_by-more j (suc k) n = let more : j + suc k ≡ suc (j + k) = omega arith in ap (λ m. counted_by m n) more ∙ ap counted (counted_by-more j k n)
+
+-- counted on some times, no count falls
+pub capped_later : (k n : ℕ) → capped n ≤ capped (counted_by k n)
+capped_later zero n = omega arith
+capped_later (suc k) n = let more = capped_later k n in omega (arith, more)
 
 module _ {S C : Type 0} (device : Device S C) where
   -- another process's store stays

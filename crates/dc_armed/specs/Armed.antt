@@ -1,11 +1,11 @@
 -- A device with planned stops as contracts see it, and what its calls do.
-use Rattle.std.specs.Prelude.{◌≡◌, ◌≤◌, ◌⊎◌, ◌+◌, ℕ, Result, IsErr, IsErrOf}
+use Rattle.std.specs.Prelude.{◌≡◌, ◌≤◌, ◌<◌, ◌⊎◌, ◌+◌, ◌-◌, ◌^◌, ℕ, Result, IsErr, IsErrOf}
 use Rattle.dc_media.specs.declared.faults.DeviceFault.{DeviceFault}
 use Rattle.dc_media.specs.declared.faults.DeviceFault.TheVariants.{Stopped}
 use Rattle.dc_media.specs.Causes.{IsCaused}
 use Rattle.dc_media.specs.Told.{Becomes, Device, showing}
 use Rattle.dc_armed.specs.Torn.{counted_by}
-use Rattle.dc_armed.specs.Stops.{Plan, Comes, Progresses, came_to, calls_to}
+use Rattle.dc_armed.specs.Stops.{Plan, Comes, Progresses, came_to, calls_left, calls_to, capped, waiting_for}
 
 -- the device within, and the stops that are planned for it
 pub record Armed (D : Type 0) : Type 0 where
@@ -57,9 +57,27 @@ pub record IsPlannedAlone {D T : Type 0} (p : ℕ) (result : Result T DeviceFaul
 abbrev pub ComesOrRefused : {D C T : Type 0} → Device D C → ℕ → Work C → Result T DeviceFault → Armed D → Armed D → Type 0
 ComesOrRefused device p work result old new = IsPlanned device p work result old new ⊎ (IsErr result × IsOwn device p result old new)
 
--- a later state of an armed device: the device within is a later one, none of its stops and faults is forgotten, and the plan has gone on
-pub record IsLater {D : Type 0} (continues : D → D → Type 0) (stops faults : D → ℕ → ℕ) (old new : Armed D) : Type 0 where
-  pub device : continues old.device new.device
-  pub stopped : (p : ℕ) → stops old.device p ≤ stops new.device p
-  pub failed : (p : ℕ) → faults old.device p ≤ faults new.device p
+-- neither a stop nor a fault of a process's device was counted, and its counts can still tell
+pub record IsUnrefused {S : Type 0} (stops faults : S → ℕ → ℕ) (p : ℕ) (old new : S) : Type 0 where
+  pub stops_same : stops new p ≡ stops old p
+  pub faults_same : faults new p ≡ faults old p
+  pub stops_below : stops new p < 2 ^ 64 - 1
+  pub faults_below : faults new p < 2 ^ 64 - 1
+
+-- a stop that waited still waits, and each call that the device within was asked for is one fewer to wait for
+pub record StillWaits {D C : Type 0} (device : Device D C) (p : ℕ) (old new : Armed D) : Type 0 where
+  pub waits : 0 < calls_left (waiting_for new.plan p)
+  pub fewer : capped (device.calls new.device p) + calls_left (waiting_for new.plan p) ≤ capped (device.calls old.device p) + calls_left (waiting_for old.plan p)
+
+-- a stop that waits for a process comes, or it waits still where nothing refused the process's calls
+abbrev pub IsAwaited : {D C : Type 0} → Device D C → ℕ → Armed D → Armed D → Type 0
+IsAwaited device p old new = IsUnrefused (all_stops device.stops) (within device.faults) p old new → 0 < calls_left (waiting_for old.plan p) → StillWaits device p old new
+
+-- a later state of an armed device: the device within is a later one, none of its stops, faults and calls is forgotten, and the plan has gone on
+pub record IsLater {D C : Type 0} (continues : D → D → Type 0) (device : Device D C) (old new : Armed D) : Type 0 where
+  pub later : continues old.device new.device
+  pub stopped : (p : ℕ) → device.stops old.device p ≤ device.stops new.device p
+  pub failed : (p : ℕ) → device.faults old.device p ≤ device.faults new.device p
+  pub called : (p : ℕ) → capped (device.calls old.device p) ≤ capped (device.calls new.device p)
   pub plan : Progresses old.plan new.plan
+  pub awaited : (p : ℕ) → IsAwaited device p old new

@@ -1,6 +1,7 @@
 -- A later state of an armed device, from one call to the next.
-use Rattle.std.proofs.Common.{◌≡◌, ◌≤◌, ◌∙◌, ℕ, arith, refl}
-use Rattle.dc_armed.specs.Armed.{Armed, IsLater}
+use Rattle.std.proofs.Common.{◌∙◌, ℕ, arith, refl}
+use Rattle.dc_media.specs.Told.{Device}
+use Rattle.dc_armed.specs.Armed.{Armed, IsAwaited, IsLater, IsUnrefused, all_stops, within}
 use Rattle.dc_armed.specs.Stops.{Plan, Progresses}
 
 -- nothing was called
@@ -15,16 +16,54 @@ progresses_on old between new first then = record {
   once = λ p. omega (arith, first.once p, then.once p);
 }
 
-module _ {D : Type 0} (continues : D → D → Type 0) (stops faults : D → ℕ → ℕ) where
+module _ {D C : Type 0} (continues : D → D → Type 0) (device : Device D C) where
   -- nothing was called
-  pub later_self : ((s : D) → continues s s) → (s : Armed D) → IsLater continues stops faults s s
-  later_self self s = record { device = self s.device; stopped = λ p. omega arith; failed = λ p. omega arith; plan = progresses_self s.plan }
+  pub later_self : ((s : D) → continues s s) → (s : Armed D) → IsLater continues device s s
+  later_self self s = record {
+    later = self s.device;
+    stopped = λ p. omega arith;
+    failed = λ p. omega arith;
+    called = λ p. omega arith;
+    plan = progresses_self s.plan;
+    awaited = λ p same waits. record { waits = waits; fewer = omega arith };
+  }
+
+  -- nothing refused a process's calls
+  abbrev Unrefused : ℕ → Armed D → Armed D → Type 0
+  Unrefused p s t = IsUnrefused (all_stops device.stops) (within device.faults) p s t
+
+  -- what refused no call of two in a row refused none of either
+  unrefused_first : (p : ℕ) (s t u : Armed D) → IsLater continues device s t → IsLater continues device t u → Unrefused p s u → Unrefused p s t
+  unrefused_first p s t u first then same =
+      let a = first.stopped p in let b = then.stopped p in let c = first.failed p in let d = then.failed p in let e = first.plan.later p in let f = then.plan.later p in record {
+        stops_same = omega (arith, a, b, e, f, same.stops_same);
+        faults_same = omega (arith, c, d, same.faults_same);
+        stops_below = omega (arith, b, f, same.stops_below);
+        faults_below = omega (arith, d, same.faults_below);
+      }
+
+  unrefused_then : (p : ℕ) (s t u : Armed D) → IsLater continues device s t → IsLater continues device t u → Unrefused p s u → Unrefused p t u
+  unrefused_then p s t u first then same =
+      let a = first.stopped p in let b = then.stopped p in let c = first.failed p in let d = then.failed p in let e = first.plan.later p in let f = then.plan.later p in record {
+        stops_same = omega (arith, a, b, e, f, same.stops_same);
+        faults_same = omega (arith, c, d, same.faults_same);
+        stops_below = same.stops_below;
+        faults_below = same.faults_below;
+      }
+
+  awaited_on : (p : ℕ) (s t u : Armed D) → IsLater continues device s t → IsLater continues device t u → IsAwaited device p s u
+  awaited_on p s t u first then same waits =
+      let one = first.awaited p (unrefused_first p s t u first then same) waits in
+      let two = then.awaited p (unrefused_then p s t u first then same) one.waits in
+      record { waits = two.waits; fewer = omega (arith, one.fewer, two.fewer) }
 
   -- one call and then more
-  pub later_on : ((s t u : D) → continues s t → continues t u → continues s u) → (s t u : Armed D) → IsLater continues stops faults s t → IsLater continues stops faults t u → IsLater continues stops faults s u
+  pub later_on : ((s t u : D) → continues s t → continues t u → continues s u) → (s t u : Armed D) → IsLater continues device s t → IsLater continues device t u → IsLater continues device s u
   later_on on s t u first then = record {
-    device = on s.device t.device u.device first.device then.device;
+    later = on s.device t.device u.device first.later then.later;
     stopped = λ p. omega (arith, first.stopped p, then.stopped p);
     failed = λ p. omega (arith, first.failed p, then.failed p);
+    called = λ p. omega (arith, first.called p, then.called p);
     plan = progresses_on s.plan t.plan u.plan first.plan then.plan;
+    awaited = λ p. awaited_on p s t u first then;
   }

@@ -1,5 +1,5 @@
 -- Planned stops: which one waits for a process in a turn, how its calls count it down, and how many came.
-use Rattle.std.specs.Prelude.{◌≡◌, ◌≢◌, ℕ, ◌+◌, ◌-◌, ◌^◌, ◌≤◌, ◌==◌, ◌&&◌, nat_lt, List, Bool, Option, None, Some, Result, Ok, Err, if◌then◌else◌, get_or}
+use Rattle.std.specs.Prelude.{◌≡◌, ◌≢◌, ℕ, ◌+◌, ◌-◌, ◌^◌, ◌≤◌, ◌==◌, ◌&&◌, nat_lt, min, List, Bool, Option, None, Some, Result, Ok, Err, if◌then◌else◌, get_or}
 use Rattle.dc_media.specs.declared.faults.DeviceFault.{DeviceFault}
 use Rattle.dc_media.specs.declared.faults.DeviceFault.TheVariants.{Stopped, Failed}
 use Rattle.dc_media.specs.declared.TheConstants.{STORES}
@@ -81,6 +81,15 @@ pub record Comes (p : ℕ) (old new : Plan) : Type 0 where
 pub record Calls (p : ℕ) (old new : Plan) : Type 0 where
   pub here : calls_to new p ≡ counted (calls_to old p)
   pub others : (q : ℕ) → q ≢ p → calls_to new q ≡ calls_to old q
+
+-- how many calls there are up to the one at which a stop comes that waits, with that one; none where no stop waits
+abbrev pub calls_left : Option Waiting → ℕ
+calls_left None = 0
+calls_left (Some waiting) = waiting.calls
+
+-- a count of 64 bits, which stands still at its last value
+abbrev pub capped : ℕ → ℕ
+capped n = min n (2 ^ 64 - 1)
 
 -- whether a stop waits, as a count
 abbrev pub count_of : Option Waiting → ℕ

@@ -2,7 +2,7 @@ ghost use Rattle.std.specs.Prelude.{◌≡◌, ◌≢◌, ◌+◌, ◌<◌, ◌�
 ghost use Rattle.dc_media.specs.Causes.{IsCaused, IsMade, counted};
 ghost use Rattle.dc_media.specs.Disk.{Reads, Syncs, Writes, blank};
 ghost use Rattle.dc_media.specs.Devices.{of_disks};
-ghost use Rattle.dc_media.specs.Told.{TellsOn, IsSameStore};
+ghost use Rattle.dc_media.specs.Told.{TellsOn, IsSameStore, showing};
 ghost use Rattle.dc_armed.specs.Armed.{all_calls, all_stops, armed, within, ComesOrRefused, IsOwn, IsPlannedAlone, IsLater};
 ghost use Rattle.dc_armed.specs.Torn.{counted_by, torn_calls, torn_disk};
 ghost use Rattle.dc_armed.specs.Stops.{after_answer, calls_to, came_to, due, one_fewer, waiting_for, Waits};
@@ -25,15 +25,15 @@ impl<D: Disks> Disks for Armed<D> {
 
     ghost calls = { all_calls };
 
-    ghost continues = { λ s t. IsLater D.continues D.stops D.faults s t };
+    ghost continues = { λ s t. IsLater D.continues (of_disks D.Disks) s t };
 
     ghost told_extent = { λ a. D.told_extent a.device };
 
     ghost extent_fits = { λ a. D.extent_fits a.device };
 
-    ghost continues_self = { λ s. later_self D.continues D.stops D.faults D.continues_self s };
+    ghost continues_self = { λ s. later_self D.continues (showing D.told D.extent D.stops D.faults D.calls) D.continues_self s };
 
-    ghost continues_on = { λ s t u first then. later_on D.continues D.stops D.faults D.continues_on s t u first then };
+    ghost continues_on = { λ s t u first then. later_on D.continues (showing D.told D.extent D.stops D.faults D.calls) D.continues_on s t u first then };
 
     fn format(&mut self, alloc: Global, p: u32, bytes: u64) -> Result<(), MakeFault>
         requires { p < STORES }
@@ -44,7 +44,7 @@ impl<D: Disks> Disks for Armed<D> {
         ensures cause { IsMade (D.stops self.old.device p) (D.stops self.new.device p) (D.faults self.old.device p) (D.faults self.new.device p) result }
         ensures calls { calls_to self.new.plan p ≡ calls_to self.old.plan p }
         ensures others { (q : ℕ) → q ≢ p → IsSameStore (armed (of_disks D.Disks)) self.old self.new q }
-        ensures continues { IsLater D.continues D.stops D.faults self.old self.new }
+        ensures continues { IsLater D.continues (of_disks D.Disks) self.old self.new }
 
         // the device within
         ensures untouched { (q : ℕ) → q ≢ p → IsSameStore (of_disks D.Disks) self.old.device self.new.device q }
@@ -68,7 +68,7 @@ impl<D: Disks> Disks for Armed<D> {
         ensures tells { TellsOn (D.stops self.new.device p) (D.faults self.new.device p) (D.told self.old.device p) (D.told self.new.device p) }
         ensures calls { calls_to self.new.plan p ≡ calls_to self.old.plan p }
         ensures others { (q : ℕ) → q ≢ p → IsSameStore (armed (of_disks D.Disks)) self.old self.new q }
-        ensures continues { IsLater D.continues D.stops D.faults self.old self.new }
+        ensures continues { IsLater D.continues (of_disks D.Disks) self.old self.new }
 
         // the device within
         ensures untouched { (q : ℕ) → q ≢ p → IsSameStore (of_disks D.Disks) self.old.device self.new.device q }
@@ -85,6 +85,7 @@ impl<D: Disks> Disks for Armed<D> {
     /// At a planned stop as many bytes are written as are kept, and the others stay or are filled; all of them are pending.
     ///
     /// The answer is then `Stopped`, unless the device refuses a part, which is passed on.
+    #[tactic(auto, using(crate::proofs::Counting::capped_later))]
     fn write(&mut self, p: u32, at: u64, from: &[u8]) -> Result<(), DeviceFault>
         requires { at + length from.now ≤ D.extent self.old.device p }
         ensures extent { D.extent self.new.device p ≡ D.extent self.old.device p }
@@ -93,7 +94,7 @@ impl<D: Disks> Disks for Armed<D> {
         ensures cause { IsCaused (all_stops D.stops self.old p) (all_stops D.stops self.new p) (D.faults self.old.device p) (D.faults self.new.device p) result }
         ensures calls { calls_to self.new.plan p ≡ counted (calls_to self.old.plan p) }
         ensures others { (q : ℕ) → q ≢ p → IsSameStore (armed (of_disks D.Disks)) self.old self.new q }
-        ensures continues { IsLater D.continues D.stops D.faults self.old self.new }
+        ensures continues { IsLater D.continues (of_disks D.Disks) self.old self.new }
 
         // the device within
         ensures untouched { (q : ℕ) → q ≢ p → IsSameStore (of_disks D.Disks) self.old.device self.new.device q }
@@ -126,7 +127,7 @@ impl<D: Disks> Disks for Armed<D> {
         ensures cause { IsCaused (all_stops D.stops self.old p) (all_stops D.stops self.new p) (D.faults self.old.device p) (D.faults self.new.device p) result }
         ensures calls { calls_to self.new.plan p ≡ counted (calls_to self.old.plan p) }
         ensures others { (q : ℕ) → q ≢ p → IsSameStore (armed (of_disks D.Disks)) self.old self.new q }
-        ensures continues { IsLater D.continues D.stops D.faults self.old self.new }
+        ensures continues { IsLater D.continues (of_disks D.Disks) self.old self.new }
 
         // the device within
         ensures untouched { (q : ℕ) → q ≢ p → IsSameStore (of_disks D.Disks) self.old.device self.new.device q }

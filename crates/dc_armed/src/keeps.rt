@@ -2,7 +2,7 @@ ghost use Rattle.std.specs.Prelude.{◌≡◌, ◌≢◌, ◌+◌, ◌<◌, ◌�
 ghost use Rattle.dc_media.specs.Causes.{IsCaused, IsMade, counted};
 ghost use Rattle.dc_media.specs.Stores.{AreSameOrApart, CopiesLine, SetsWord, copied};
 ghost use Rattle.dc_media.specs.Devices.{of_words};
-ghost use Rattle.dc_media.specs.Told.{TellsOn, IsSameStore};
+ghost use Rattle.dc_media.specs.Told.{TellsOn, IsSameStore, showing};
 ghost use Rattle.dc_armed.specs.Armed.{all_calls, all_stops, armed, within, ComesOrRefused, IsOwn, IsPlannedAlone, IsLater};
 ghost use Rattle.dc_armed.specs.Torn.{at_once, copy_calls, counted_by, kept_words, torn_store};
 ghost use Rattle.dc_armed.specs.Stops.{after_answer, calls_to, came_to, due, one_fewer, waiting_for, Waits};
@@ -25,15 +25,15 @@ impl<K: Keeps> Keeps for Armed<K> {
 
     ghost calls = { all_calls };
 
-    ghost continues = { λ s t. IsLater K.continues K.stops K.faults s t };
+    ghost continues = { λ s t. IsLater K.continues (of_words K.Keeps) s t };
 
     ghost told_extent = { λ a. K.told_extent a.device };
 
     ghost extent_fits = { λ a. K.extent_fits a.device };
 
-    ghost continues_self = { λ s. later_self K.continues K.stops K.faults K.continues_self s };
+    ghost continues_self = { λ s. later_self K.continues (showing K.told K.extent K.stops K.faults K.calls) K.continues_self s };
 
-    ghost continues_on = { λ s t u first then. later_on K.continues K.stops K.faults K.continues_on s t u first then };
+    ghost continues_on = { λ s t u first then. later_on K.continues (showing K.told K.extent K.stops K.faults K.calls) K.continues_on s t u first then };
 
     fn format(&mut self, alloc: Global, p: u32, words: u32) -> Result<(), MakeFault>
         requires { p < STORES }
@@ -44,7 +44,7 @@ impl<K: Keeps> Keeps for Armed<K> {
         ensures cause { IsMade (K.stops self.old.device p) (K.stops self.new.device p) (K.faults self.old.device p) (K.faults self.new.device p) result }
         ensures calls { calls_to self.new.plan p ≡ calls_to self.old.plan p }
         ensures others { (q : ℕ) → q ≢ p → IsSameStore (armed (of_words K.Keeps)) self.old self.new q }
-        ensures continues { IsLater K.continues K.stops K.faults self.old self.new }
+        ensures continues { IsLater K.continues (of_words K.Keeps) self.old self.new }
 
         // the device within
         ensures untouched { (q : ℕ) → q ≢ p → IsSameStore (of_words K.Keeps) self.old.device self.new.device q }
@@ -71,7 +71,7 @@ impl<K: Keeps> Keeps for Armed<K> {
         ensures cause { IsCaused (all_stops K.stops self.old p) (all_stops K.stops self.new p) (K.faults self.old.device p) (K.faults self.new.device p) result }
         ensures calls { calls_to self.new.plan p ≡ counted (calls_to self.old.plan p) }
         ensures others { (q : ℕ) → q ≢ p → IsSameStore (armed (of_words K.Keeps)) self.old self.new q }
-        ensures continues { IsLater K.continues K.stops K.faults self.old self.new }
+        ensures continues { IsLater K.continues (of_words K.Keeps) self.old self.new }
 
         // the device within
         ensures untouched { (q : ℕ) → q ≢ p → IsSameStore (of_words K.Keeps) self.old.device self.new.device q }
@@ -100,6 +100,7 @@ impl<K: Keeps> Keeps for Armed<K> {
     /// At a planned stop as many words are copied as are kept, one by one, or all of them by one call.
     ///
     /// The answer is then `Stopped`, unless the device refuses a call, which is passed on.
+    #[tactic(auto, using(crate::proofs::Counting::capped_later))]
     fn copy_line(&mut self, p: u32, from: u32, to: u32) -> Result<(), DeviceFault>
         requires source { from + 16 ≤ K.extent self.old.device p }
         requires place { to + 16 ≤ K.extent self.old.device p }
@@ -110,7 +111,7 @@ impl<K: Keeps> Keeps for Armed<K> {
         ensures cause { IsCaused (all_stops K.stops self.old p) (all_stops K.stops self.new p) (K.faults self.old.device p) (K.faults self.new.device p) result }
         ensures calls { calls_to self.new.plan p ≡ counted (calls_to self.old.plan p) }
         ensures others { (q : ℕ) → q ≢ p → IsSameStore (armed (of_words K.Keeps)) self.old self.new q }
-        ensures continues { IsLater K.continues K.stops K.faults self.old self.new }
+        ensures continues { IsLater K.continues (of_words K.Keeps) self.old self.new }
 
         // the device within
         ensures untouched { (q : ℕ) → q ≢ p → IsSameStore (of_words K.Keeps) self.old.device self.new.device q }

@@ -1,11 +1,11 @@
 -- What is told at the beginning and at the end of a part of a run is told between.
-use Rattle.std.proofs.Common.{◌≡◌, ◌≤◌, ◌<◌, ◌+◌, ◌-◌, ◌^◌, ◌∙◌, ℕ, List, Some, ap, arith, length, reverse, slice_get, subst, sym}
+use Rattle.std.proofs.Common.{◌≡◌, ◌≤◌, ◌<◌, ◌-◌, ◌^◌, ◌∙◌, ℕ, List, Some, ap, arith, length, slice_get, subst, sym}
 use Rattle.dc_checkpoint.specs.declared.checkpoint.Checkpoint as checkpoint
 use Rattle.dc_model.specs.declared.entry.Entry.{Entry}
 use Rattle.dc_model.specs.declared.mark.Mark.{Mark}
 use Rattle.dc_world.specs.Stages.{IsTold, KeepsTelling, Stage}
 use Rattle.dc_world.specs.declared.faults.TurnFault.{TurnFault}
-use Rattle.dc_course.specs.Headline.{Setting, IsCountedOn, unplanned}
+use Rattle.dc_course.specs.Headline.{Setting, IsCountedOn}
 use Rattle.dc_course.specs.Running.{Moment, RunsOff, RunsOn, StepsOff, StepsOn}
 
 -- counts of a device never fall

@@ -1,3 +1,4 @@
+mod Arming
 mod Steps
 mod Promised
 mod Still

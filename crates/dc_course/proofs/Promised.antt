@@ -1,5 +1,5 @@
 -- A run that has ended keeps the promise.
-use Rattle.std.proofs.Common.{◌≡◌, ◌∙◌, ◌++◌, ℕ, Bool, false, List, Option, Some, ap, reverse, subst, sym}
+use Rattle.std.proofs.Common.{◌≡◌, ◌∙◌, ◌++◌, ℕ, Bool, false, List, Some, ap, reverse, subst, sym}
 use Rattle.std.proofs.lemmas.Bool.{true≢false}
 use Rattle.std.proofs.lemmas.List.{reverse-reverse}
 use Rattle.dc_checkpoint.specs.declared.checkpoint.Checkpoint as checkpoint
@@ -8,7 +8,6 @@ use Rattle.dc_model.specs.Repeats.{RepeatsEqual}
 use Rattle.dc_model.specs.World.{run, thin, world_of}
 use Rattle.dc_model.specs.declared.act.Taken.{Taken}
 use Rattle.dc_model.specs.declared.mark.Mark.{Mark}
-use Rattle.dc_model.specs.declared.visible.Visible.{Visible}
 use Rattle.dc_protocols.specs.Rules.{is_global}
 use Rattle.dc_recovery.proofs.Ends.{holds_opened, leads_well, repeats_well}
 use Rattle.dc_recovery.specs.Core.{opened_core}

@@ -15,21 +15,22 @@ use Rattle.dc_armed.specs.declared.stop.PlannedStop.{PlannedStop}
 use Rattle.dc_model.specs.declared.entry.Entry.{Entry}
 use Rattle.dc_plain.specs.Playing.{seen_image}
 use Rattle.dc_world.specs.declared.opening.Setup.{Setup}
-use Rattle.dc_course.specs.Courses.{IsCourse, StoresLeft, Stops, setting_of, stops_of}
+use Rattle.dc_course.specs.Courses.{Counts, IsCourse, StoresLeft, counts_of, setting_of}
 use Rattle.dc_course.specs.Headline.{Account, Setting}
 use Rattle.dc_course.specs.Running.{Output}
-use Rattle.dc_course.specs.Segments.{SegmentsLeft}
+use Rattle.dc_course.specs.Segments.{SegmentsLeft, capped_by}
 use Rattle.dc_course.specs.declared.ending.Ending.{Ending}
 
 -- the same run, of whose stores something else is said
-pub left_as : (setting : Setting) (run : Account) (ending : Ending) (out : Output) (stops : Stops) (Left Left1 : Core → Type 0) → ((core : Core) → Left core → Left1 core) → IsCourse setting run ending out stops Left → IsCourse setting run ending out stops Left1
-left_as setting run ending out stops Left Left1 weaker course = record {
+pub left_as : (setting : Setting) (run : Account) (ending : Ending) (out : Output) (counts : Counts) (Left Left1 : Core → Type 0) → ((core : Core) → Left core → Left1 core) → IsCourse setting run ending out counts Left → IsCourse setting run ending out counts Left1
+left_as setting run ending out counts Left Left1 weaker course = record {
   last = course.last;
   up = course.up;
   core = course.core;
   headline = course.headline;
   ending_is = course.ending_is;
   stops_told = course.stops_told;
+  planned_come = course.planned_come;
   left = weaker course.core course.left;
   determined = course.determined;
 }
@@ -101,14 +102,14 @@ module _ {S C D : Type 0} (words : keeps.Ghosts S) (g : checkpoint.Ghosts C D) (
 
 -- a run over segments, by what the run over its armed device says
 pub memory_course : {S C D : Type 0} (words : keeps.Ghosts S) {g : checkpoint.Ghosts C D} (setup : Setup) (schedule : List Entry) (planned stops : List PlannedStop) (run : Account) (ending : Ending) (out : Output) (k0 k1 k : S) (dev : D)
-    → IsCourse (setting_of setup schedule planned) run ending out (stops_of (words.stops k0) (words.stops k)) (λ core. StoresLeft g (setting_of setup schedule planned) core dev)
+    → IsCourse (setting_of setup schedule planned) run ending out (counts_of words.stops (capped_by words.calls) k0 k) (λ core. StoresLeft g (setting_of setup schedule planned) core dev)
     → planned ≡ stops → k0 ≡ k1 → 0 < length setup.images.items
     → (shape_at : C → Shape) → ((c : C) → (shape_at c).form ≡ g.form c) → ((c : C) → g.lent c dev → words.extent k (g.place c) ≡ segment_words (shape_at c).lines)
     → ((c : C) (d : ℕ) (r : Reading) → StandsFor (shape_at c) (parts (shape_at c).lines (words.told k (g.place c))) d r → g.leaves c dev d r)
     → ((c : C) (d : ℕ) → Numbers (parts (shape_at c).lines (words.told k (g.place c))) d → g.numbers c dev d)
-    → IsCourse (setting_of setup schedule stops) run ending out (stops_of (words.stops k1) (words.stops k)) (λ core. SegmentsLeft words (setting_of setup schedule stops) core k)
+    → IsCourse (setting_of setup schedule stops) run ending out (counts_of words.stops (capped_by words.calls) k1 k) (λ core. SegmentsLeft words (setting_of setup schedule stops) core k)
 memory_course words {g} setup schedule planned stops run ending out k0 k1 k dev course plan lent some shape_at forms lents leaves numbers =
-    subst (λ ss. IsCourse (setting_of setup schedule ss) run ending out (stops_of (words.stops k1) (words.stops k)) (λ core. SegmentsLeft words (setting_of setup schedule ss) core k)) plan
-    (subst (λ x. IsCourse (setting_of setup schedule planned) run ending out (stops_of (words.stops x) (words.stops k)) (λ core. SegmentsLeft words (setting_of setup schedule planned) core k)) lent
-    (left_as (setting_of setup schedule planned) run ending out (stops_of (words.stops k0) (words.stops k)) (λ core. StoresLeft g (setting_of setup schedule planned) core dev) (λ core. SegmentsLeft words (setting_of setup schedule planned) core k)
+    subst (λ ss. IsCourse (setting_of setup schedule ss) run ending out (counts_of words.stops (capped_by words.calls) k1 k) (λ core. SegmentsLeft words (setting_of setup schedule ss) core k)) plan
+    (subst (λ x. IsCourse (setting_of setup schedule planned) run ending out (counts_of words.stops (capped_by words.calls) x k) (λ core. SegmentsLeft words (setting_of setup schedule planned) core k)) lent
+    (left_as (setting_of setup schedule planned) run ending out (counts_of words.stops (capped_by words.calls) k0 k) (λ core. StoresLeft g (setting_of setup schedule planned) core dev) (λ core. SegmentsLeft words (setting_of setup schedule planned) core k)
     (λ core left. segments_left words g dev k shape_at forms lents leaves numbers (setting_of setup schedule planned) core (subst (λ n. 0 < n) (sym (length-map setup.images.items seen_image)) some) left) course))

@@ -1,12 +1,11 @@
 -- An entry leads a run on, or ends it.
-use Rattle.std.proofs.Common.{◌≡◌, ◌≢◌, ◌∙◌, ◌<◌, ◌+◌, ◌++◌, ℕ, suc, Bool, true, false, List, [], ◌∷◌, Option, None, Some, IsSomeAnd, ap, append_assoc, arith, length, refl, reverse, slice_get, subst, sym, take}
+use Rattle.std.proofs.Common.{◌≡◌, ◌∙◌, ◌+◌, ◌++◌, ℕ, suc, Bool, false, List, [], ◌∷◌, Option, None, Some, IsSomeAnd, ap, append_assoc, arith, length, refl, reverse, slice_get, subst, sym, take}
 use Rattle.std.proofs.lemmas.Bool.{true≢false}
 use Rattle.std.proofs.lemmas.List.{append-nil, length-append, length-reverse, reverse-append}
 use Rattle.std.proofs.lemmas.List.Concat.{flat_map-append}
 use Rattle.dc_acts.specs.Lines.{text_of, visible_line}
 use Rattle.dc_checkpoint.specs.declared.checkpoint.Checkpoint as checkpoint
-use Rattle.dc_elf.specs.Images.{Image}
-use Rattle.dc_media.proofs.Becoming.{Becomes-then, Becomes-weaker}
+use Rattle.dc_media.proofs.Becoming.{Becomes-then}
 use Rattle.dc_media.specs.Told.{Becomes}
 use Rattle.dc_model.specs.declared.entry.Entry.{Entry}
 use Rattle.dc_model.specs.declared.mark.Mark.{Mark}
@@ -23,9 +22,9 @@ use Rattle.dc_recovery.specs.Turned.{LeadsTo, Turned}
 use Rattle.dc_world.specs.Stages.{IsTold, IsWorld, Stage}
 use Rattle.dc_world.specs.Turns.{GoesOn, HasNoRun, IsTurned, lines_of}
 use Rattle.dc_world.specs.Worlds.{IsCutOff}
-use Rattle.dc_course.specs.Headline.{Last, Setting, Shows, marks_at, system_in, torn_at}
+use Rattle.dc_course.specs.Headline.{Setting, Shows, system_in}
 use Rattle.dc_course.specs.Headline.Last.{Whole, CutOff, Broken}
-use Rattle.dc_course.specs.Running.{IsEnded, IsOfSetting, IsRunning, Output, output}
+use Rattle.dc_course.specs.Running.{IsEnded, IsRunning, Output, output}
 
 -- the system of a setting is sound
 pub sound : (setting : Setting) → IsSound (system_in setting)

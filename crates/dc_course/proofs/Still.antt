@@ -1,17 +1,13 @@
 -- A world over a device that nothing was done to.
-use Rattle.std.proofs.Common.{◌≡◌, ◌∙◌, ◌<◌, ◌⊎◌, ℕ, Bool, true, false, List, Option, None, Some, IsSomeAnd, ap, arith, refl, slice_get, subst, sym}
+use Rattle.std.proofs.Common.{◌≡◌, ℕ, Bool, true, false, List, Option, None, Some, IsSomeAnd, arith, refl, subst, sym}
 use Rattle.dc_checkpoint.specs.States.{Reading}
 use Rattle.dc_checkpoint.specs.declared.checkpoint.Checkpoint as checkpoint
-use Rattle.dc_elf.specs.Images.{Image}
 use Rattle.dc_guest.specs.Guest.{Guest}
-use Rattle.dc_model.specs.declared.entry.Entry.{Entry}
 use Rattle.dc_model.specs.declared.mark.Mark.{Mark}
-use Rattle.dc_model.specs.declared.visible.Visible.{Visible}
 use Rattle.dc_model.specs.Runs.{own}
 use Rattle.dc_proc.proofs.Numbers.{numbered_less}
-use Rattle.dc_proc.specs.Carried.{system}
 use Rattle.dc_proc.specs.Processes.{IsAt}
-use Rattle.dc_proc.specs.Worlds.{IsUp, Seen}
+use Rattle.dc_proc.specs.Worlds.{IsUp}
 use Rattle.dc_protocols.specs.Rules.{is_global}
 use Rattle.dc_recovery.specs.Core.{Core}
 use Rattle.dc_recovery.specs.Systems.{System}

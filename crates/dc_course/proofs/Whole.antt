@@ -1,5 +1,5 @@
 -- A run from its opening to its end.
-use Rattle.std.proofs.Common.{◌≡◌, ◌∙◌, ◌≤◌, ◌<◌, ◌+◌, ◌-◌, ◌^◌, ◌++◌, ℕ, Bool, true, false, List, [], Option, None, Some, ap, arith, length, map, refl, reverse, slice_get, subst, sym, ⊎_elim}
+use Rattle.std.proofs.Common.{◌≡◌, ◌∙◌, ◌≤◌, ◌<◌, ◌-◌, ◌^◌, ◌++◌, ℕ, Bool, true, false, List, [], Option, None, Some, arith, length, refl, subst, sym, ⊎_elim}
 use Rattle.std.proofs.lemmas.Bool.{cases_lt}
 use Rattle.std.proofs.lemmas.List.{append-nil}
 use Rattle.dc_acts.specs.Lines.{text_of}
@@ -11,7 +11,7 @@ use Rattle.dc_guest.specs.Guest.{Guest}
 use Rattle.dc_proc.specs.Processes.{IsAt}
 use Rattle.dc_proc.specs.Worlds.{IsUp}
 use Rattle.dc_recovery.proofs.Unstopping.{determined}
-use Rattle.dc_recovery.specs.Core.{Core, at_start, opened_core}
+use Rattle.dc_recovery.specs.Core.{at_start, opened_core}
 use Rattle.dc_recovery.specs.Systems.{System}
 use Rattle.dc_recovery.specs.Turned.{LeadsTo}
 use Rattle.dc_world.specs.Ended.{HaveEnded}
@@ -25,8 +25,8 @@ use Rattle.dc_world.specs.declared.slot.Slot.TheVariants.{Up, Down}
 use Rattle.dc_course.proofs.Between.{Later}
 use Rattle.dc_course.proofs.Promised.{promised}
 use Rattle.dc_course.proofs.Steps.{steps_whole}
-use Rattle.dc_course.specs.Courses.{IsCourse, Stops, StoresLeft, TellsThroughout, ending_by, ending_of}
-use Rattle.dc_course.specs.Headline.{IsEnding, Last, Setting, StopsTold, marks_at, system_in}
+use Rattle.dc_course.specs.Courses.{IsCourse, Counts, StoresLeft, TellsThroughout, ending_by, ending_of}
+use Rattle.dc_course.specs.Headline.{IsEnding, Last, Setting, PlannedCome, StopsTold, marks_at, system_in}
 use Rattle.dc_course.specs.Headline.Last.{Whole, CutOff, Broken}
 use Rattle.dc_course.specs.declared.ending.Ending.{Ending}
 use Rattle.dc_course.specs.Running.{IsEnded, IsEndedBy, IsRunning, Moment, Output, output}
@@ -97,6 +97,13 @@ pub record Came {C D : Type 0} (g : checkpoint.Ghosts C D) (setting : Setting) (
   pub ended : IsEnded g setting up m.stage m.marks last (output first m.held)
   pub is : IsEnding setting ending m.marks last ended.core
 
+-- and the last one was not whole
+pub record CameBroken {C D : Type 0} (g : checkpoint.Ghosts C D) (setting : Setting) (up : ℕ → Bool) (ending : Ending) (m : Moment C D) (first : Option (List ℕ)) : Type 0 where
+  pub last : Last
+  pub ended : IsEnded g setting up m.stage m.marks last (output first m.held)
+  pub is : IsEnding setting ending m.marks last ended.core
+  pub broken : last ≡ Whole → ⊥
+
 module _ {C D : Type 0} (g : checkpoint.Ghosts C D) (setting : Setting) (up : ℕ → Bool) (m : Moment C D) (first : Option (List ℕ)) where
   -- with its schedule
   pub ending_whole : (b : Bool) (r : IsRunning g setting up m.stage m.marks (output first m.held)) → HaveEnded b (system_in setting).guests r.core → length m.marks ≡ length setting.schedule → Came g setting up (ending_of b) m first
@@ -105,10 +112,10 @@ module _ {C D : Type 0} (g : checkpoint.Ghosts C D) (setting : Setting) (up : �
   ending_whole false r have used = record { last = Whole; ended = steps_whole g setting up m.stage m.marks (output first m.held) r; is = ((used, refl), have) }
 
   -- by a fault
-  pub ending_broken : (f : TurnFault) → IsEndedBy g f setting up m first → Came g setting up (ending_by f) m first
-  ending_broken (fault.Device p) ended = record { last = Broken; ended = ended.0; is = (refl, ended.1) }
+  pub ending_broken : (f : TurnFault) → IsEndedBy g f setting up m first → CameBroken g setting up (ending_by f) m first
+  ending_broken (fault.Device p) ended = record { last = Broken; ended = ended.0; is = (refl, ended.1); broken = λ e. absurd (cc) }
   ending_broken (fault.Store p why) ended = absurd ended
-  ending_broken fault.Sink ended = record { last = CutOff ended.0; ended = ended.1; is = (ended.0, refl, ended.2) }
+  ending_broken fault.Sink ended = record { last = CutOff ended.0; ended = ended.1; is = (ended.0, refl, ended.2); broken = λ e. absurd (cc) }
 
 module _ {C D : Type 0} (g : checkpoint.Ghosts C D) (setting : Setting) (alone : is_global setting.protocol ≡ false) (up : ℕ → Bool) (stores : List C) (dev : D) (w : Processes) (marks : List Mark) (last : Last) (out : Output)
     (ended : IsEnded g setting up (stage_of stores dev w) marks last out) (ready : IsReady g stores dev w) (long : length w.slots.items ≡ length setting.images) (beyond : (p : ℕ) → length setting.images ≤ p → up p ≡ true) where
@@ -131,15 +138,17 @@ module _ {C D : Type 0} (g : checkpoint.Ghosts C D) (setting : Setting) (alone :
   led_up below = subst (λ u. LeadsTo (system_in setting) setting.schedule 0 (opened_core u) (marks_at last marks) ended.core) (λ i p. all_up below p i) ended.led
 
   -- it keeps what it promises
-  pub course_is : (stops : Stops) (ending : Ending) → IsEnding setting ending marks last ended.core → StopsTold setting up marks stops.before stops.after
-      → IsCourse setting (record { acts = w.acts.items; marks = marks; lines = w.lines }) ending out stops (λ core. StoresLeft g setting core dev)
-  course_is stops ending is told = record {
+  pub course_is : (counts : Counts) (ending : Ending) → IsEnding setting ending marks last ended.core → StopsTold setting up marks counts.stops_before counts.stops_after
+      → ((p : ℕ) → p < length setting.images → PlannedCome setting last marks p (counts.calls_before p) (counts.calls_after p))
+      → IsCourse setting (record { acts = w.acts.items; marks = marks; lines = w.lines }) ending out counts (λ core. StoresLeft g setting core dev)
+  course_is counts ending is told come = record {
     last = last;
     up = up;
     core = ended.core;
     headline = promised g setting alone up (stage_of stores dev w) marks last out ended;
     ending_is = is;
     stops_told = told;
+    planned_come = come;
     left = stores_left;
     determined = λ below only whole. determined (system_in setting) setting.schedule only (marks_at last marks) ended.core (led_up below) whole;
   }

@@ -1,7 +1,6 @@
 -- What a whole run promises: of what it lists and shows, of how it ended, and of the devices that it was lent.
-use Rattle.std.specs.Prelude.{◌≡◌, ◌<◌, ◌≤◌, ◌-◌, ◌^◌, ℕ, Bool, true, false, List, IsSomeAnd, Some, length, map, slice_get}
+use Rattle.std.specs.Prelude.{◌≡◌, ◌<◌, ◌-◌, ◌^◌, ℕ, Bool, true, false, List, IsSomeAnd, Some, length, map, slice_get}
 use Rattle.dc_armed.specs.declared.stop.PlannedStop.{PlannedStop}
-use Rattle.dc_checkpoint.specs.States.{Reading}
 use Rattle.dc_checkpoint.specs.declared.checkpoint.Checkpoint as checkpoint
 use Rattle.dc_model.specs.declared.entry.Entry.{Entry}
 use Rattle.dc_plain.specs.Playing.{lists_of, seen_image}
@@ -11,7 +10,7 @@ use Rattle.dc_recovery.specs.Core.{Core}
 use Rattle.dc_recovery.specs.Unstopped.{AreTurns, IsDetermined, Unstopped}
 use Rattle.dc_world.specs.Stages.{IsOwn, decided_by}
 use Rattle.dc_world.specs.declared.opening.Setup.{Setup}
-use Rattle.dc_course.specs.Headline.{Account, IsEnding, IsHeadline, Last, Setting, StopsTold, marks_at, system_in}
+use Rattle.dc_course.specs.Headline.{Account, IsEnding, IsHeadline, Last, PlannedCome, Setting, StopsTold, marks_at, system_in}
 use Rattle.dc_course.specs.Running.{Output}
 use Rattle.dc_course.specs.declared.course.Course.{Course}
 use Rattle.dc_course.specs.declared.ending.Ending.{Ending}
@@ -27,14 +26,16 @@ setting_of setup schedule stops = record { protocol = setup.protocol; images = m
 abbrev pub account_of : Course → Account
 account_of course = record { acts = course.acts.items; marks = course.marks.items; lines = course.lines }
 
--- how many stops of each process's device there were before and after, other than those that were planned
-pub record Stops : Type 0 where
-  pub before : ℕ → ℕ
-  pub after : ℕ → ℕ
+-- what was counted of each process's device before and after: its stops, other than those that were planned, and its calls
+pub record Counts : Type 0 where
+  pub stops_before : ℕ → ℕ
+  pub stops_after : ℕ → ℕ
+  pub calls_before : ℕ → ℕ
+  pub calls_after : ℕ → ℕ
 
 -- these
-abbrev pub stops_of : (ℕ → ℕ) → (ℕ → ℕ) → Stops
-stops_of before after = record { before = before; after = after }
+abbrev pub counts_of : {S : Type 0} → (S → ℕ → ℕ) → (S → ℕ → ℕ) → S → S → Counts
+counts_of stops calls old new = record { stops_before = stops old; stops_after = stops new; calls_before = calls old; calls_after = calls new }
 
 -- the devices of n processes were told before, and no count of theirs stands at its last value after
 pub record TellsThroughout {C D : Type 0} (g : checkpoint.Ghosts C D) (n : ℕ) (old new : D) : Type 0 where
@@ -50,15 +51,16 @@ pub record StoresLeft {C D : Type 0} (g : checkpoint.Ghosts C D) (setting : Sett
   pub lent : (p : ℕ) (c : C) → slice_get stores p ≡ Some c → g.lent c dev
   pub stand : StoresStand (system_in setting) core (decided_by (is_global setting.protocol) (λ d. IsSomeAnd (slice_get stores 0) (λ c. g.numbers c dev d))) (λ p d r. IsSomeAnd (slice_get stores p) (λ c. g.leaves c dev d r))
 
--- A run: it keeps the promise, ended as it says, was stopped no more often than was planned or its devices say, and left its stores so.
-pub record IsCourse (setting : Setting) (run : Account) (ending : Ending) (out : Output) (stops : Stops) (Left : Core → Type 0) : Type 0 where
+-- A run: it keeps the promise, ended as it says, was stopped as planned and no more often than its devices say besides, and left its stores so.
+pub record IsCourse (setting : Setting) (run : Account) (ending : Ending) (out : Output) (counts : Counts) (Left : Core → Type 0) : Type 0 where
   pub last : Last
   -- which processes are up when the run begins
   pub up : ℕ → Bool
   pub core : Core
   pub headline : IsHeadline setting run last up core out.before out.now
   pub ending_is : IsEnding setting ending run.marks last core
-  pub stops_told : StopsTold setting up run.marks stops.before stops.after
+  pub stops_told : StopsTold setting up run.marks counts.stops_before counts.stops_after
+  pub planned_come : (p : ℕ) → p < length setting.images → PlannedCome setting last run.marks p (counts.calls_before p) (counts.calls_after p)
   pub left : Left core
   -- where nothing was stopped, and only turns were given, marks, acts and lines have no choice
   pub determined : ((p : ℕ) → p < length setting.images → up p ≡ true) → AreTurns setting.schedule → Unstopped (marks_at last run.marks)

@@ -1,5 +1,5 @@
 -- What users are promised of a run, wherever its processes are stopped.
-use Rattle.std.specs.Prelude.{◌≡◌, ◌<◌, ◌≤◌, ◌+◌, ◌==◌, ◌&&◌, not, ℕ, Bool, true, false, List, [], ◌∷◌, ◌++◌, if◌then◌else◌, length, reverse, slice_get, take, Option, None, Some, is_some}
+use Rattle.std.specs.Prelude.{◌≡◌, ◌<◌, ◌≤◌, ◌+◌, ◌==◌, ◌&&◌, not, ℕ, Bool, true, false, List, [], ◌∷◌, ◌++◌, if◌then◌else◌, length, reverse, slice_get, take, Option, Some, IfSome, is_some}
 use Rattle.dc_acts.specs.Lines.{text_of, visible_line}
 use Rattle.dc_armed.specs.Stops.{first_stop}
 use Rattle.dc_armed.specs.declared.stop.PlannedStop.{PlannedStop}
@@ -135,6 +135,26 @@ late up = if up then 0 else 1
 abbrev pub StopsTold : Setting → (ℕ → Bool) → List Mark → (ℕ → ℕ) → (ℕ → ℕ) → Type 0
 StopsTold setting up marks before after = (p : ℕ) → p < length setting.images → before p + late (up p) + unplanned setting p (reverse marks) ≤ after p
 
+-- a turn of a process that was not stopped made fewer calls of its device than the one at which the first stop was planned for it
+abbrev pub IsUnstopped : Setting → ℕ → ℕ → Mark → ℕ → ℕ → Type 0
+IsUnstopped setting p turn m before after = is_stopped m ≡ false → is_turn_of p (slice_get setting.schedule turn) ≡ true → IfSome (first_stop setting.stops turn p) (λ stop. after < before + stop.call)
+
+-- the calls of a process's device in a run, entry by entry, by the marks, the last first: before the first entry those of the opening; no planned stop was left out
+abbrev pub StopsCome : Setting → ℕ → List Mark → ℕ → ℕ → Type 0
+StopsCome setting p [] before after = before ≤ after
+StopsCome setting p (m ∷ marks) before after = (from : ℕ) × StopsCome setting p marks before from × (from ≤ after) × IsUnstopped setting p (length marks) m from after
+
+-- so in the whole run; of an entry that a fault ended nothing is said
+pub record PlannedCome (setting : Setting) (last : Last) (marks : List Mark) (p before after : ℕ) : Type 0 where
+  pub made : ℕ
+  pub come : StopsCome setting p (reverse marks) before made
+  pub later : made ≤ after
+  pub whole : last ≡ Whole → made ≡ after
+
 -- from some marks to more, the stops of a process's device that no plan lists are no fewer than those of its turns
 abbrev pub IsCountedOn : Setting → ℕ → List Mark → List Mark → ℕ → ℕ → Type 0
 IsCountedOn setting p old new before after = before + unplanned setting p (reverse new) ≤ after + unplanned setting p (reverse old)
+
+-- and the calls of that device, between which no planned stop was left out
+abbrev pub IsCalledOn : Setting → ℕ → List Mark → List Mark → ℕ → ℕ → Type 0
+IsCalledOn setting p old new from after = (before : ℕ) → StopsCome setting p (reverse old) before from → StopsCome setting p (reverse new) before after

@@ -1,5 +1,5 @@
 -- How far a run has come, and how one ended.
-use Rattle.std.specs.Prelude.{◌≡◌, ◌<◌, ℕ, Bool, true, false, List, ◌++◌, ◌∷◌, [], length, reverse, slice_get, Option, Some}
+use Rattle.std.specs.Prelude.{◌≡◌, ◌<◌, ℕ, Bool, true, false, List, ◌++◌, length, reverse, slice_get, Option, Some}
 use Rattle.dc_acts.specs.Lines.{text_of}
 use Rattle.dc_checkpoint.specs.declared.checkpoint.Checkpoint as checkpoint
 use Rattle.dc_media.specs.Told.{Becomes}

@@ -1,11 +1,11 @@
 -- A run over recoverable memory: what its devices tell, and what they hold at its end.
 use Rattle.std.specs.Prelude.{◌≡◌, ◌<◌, ◌-◌, ◌^◌, ℕ, IsSome, length}
-use Rattle.dc_checkpoint.specs.States.{Form}
+use Rattle.dc_armed.specs.Stops.{capped}
 use Rattle.dc_media.specs.declared.keeps.Keeps as keeps
 use Rattle.dc_proc.specs.Worlds.{StoresStand}
 use Rattle.dc_protocols.specs.Rules.{is_global}
 use Rattle.dc_recovery.specs.Core.{Core}
-use Rattle.dc_vista.specs.Parts.{Parts, parts, segment_words}
+use Rattle.dc_vista.specs.Parts.{parts, segment_words}
 use Rattle.dc_vista.specs.Standing.{Numbers, Shape, StandsFor}
 use Rattle.dc_world.specs.Opened.{whose}
 use Rattle.dc_world.specs.Stages.{decided_by}
@@ -17,6 +17,10 @@ pub record TellsStores {S : Type 0} (words : keeps.Ghosts S) (n : ℕ) (old new 
   pub told : (p : ℕ) → p < n → IsSome (words.told old p)
   pub stops : (p : ℕ) → p < n → words.stops new p < 2 ^ 64 - 1000001
   pub faults : (p : ℕ) → p < n → words.faults new p < 2 ^ 64 - 1
+
+-- counts of 64 bits, which stand still at their last value
+abbrev pub capped_by : {S : Type 0} → (S → ℕ → ℕ) → S → ℕ → ℕ
+capped_by counts s p = capped (counts s p)
 
 -- the segments that a run leaves: that of each process is its own, has the words of its device, and stands for one of the core's saves
 pub record SegmentsLeft {S : Type 0} (words : keeps.Ghosts S) (setting : Setting) (core : Core) (dev : S) : Type 0 where

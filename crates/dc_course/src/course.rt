@@ -1,7 +1,7 @@
 //! A run, from its opening to its end.
 
 ghost use Rattle.std.specs.Prelude.{◌≡◌, ◌<◌, ◌≤◌, ◌+◌, ◌-◌, ◌^◌, ℕ, All, Err, IfOk, OnErr, [], false, length};
-ghost use Rattle.dc_course.specs.Courses.{IsCourse, StoresLeft, TellsThroughout, account_of, ending_by, ending_of, setting_of, stops_of};
+ghost use Rattle.dc_course.specs.Courses.{IsCourse, StoresLeft, TellsThroughout, account_of, counts_of, ending_by, ending_of, setting_of};
 ghost use Rattle.dc_course.specs.Running.{output};
 ghost use Rattle.dc_course.specs.declared.ending.Ending.TheVariants as endings;
 ghost use Rattle.dc_media.specs.Causes.{Rose};
@@ -102,7 +102,7 @@ pub fn run<C: Planned + Drop, O: Sink>(
     requires idle { C.idle dev.old }
     // Where the devices tell what they hold, the promise; and what a fault of a device or of the output says.
     ensures headline { IfOk result (λ course. TellsThroughout C.Checkpoint (length setup.images.items) dev.old dev.new →
-        IsCourse (setting_of setup schedule.now (C.planned dev.old)) (account_of course) course.ending (output (O.held out.old) (O.held out.new)) (stops_of (C.unplanned dev.old) (C.unplanned dev.new))
+        IsCourse (setting_of setup schedule.now (C.planned dev.old)) (account_of course) course.ending (output (O.held out.old) (O.held out.new)) (counts_of C.unplanned C.calls dev.old dev.new)
         (λ core. StoresLeft C.Checkpoint (setting_of setup schedule.now (C.planned dev.old)) core dev.new)) }
     ensures device { IfOk result (λ course. (p : ℕ) → course.ending ≡ endings.Device p → Rose (C.faults dev.old p) (C.faults dev.new p)) }
     ensures sink { IfOk result (λ course. course.ending ≡ endings.Sink → Rose (O.faults out.old) (O.faults out.new)) }

@@ -1,9 +1,9 @@
 //! Runs over recoverable memory.
 
 ghost use Rattle.std.specs.Prelude.{◌≡◌, ◌<◌, ◌≤◌, ℕ, All, Err, IfOk, OnErr, false, length};
-ghost use Rattle.dc_course.specs.Courses.{IsCourse, account_of, setting_of, stops_of};
+ghost use Rattle.dc_course.specs.Courses.{IsCourse, account_of, counts_of, setting_of};
 ghost use Rattle.dc_course.specs.Running.{output};
-ghost use Rattle.dc_course.specs.Segments.{SegmentsLeft, TellsStores};
+ghost use Rattle.dc_course.specs.Segments.{SegmentsLeft, capped_by, TellsStores};
 ghost use Rattle.dc_course.specs.declared.ending.Ending.TheVariants as endings;
 ghost use Rattle.dc_media.specs.Causes.{Rose};
 ghost use Rattle.dc_media.specs.Devices.{of_words};
@@ -38,7 +38,7 @@ pub fn run_on_memory<K: Keeps, O: Sink>(
     requires entries { length schedule.now ≤ 1000000 }
     requires processes { All (IsOfProcesses (length setup.images.items)) schedule.now }
     ensures headline { IfOk result (λ course. TellsStores K.Keeps (length setup.images.items) keeps.old keeps.new →
-        IsCourse (setting_of setup schedule.now stops.items) (account_of course) course.ending (output (O.held out.old) (O.held out.new)) (stops_of (K.stops keeps.old) (K.stops keeps.new))
+        IsCourse (setting_of setup schedule.now stops.items) (account_of course) course.ending (output (O.held out.old) (O.held out.new)) (counts_of K.stops (capped_by K.calls) keeps.old keeps.new)
         (λ core. SegmentsLeft K.Keeps (setting_of setup schedule.now stops.items) core keeps.new)) }
     ensures device { IfOk result (λ course. (p : ℕ) → course.ending ≡ endings.Device p → Rose (K.faults keeps.old p) (K.faults keeps.new p)) }
     ensures sink { IfOk result (λ course. course.ending ≡ endings.Sink → Rose (O.faults out.old) (O.faults out.new)) }

@@ -1,7 +1,9 @@
 //! A run that was opened: one entry after the other.
 
-ghost use Rattle.std.specs.Prelude.{◌≡◌, ◌<◌, ◌≤◌, ◌+◌, ◌-◌, ◌^◌, ℕ, All, IsErrOf, OnErr, OnOk, Some, false, length, slice_get};
-ghost use Rattle.dc_course.specs.Headline.{IsCountedOn, is_planned};
+ghost use Rattle.std.specs.Prelude.{◌≡◌, ◌<◌, ◌≤◌, ◌+◌, ◌-◌, ◌^◌, ℕ, All, IfSome, IsErrOf, IsOk, OnErr, OnOk, Some, false, length, slice_get};
+ghost use Rattle.dc_armed.specs.Armed.{IsUnrefused};
+ghost use Rattle.dc_armed.specs.Stops.{first_stop};
+ghost use Rattle.dc_course.specs.Headline.{IsCalledOn, IsCountedOn, is_planned};
 ghost use Rattle.dc_course.specs.Headline.{Setting as Settings};
 ghost use Rattle.dc_course.specs.Running.{RunsOff, RunsOn, StepsOff, StepsOn, moment_of};
 ghost use Rattle.dc_media.specs.Causes.{Rose};
@@ -35,6 +37,8 @@ fn begin<C: Planned + Drop>(world: &World<C>, dev: &mut C::Device, turn: u32)
     ensures once { (now : C.Device) (p : ℕ) → C.continues dev.new now → C.stops now p + C.unplanned dev.old p ≤ C.unplanned now p + C.stops dev.old p + 1 }
     ensures stopped { (now : C.Device) (p : ℕ) → C.continues dev.new now → is_planned (C.planned dev.old) turn p ≡ false
         → Rose (C.stops dev.old p) (C.stops now p) → C.stops now p < 2 ^ 64 - 1 → C.unplanned dev.old p < C.unplanned now p }
+    ensures comes { (now : C.Device) (p : ℕ) → C.continues dev.new now → IsUnrefused C.stops C.faults p dev.old now
+        → IfSome (first_stop (C.planned dev.old) turn p) (λ stop. C.calls now p < C.calls dev.old p + stop.call) }
 {
     C::at_turn(dev, turn);
 }
@@ -65,6 +69,8 @@ impl<C: Planned + Drop> Running<C> {
         ensures lasts { C.lasts dev.old dev.new }
         ensures stops { (setting : Settings) (p : ℕ) → setting.stops ≡ C.planned dev.old → slice_get setting.schedule (length self.old.marks.items) ≡ Some entry.now → C.stops dev.new p < 2 ^ 64 - 1
             → IsCountedOn setting p self.old.marks.items self.new.marks.items (C.unplanned dev.old p) (C.unplanned dev.new p) }
+        ensures comes { OnOk result ((setting : Settings) (p : ℕ) → setting.stops ≡ C.planned dev.old → slice_get setting.schedule (length self.old.marks.items) ≡ Some entry.now → C.stops dev.new p < 2 ^ 64 - 1 → C.faults dev.new p < 2 ^ 64 - 1
+            → IsCalledOn setting p self.old.marks.items self.new.marks.items (C.calls dev.old p) (C.calls dev.new p)) }
         ensures once { (p : ℕ) → C.stops dev.new p + C.unplanned dev.old p ≤ C.unplanned dev.new p + C.stops dev.old p + 1 }
         ensures later { (p : ℕ) → (C.stops dev.old p ≤ C.stops dev.new p) × (C.faults dev.old p ≤ C.faults dev.new p) }
         ensures tells { (p : ℕ) → KeepsTelling C.Checkpoint dev.old dev.new p }
@@ -106,6 +112,8 @@ impl<C: Planned + Drop> Running<C> {
         ensures lasts { C.lasts dev.old dev.new }
         ensures stops { (setting : Settings) (p : ℕ) → setting.stops ≡ C.planned dev.old → setting.schedule ≡ schedule.now → C.stops dev.new p < 2 ^ 64 - 1
             → IsCountedOn setting p self.old.marks.items self.new.marks.items (C.unplanned dev.old p) (C.unplanned dev.new p) }
+        ensures come { (setting : Settings) (p : ℕ) → setting.stops ≡ C.planned dev.old → setting.schedule ≡ schedule.now → C.stops dev.new p < 2 ^ 64 - 1 → C.faults dev.new p < 2 ^ 64 - 1
+            → (made : ℕ) × IsCalledOn setting p self.old.marks.items self.new.marks.items (C.calls dev.old p) made × (made ≤ C.calls dev.new p) × (IsOk result → made ≡ C.calls dev.new p) }
         ensures planned { (p : ℕ) → C.stops dev.new p + C.unplanned dev.old p ≤ C.unplanned dev.new p + C.stops dev.old p + length schedule.now }
         ensures later { (p : ℕ) → (C.stops dev.old p ≤ C.stops dev.new p) × (C.faults dev.old p ≤ C.faults dev.new p) }
         ensures tells { (p : ℕ) → KeepsTelling C.Checkpoint dev.old dev.new p }

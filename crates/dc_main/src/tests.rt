@@ -2,18 +2,27 @@
 
 mod case;
 mod cases;
+mod devices;
 mod files;
+mod guest_files;
+mod planned;
 
-use case::{holds, is_read, number, numbers, says, text, value};
-use cases::{ANSWERS, CALLS, CHECKS, COMMANDS, GUESTS, PLANS, RUNS, SCHEDULES, SOURCES};
-use dc_memmedia::{MemLibrary, MemSink};
+use case::{Span, holds, is_read, number, numbers, says, span_of, text, told, value};
+use cases::{
+    ANSWERS, CALLS, CHECKS, COMMANDS, GUESTS, LONG, PLANS, RUNS, SCHEDULES, SOURCES, STOPS,
+    TOO_LONG,
+};
+use dc_memmedia::{MemKeeps, MemLibrary, MemSink};
 use dc_model::{Idle, Mark};
-use dc_run::{Outcome, conclude};
-use files::{called, coded, library, words};
+use dc_run::{Did, Outcome, conclude};
+use devices::{called, called_aside, words};
+use guest_files::coded;
+use planned::{library, refused};
 use std::alloc::Global;
 use std::test::Fail;
 
-/// The letter of a mark: `i` where the guest had ended, `s` where it stepped, the number of what it showed.
+/// The letter of a mark: `i` where the guest had ended, `f` where its link was full, `s` where it stepped, the number of what it showed,
+/// `x` where it was stopped in its turn, `m` where it was stopped between turns, `r` where it recovered.
 fn letter(mark: &Mark) -> u8 {
     match *mark {
         Mark::Idle(Idle::Ended) => b'i',
@@ -40,18 +49,21 @@ fn marks_are(case: &str, marks: &[Mark]) -> Result<(), Fail> {
     Ok(())
 }
 
-/// The report that a case says: so many acts, all plain but for the one that it names, and the close line.
+/// Adds the acts of a process in these turns to a report.
+fn add_acts(alloc: Global, case: &str, span: Span, want: &mut String) -> Result<(), Fail> {
+    for turn in span.from..span.to.saturating_add(1) {
+        let told = told(case, turn)?;
+        let act = format!(in alloc; "act {turn} {} {told}\n", span.process)?;
+        want.push_str(&act)?;
+    }
+    Ok(())
+}
+
+/// The report that a case says: its acts and the close line.
 fn wanted_report(alloc: Global, case: &str) -> Result<String, Fail> {
     let mut want = String::from_str(alloc, "dc-report 1\n")?;
-    let other = value(case, "act", "-");
-    for turn in 0..number(case, "acts", "0")? {
-        let front = format!(in alloc; "act {turn} 0 ")?;
-        want.push_str(&front)?;
-        match other.strip_prefix(front.as_str()) {
-            Some(act) => want.push_str(act)?,
-            None => want.push_str("plain")?,
-        }
-        want.push_str("\n")?;
+    for turns in value(case, "acts", "").split_whitespace() {
+        add_acts(alloc, case, span_of(turns)?, &mut want)?;
     }
     want.push_str(value(case, "close", ""))?;
     want.push_str("\n")?;
@@ -98,20 +110,41 @@ fn ends_so(alloc: Global, case: &str, outcome: &Outcome) -> Result<(), Fail> {
     )
 }
 
+/// What comes of a call besides its status is what its case says.
+fn comes_to(
+    alloc: Global,
+    case: &str,
+    outcome: &Outcome,
+    out: &MemSink,
+    report: &MemSink,
+) -> Result<(), Fail> {
+    let ran = outcome.did == Did::Run;
+    holds(ran == says(case, "close"), case, "whether it ran")?;
+    output_is(alloc, case, out)?;
+    report_is(alloc, case, report)?;
+    marks_are(case, outcome.marks.as_slice())
+}
+
 /// A case comes to what it says.
 fn tried(alloc: Global, case: &str) -> Result<(), Fail> {
     is_read(case)?;
     let mut library = library(alloc, case)?;
+    let mut keeps = MemKeeps::new(alloc, refused(alloc, case)?)?;
     let failing = numbers(alloc, case, "write")?;
     let mut out = MemSink::new(alloc, number(case, "room", "100000")?, failing)?;
     let room = number(case, "report_room", "100000")?;
     let mut report = MemSink::new(alloc, room, Vec::new(alloc))?;
     let words = words(alloc, value(case, "words", "dc run plan"))?;
-    let outcome = called(alloc, &words, &mut library, &mut out, &mut report)?;
+    let outcome = called(
+        alloc,
+        &words,
+        &mut library,
+        &mut keeps,
+        &mut out,
+        &mut report,
+    )?;
     ends_so(alloc, case, &outcome)?;
-    output_is(alloc, case, &out)?;
-    report_is(alloc, case, &report)?;
-    marks_are(case, outcome.marks.as_slice())?;
+    comes_to(alloc, case, &outcome, &out, &report)?;
     if says(case, "close") && !fails(case) {
         return passes(alloc, case, &mut library, &out, &report);
     }
@@ -123,7 +156,28 @@ fn fails(case: &str) -> bool {
     says(case, "fetch") || says(case, "write") || says(case, "room") || says(case, "report_room")
 }
 
-/// What a run wrote passes the check: its output, without repeats here, against its report.
+/// How many lines of a text are not as one before.
+fn count_of_new(text: &str) -> usize {
+    let mut count = 0usize;
+    for (place, line) in text.lines().enumerate() {
+        if !text.lines().take(place).any(|before| before == line) {
+            count = count.saturating_add(1);
+        }
+    }
+    count
+}
+
+/// The line of a check that passes: the count of acts, and that of the lines without repeats.
+fn passing(alloc: Global, case: &str) -> Result<String, Fail> {
+    let acts = wanted_report(alloc, case)?
+        .lines()
+        .count()
+        .saturating_sub(2);
+    let lines = count_of_new(&text(alloc, case, "out", "")?);
+    Ok(format!(in alloc; "ok {acts} {lines}\n")?)
+}
+
+/// What a run wrote passes the check.
 fn passes(
     alloc: Global,
     case: &str,
@@ -139,14 +193,11 @@ fn passes(
     words.push(String::from_str(alloc, "written report")?)?;
     words.push(String::from_str(alloc, "written")?)?;
     let mut out = MemSink::new(alloc, 100, Vec::new(alloc))?;
-    let mut none = MemSink::new(alloc, 0, Vec::new(alloc))?;
-    let outcome = called(alloc, &words, library, &mut out, &mut none)?;
+    let outcome = called_aside(alloc, &words, library, &mut out)?;
     holds(outcome.status() == 0, case, "the check passes")?;
-    let acts = number(case, "acts", "0")?;
-    let lines = written.bytes().iter().filter(|c| **c == b'\n').count();
-    let want = format!(in alloc; "ok {acts} {lines}\n")?;
+    let line = passing(alloc, case)?;
     holds(
-        out.bytes() == want.as_bytes(),
+        out.bytes() == line.as_bytes(),
         case,
         "the line of the check",
     )
@@ -203,6 +254,21 @@ fn schedules(rt: HostRuntime) -> Result<(), Fail> {
 }
 
 #[test]
+fn a_long_schedule(rt: HostRuntime) -> Result<(), Fail> {
+    all(rt.alloc(), LONG)
+}
+
+#[test]
+fn a_schedule_too_long(rt: HostRuntime) -> Result<(), Fail> {
+    all(rt.alloc(), TOO_LONG)
+}
+
+#[test]
+fn stops(rt: HostRuntime) -> Result<(), Fail> {
+    all(rt.alloc(), STOPS)
+}
+
+#[test]
 fn sources(rt: HostRuntime) -> Result<(), Fail> {
     all(rt.alloc(), SOURCES)
 }
@@ -231,7 +297,7 @@ fn files_cut_off(rt: HostRuntime) -> Result<(), Fail> {
 fn reports_cut_off(rt: HostRuntime) -> Result<(), Fail> {
     for room in 0..26u32 {
         let ran = format!(in rt.alloc();
-            "ran\nreport_room={room}\nstatus=8\nsaid=dc: sink failed: report~\nout=out 0 0 6869~end 0 1 0~\nacts=7\nclose=close 0 7 7 2\n"
+            "ran\nreport_room={room}\nstatus=8\nsaid=dc: sink failed: report~\nout=out 0 0 6869~end 0 1 0~\nacts=0-6\nclose=close 0 7 7 2\n"
         )?;
         tried(rt.alloc(), &ran)?;
         let idle = format!(in rt.alloc();

@@ -1,12 +1,13 @@
 -- The rows of a plan in their order, taken one at a time.
 use Rattle.std.proofs.Common.{◌≡◌, ◌∙◌, ℕ, List, length, map, Option, Result, Ok, ap, sym}
 use Rattle.std.proofs.lemmas.List.{length-map}
-use Rattle.toml.specs.Data.{Data, Members}
+use Rattle.toml.specs.Data.{Members}
 use Rattle.toml.specs.View.{view}
 use Rattle.toml.specs.declared.value.Value.{Value}
+use Rattle.dc_armed.specs.declared.stop.PlannedStop.{PlannedStop}
 use Rattle.dc_protocols.specs.declared.protocol.Protocol.{Protocol}
-use Rattle.dc_plan.specs.Values.{text_in, text_or_empty}
-use Rattle.dc_plan.specs.Plans.{Plan, protocol_row, medium_row, memory_row, guests_row, inputs_row, schedule_row, seed_row, turns_row, stops_row, rows}
+use Rattle.dc_plan.specs.Values.{text_in}
+use Rattle.dc_plan.specs.Plans.{Plan, protocol_row, medium_row, memory_row, guests_row, inputs_row, schedule_row, seed_row, turns_row, source_of, stops_row, rows}
 use Rattle.dc_words.specs.Results.{◌>>=◌}
 use Rattle.dc_plan.specs.declared.fault.PlanFault.{PlanFault}
 use Rattle.dc_plan.specs.declared.plan.Medium.{Medium}
@@ -21,14 +22,14 @@ names_counted guests = sym (length-map (map view guests) text_in ∙ length-map 
 
 module _ (ms : Members) (protocol : Protocol) (medium : Medium) (memory : ℕ) (guests : List (List ℕ)) (inputs : List (List (List ℕ)))
     (schedule : Option (List ℕ)) (seed turns : Option ℕ) where
-  abbrev pub said : Plan
-  said = record { protocol = protocol; medium = medium; memory = memory; guests = guests; inputs = inputs; schedule = text_or_empty schedule }
+  abbrev pub said : List PlannedStop → Plan
+  said stops = record { protocol = protocol; medium = medium; memory = memory; guests = guests; inputs = inputs; schedule = source_of schedule seed turns; stops = stops }
 
   -- where all rows before the last are good, the last decides
   pub last_row : Ok protocol ≡ protocol_row ms → Ok medium ≡ medium_row ms → Ok memory ≡ memory_row ms → Ok guests ≡ guests_row ms
       → (count : ℕ) → count ≡ length guests → Ok inputs ≡ inputs_row count ms → Ok schedule ≡ schedule_row ms → Ok seed ≡ seed_row ms → Ok turns ≡ turns_row ms
-      → (stops : Result (List Data) PlanFault) → stops ≡ stops_row medium count ms
-      → (stops >>= (λ _. Ok said)) ≡ rows ms
+      → (stops : Result (List PlannedStop) PlanFault) → stops ≡ stops_row medium count ms
+      → (stops >>= (λ planned. Ok (said planned))) ≡ rows ms
   last_row p m s g count same i sch seeded turned stops last = sym (
       bound (protocol_row ms) protocol _ p
       ∙ bound (medium_row ms) medium _ m
@@ -38,4 +39,4 @@ module _ (ms : Members) (protocol : Protocol) (medium : Medium) (memory : ℕ) (
       ∙ bound (schedule_row ms) schedule _ sch
       ∙ bound (seed_row ms) seed _ seeded
       ∙ bound (turns_row ms) turns _ turned
-      ∙ ap (λ r. r >>= (λ _. Ok said)) (sym (last ∙ ap (λ n. stops_row medium n ms) same)))
+      ∙ ap (λ r. r >>= (λ planned. Ok (said planned))) (sym (last ∙ ap (λ n. stops_row medium n ms) same)))

@@ -1,4 +1,7 @@
 mod Views
 mod InOrder
 mod Documents
+mod Passing
+mod Sources
+mod Stopping
 pub mod Allowing

@@ -1,19 +1,20 @@
 -- What a plan says, and the first rule that it breaks.
 --
 -- A text that is no document comes first, then a key that no plan or no stop has, then the rows, a row for each key: whether the key is missing, its value of another kind, too many, out of range.
-use Rattle.std.specs.Prelude.{bytes_eq, ◌≡◌, ℕ, ◌%◌, ◌==◌, List, [], length, map, replicate, codes, Bool, true, ◌||◌, ◌&&◌, not, Option, Some, None, is_some, Result, Ok, Err, if◌then◌else◌, nat_le, string_bytes}
+use Rattle.std.specs.Prelude.{bytes_eq, ◌≡◌, ℕ, ◌%◌, ◌==◌, List, [], length, map, replicate, codes, Bool, true, ◌||◌, ◌&&◌, not, Option, Some, None, is_some, Result, Ok, Err, if◌then◌else◌, nat_le, string_bytes, unwrap_or}
 use Rattle.std.specs.List.{list_all}
 use Rattle.std.specs.Str.{is_utf8}
 use Rattle.toml.specs.Data.{Data, Members, get_member}
 use Rattle.toml.specs.Parse.{parse_document}
 use Rattle.dc_words.specs.Hex.{bytes_of_hex}
 use Rattle.dc_words.specs.Results.{◌>>=◌, or_fault}
+use Rattle.dc_armed.specs.declared.stop.PlannedStop.{PlannedStop}
 use Rattle.dc_protocols.specs.declared.protocol.Protocol.{Protocol}
 use Rattle.dc_protocols.specs.declared.protocol.Protocol.TheVariants as protocol
 use Rattle.dc_plan.specs.Keys.{key_text, is_key}
 use Rattle.dc_plan.specs.Values.{is_array_of, is_between, is_text, is_whole, items_in, names_in, natural_in, text_in, text_or_empty}
-use Rattle.dc_plan.specs.Built.{is_built, is_medium_built, most_guests, are_seeds_built, most_stops_built}
-use Rattle.dc_plan.specs.Stops.{has_stop_keys, has_stop_kinds, has_stop_ranges, is_complete}
+use Rattle.dc_plan.specs.Built.{is_built, is_medium_built}
+use Rattle.dc_plan.specs.Stops.{has_stop_keys, has_stop_kinds, has_stop_ranges, is_complete, stop_of}
 use Rattle.dc_plan.specs.declared.fault.PlanError.{PlanError}
 use Rattle.dc_plan.specs.declared.fault.PlanError.TheVariants as error
 use Rattle.dc_plan.specs.declared.fault.PlanFault.{PlanFault}
@@ -23,6 +24,13 @@ use Rattle.dc_plan.specs.declared.keys.Key.TheVariants as key
 use Rattle.dc_plan.specs.declared.plan.Medium.{Medium}
 use Rattle.dc_plan.specs.declared.plan.Medium.TheVariants as medium
 use Rattle.dc_plan.specs.declared.plan.Plan as declared
+use Rattle.dc_plan.specs.declared.plan.ScheduleSource.{ScheduleSource}
+use Rattle.dc_plan.specs.declared.plan.ScheduleSource.TheVariants as source
+
+-- where the entries of a run come from: the file of that name, or so many drawn from a seed
+pub data Source : Type 0 where
+  InFile : (name : List ℕ) → Source
+  FromSeed : (start turns : ℕ) → Source
 
 -- what a plan says
 pub record Plan : Type 0 where
@@ -31,7 +39,8 @@ pub record Plan : Type 0 where
   pub memory : ℕ
   pub guests : List (List ℕ)
   pub inputs : List (List (List ℕ))
-  pub schedule : List ℕ
+  pub schedule : Source
+  pub stops : List PlannedStop
 
 -- the value at a key
 abbrev pub at_key : Key → Members → Option Data
@@ -84,9 +93,9 @@ medium_row ms = needed key.Medium ms >>= (λ d. tested key.Medium (is_text d) tr
 abbrev pub memory_row : Members → Result ℕ PlanFault
 memory_row ms = needed key.Memory ms >>= (λ d. tested key.Memory (is_whole d) true (is_between 65536 1048576 d && natural_in d % 4096 == 0) (natural_in d))
 
--- guests: the names of their files
+-- guests: up to 8 names of their files
 abbrev pub guests_row : Members → Result (List (List ℕ)) PlanFault
-guests_row ms = needed key.Guests ms >>= (λ d. tested key.Guests (is_array_of is_text d) (nat_le (length (items_in d)) most_guests) (nat_le 1 (length (items_in d)))
+guests_row ms = needed key.Guests ms >>= (λ d. tested key.Guests (is_array_of is_text d) (nat_le (length (items_in d)) 8) (nat_le 1 (length (items_in d)))
     (map text_in (items_in d)))
 
 -- the bytes of a record, by its text
@@ -132,7 +141,7 @@ schedule_row ms = if has key.Schedule ms || has key.Seed ms
 -- seed: a whole number below 2^63, and not beside a schedule
 abbrev pub seed_row : Members → Result (Option ℕ) PlanFault
 seed_row ms = optional None (λ d. tested key.Seed (is_whole d) true
-    (are_seeds_built && (not (has key.Schedule ms) && is_between 0 9223372036854775807 d)) (Some (natural_in d))) (at_key key.Seed ms)
+    (not (has key.Schedule ms) && is_between 0 9223372036854775807 d) (Some (natural_in d))) (at_key key.Seed ms)
 
 -- turns: up to a million, needed with a seed, and not beside a schedule
 abbrev pub turns_row : Members → Result (Option ℕ) PlanFault
@@ -140,17 +149,18 @@ turns_row ms = if has key.Turns ms || not (has key.Seed ms)
     then optional None (λ d. tested key.Turns (is_whole d) true (not (has key.Schedule ms) && is_between 0 1000000 d) (Some (natural_in d))) (at_key key.Turns ms)
     else Err (Missing key.Turns)
 
--- each is in its range, and no more of them than are built
-abbrev pub are_stops_right : Medium → ℕ → Data → Bool
-are_stops_right medium guests d = list_all (has_stop_ranges medium guests) (items_in d) && nat_le (length (items_in d)) most_stops_built
-
 -- stop: up to 1,000 tables of the keys of a stop; none where the key is absent
-abbrev pub stops_row : Medium → ℕ → Members → Result (List Data) PlanFault
+abbrev pub stops_row : Medium → ℕ → Members → Result (List PlannedStop) PlanFault
 stops_row medium guests ms = optional [] (λ d. if list_all is_complete (items_in d)
-    then tested key.Stop (is_array_of has_stop_kinds d) (nat_le (length (items_in d)) 1000) (are_stops_right medium guests d) (items_in d)
+    then tested key.Stop (is_array_of has_stop_kinds d) (nat_le (length (items_in d)) 1000) (list_all (has_stop_ranges medium guests) (items_in d)) (map stop_of (items_in d))
     else Err (Missing key.Stop)) (at_key key.Stop ms)
 
--- the keys in the order of their tests. No schedule is absent here, as no seed is taken
+-- the file where there is one, and else the seed with its turns, neither of which is absent then
+abbrev pub source_of : Option (List ℕ) → Option ℕ → Option ℕ → Source
+source_of (Some name) seed turns = InFile name
+source_of None seed turns = FromSeed (unwrap_or seed 0) (unwrap_or turns 0)
+
+-- the keys in the order of their tests
 abbrev pub rows : Members → Result Plan PlanFault
 rows ms =
     protocol_row ms >>= (λ protocol.
@@ -162,7 +172,7 @@ rows ms =
     seed_row ms >>= (λ seed.
     turns_row ms >>= (λ turns.
     stops_row medium (length guests) ms >>= (λ stops.
-    Ok (record { protocol = protocol; medium = medium; memory = memory; guests = guests; inputs = inputs; schedule = text_or_empty schedule }))))))))))
+    Ok (record { protocol = protocol; medium = medium; memory = memory; guests = guests; inputs = inputs; schedule = source_of schedule seed turns; stops = stops }))))))))))
 
 -- the items of the value at a key
 abbrev pub items_at : Option Data → List Data
@@ -181,6 +191,11 @@ plan_from ms = if has_known_keys ms then rows ms else Err Unknown
 unfoldable pub plan_of : List ℕ → Result Plan PlanFault
 plan_of bytes = or_fault Text (if is_utf8 bytes then parse_document bytes else None) >>= plan_from
 
+-- the source of a plan in the code
+abbrev pub source_view : ScheduleSource → Source
+source_view (source.File name) = InFile (string_bytes name)
+source_view (source.Seed seed) = FromSeed seed.start seed.turns
+
 -- a plan in the code
 abbrev pub plan_view : declared.Plan → Plan
 plan_view plan = record {
@@ -189,7 +204,8 @@ plan_view plan = record {
   memory = plan.memory;
   guests = map string_bytes plan.guests.items;
   inputs = map (λ records. records.items) plan.inputs.items;
-  schedule = string_bytes plan.schedule;
+  schedule = source_view plan.schedule;
+  stops = plan.stops.items;
 }
 
 -- a result is this one, if it is not for want of memory

@@ -7,6 +7,7 @@ mod inputs;
 mod keys;
 mod parts;
 mod plan;
+mod planned;
 mod reading;
 mod rows;
 mod stops;
@@ -14,8 +15,7 @@ mod stops;
 mod tests;
 mod values;
 
-pub use built::ARE_STOP_LINES_BUILT;
 pub use fault::{PlanError, PlanFault};
 pub use keys::Key;
-pub use plan::{Medium, Plan};
+pub use plan::{Medium, Plan, ScheduleSource, Seed};
 pub use reading::read_plan;

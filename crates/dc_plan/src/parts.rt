@@ -32,8 +32,14 @@ pub struct Parts<'a> {
     pub guests: &'a [Value],
     /// The lists of the guests' records, if there are any.
     pub inputs: Option<&'a [Value]>,
-    /// The name of the schedule's file. It is there, as no seed is taken yet.
+    /// The name of the schedule's file. Where there is none, a seed and its turns are there.
     pub schedule: Option<&'a str>,
+    /// What the turns are drawn from.
+    pub seed: Option<u64>,
+    /// How many turns are drawn.
+    pub turns: Option<u32>,
+    /// The tables of the stops.
+    pub stops: &'a [Value],
 }
 
 fn are_keys(table: &Table) -> bool
@@ -78,9 +84,9 @@ fn rows_in(table: &Table) -> Result<Parts<'_>, PlanFault>
     let guests = guests_in(table)?;
     let inputs = inputs_in(guests.len(), table)?;
     let schedule = schedule_in(table)?;
-    seed_in(table)?;
-    turns_in(table)?;
-    stops_in(medium, guests.len(), table)?;
+    let seed = seed_in(table)?;
+    let turns = turns_in(table)?;
+    let stops = stops_in(medium, guests.len(), table)?;
     Ok(Parts {
         protocol,
         medium,
@@ -88,6 +94,9 @@ fn rows_in(table: &Table) -> Result<Parts<'_>, PlanFault>
         guests,
         inputs,
         schedule,
+        seed,
+        turns,
+        stops,
     })
 }
 

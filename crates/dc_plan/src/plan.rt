@@ -1,3 +1,4 @@
+use dc_armed::PlannedStop;
 use dc_links::Message;
 use dc_protocols::Protocol;
 
@@ -10,8 +11,26 @@ pub enum Medium {
     Disk,
 }
 
-/// What a run is to be.
+/// From what the entries of a schedule are drawn.
+#[derive(Clone, Copy, Debug, PartialEq, Eq)]
+pub struct Seed {
+    /// What the generator begins with.
+    pub start: u64,
+    /// How many entries are drawn.
+    pub turns: u32,
+}
+
+/// Where the schedule comes from.
 #[derive(Debug, Drop)]
+pub enum ScheduleSource {
+    /// It is in that file.
+    File(String),
+    /// It is drawn from a seed.
+    Seed(Seed),
+}
+
+/// What a run is to be.
+#[derive(Drop)]
 pub struct Plan {
     /// When processes commit and what they log.
     pub protocol: Protocol,
@@ -23,6 +42,8 @@ pub struct Plan {
     pub guests: Vec<String>,
     /// The records that each guest reads, one list for each.
     pub inputs: Vec<Vec<Message>>,
-    /// The file of the schedule.
-    pub schedule: String,
+    /// Where the schedule comes from.
+    pub schedule: ScheduleSource,
+    /// The calls at which processes are stopped.
+    pub stops: Vec<PlannedStop>,
 }

@@ -1,16 +1,19 @@
-ghost use Rattle.std.specs.Prelude.{◌≡◌, [], IfOk, List, length, map, replicate, string_bytes};
+ghost use Rattle.std.specs.Prelude.{◌≡◌, [], All, IfOk, List, length, map, option_map, replicate, string_bytes};
 ghost use Rattle.std.specs.Str.{is_utf8};
 ghost use Rattle.toml.specs.View.{view};
 ghost use Rattle.dc_plan.specs.Values.{items_in, text_in};
-ghost use Rattle.dc_plan.specs.Plans.{IsExact, plan_of, plan_view, input_record_of};
+ghost use Rattle.dc_plan.specs.Plans.{IsExact, plan_of, plan_view, input_record_of, source_of, source_view};
 ghost use Rattle.dc_plan.specs.Allowed.{IsAllowed};
+ghost use Rattle.dc_plan.specs.Stops.{HasRoom, stop_of};
 ghost use Rattle.dc_plan.specs.Parts.{parts_view};
 
 use crate::fault::{PlanError, PlanFault};
 use crate::inputs::input_record_of;
 use crate::parts::{Parts, parts_in};
-use crate::plan::Plan;
+use crate::plan::{Plan, ScheduleSource, Seed};
+use crate::planned::stop_of;
 use crate::values::{items_in, text_in};
+use dc_armed::PlannedStop;
 use dc_links::Message;
 use std::alloc::{AllocError, Global};
 use std::str::from_utf8;
@@ -60,8 +63,39 @@ fn no_inputs(alloc: Global, guests: usize) -> Result<Vec<Vec<Message>>, AllocErr
     Ok(inputs)
 }
 
+/// What some tables of stops say.
+fn stops_of(alloc: Global, values: &[Value]) -> Result<Vec<PlannedStop>, AllocError>
+    requires { All (λ value. HasRoom (stop_of (view value))) values.now }
+    ensures { IfOk result (λ stops. stops.items ≡ map stop_of (map view values.now)) }
+{
+    let mut stops = Vec::new(alloc);
+    for value in values {
+        stops.push(stop_of(value))?;
+    }
+    Ok(stops)
+}
+
+/// The file where there is one, and else the seed with its turns.
+fn source_of(
+    alloc: Global,
+    schedule: Option<&str>,
+    seed: Option<u64>,
+    turns: Option<u32>,
+) -> Result<ScheduleSource, AllocError>
+    ensures { IfOk result (λ source. source_view source ≡ source_of (option_map (λ name. name.now) schedule.entry) seed turns) }
+{
+    match schedule {
+        Some(name) => Ok(ScheduleSource::File(String::from_str(alloc, name)?)),
+        None => Ok(ScheduleSource::Seed(Seed {
+            start: seed.unwrap_or(0),
+            turns: turns.unwrap_or(0),
+        })),
+    }
+}
+
 /// A copy of what the parts say.
 fn copied(alloc: Global, parts: &Parts) -> Result<Plan, AllocError>
+    requires { All (λ value. HasRoom (stop_of (view value))) parts.now.stops.now }
     ensures { IfOk result (λ plan. plan_view plan ≡ parts_view parts.now) }
 {
     let guests = texts_of(alloc, parts.guests)?;
@@ -69,7 +103,8 @@ fn copied(alloc: Global, parts: &Parts) -> Result<Plan, AllocError>
         Some(lists) => inputs_of(alloc, lists)?,
         None => no_inputs(alloc, parts.guests.len())?,
     };
-    let schedule = String::from_str(alloc, parts.schedule.unwrap_or(""))?;
+    let schedule = source_of(alloc, parts.schedule, parts.seed, parts.turns)?;
+    let stops = stops_of(alloc, parts.stops)?;
     Ok(Plan {
         protocol: parts.protocol,
         medium: parts.medium,
@@ -77,6 +112,7 @@ fn copied(alloc: Global, parts: &Parts) -> Result<Plan, AllocError>
         guests,
         inputs,
         schedule,
+        stops,
     })
 }
 

@@ -4,9 +4,10 @@ ghost use Rattle.std.specs.List.{list_all};
 ghost use Rattle.toml.specs.View.{view, table_view};
 ghost use Rattle.dc_plan.specs.Values.{is_array_of, is_text, items_in, text_in};
 ghost use Rattle.dc_plan.specs.Plans.{guests_row, has, inputs_row, inputs_said, medium_named, medium_row, memory_row, needed, protocol_named, protocol_row, schedule_row, seed_row, stops_row, turns_row};
+ghost use Rattle.dc_plan.specs.Stops.{stop_of};
 ghost use Rattle.dc_words.specs.Results.{seen};
 
-use crate::built::{ARE_SEEDS_BUILT, MOST_GUESTS, is_built, is_medium_built};
+use crate::built::{is_built, is_medium_built};
 use crate::fault::PlanFault;
 use crate::inputs::{are_inputs_few, are_inputs_right, is_array_of_lists};
 use crate::keys::{Key, at_key};
@@ -22,6 +23,9 @@ const LEAST_MEMORY: u32 = 65_536;
 const MOST_MEMORY: u32 = 1_048_576;
 
 const PAGE: u32 = 4_096;
+
+/// The most guests.
+const MOST_GUESTS: usize = 8;
 
 /// The most turns that are drawn from a seed.
 const MOST_TURNS: u32 = 1_000_000;
@@ -176,7 +180,7 @@ pub fn schedule_in(table: &Table) -> Result<Option<&str>, PlanFault>
     }
 }
 
-/// The seed. None is taken yet.
+/// The seed.
 pub fn seed_in(table: &Table) -> Result<Option<u64>, PlanFault>
     ensures { result ≡ seed_row (table_view table.now) }
 {
@@ -187,7 +191,7 @@ pub fn seed_in(table: &Table) -> Result<Option<u64>, PlanFault>
         return Err(PlanFault::Kind(Key::Seed));
     };
     match u64::try_from(number) {
-        Ok(seed) if ARE_SEEDS_BUILT && !has(Key::Schedule, table) => Ok(Some(seed)),
+        Ok(seed) if !has(Key::Schedule, table) => Ok(Some(seed)),
         _ => Err(PlanFault::Range(Key::Seed)),
     }
 }
@@ -212,9 +216,9 @@ pub fn turns_in(table: &Table) -> Result<Option<u32>, PlanFault>
     }
 }
 
-/// The stops.
+/// The tables of the stops.
 pub fn stops_in(medium: Medium, guests: usize, table: &Table) -> Result<&[Value], PlanFault>
-    ensures { seen (λ stops. map view stops.now) result ≡ stops_row medium guests (table_view table.now) }
+    ensures { seen (λ stops. map stop_of (map view stops.now)) result ≡ stops_row medium guests (table_view table.now) }
 {
     let Some(value) = at_key(Key::Stop, table) else {
         return Ok(&[]);

@@ -1,11 +1,16 @@
 //! What a plan's text comes to. The rows of the tables are `keys|text|fault`: the plan below without the lines of the keys, and
 //! with the text at its end, has that fault, or none. In the text `~` stands for a line feed.
 
-use crate::{Key, Medium, Plan, PlanError, PlanFault, read_plan};
+use crate::keys::at_key;
+use crate::planned::stop_of;
+use crate::values::items_in;
+use crate::{Key, Medium, Plan, PlanError, PlanFault, ScheduleSource, read_plan};
+use dc_armed::PlannedStop;
 use dc_links::Message;
 use dc_protocols::Protocol;
 use std::alloc::{AllocError, Global};
 use std::test::Fail;
+use toml::Table;
 
 /// A plan that is read, key by key.
 const LINES: [(&str, &str); 5] = [
@@ -87,6 +92,8 @@ const READ: &str = "\
 ||
 protocol|protocol = 'cpvs'|
 protocol|protocol = 'cbndvs'|
+protocol|protocol = 'cand-log'|
+protocol|protocol = 'cbndvs-log'|
 memory|memory = 69632|
 memory|memory = 1048576|
 memory|memory = 65_536|
@@ -95,12 +102,13 @@ memory|\"memory\" = 65536|
 memory|'memory' = +65536 # bytes|
 guests|guests = [~  'b', # one~]|
 guests|guests = ['']|
+guests|guests = ['a', 'a']~inputs = [['00'], []]|
+guests|guests = ['1', '2', '3', '4', '5', '6', '7', '8']|
 schedule|schedule = \"\\u0073\"|
 |\r~# CR LF\r~inputs = [[]]\r~|
 |inputs = [['']]|
 |inputs = [['00ff', 'abcdef0123456789']]|
 |inputs = [['0123456789abcdef0123456789abcdef0123456789abcdef0123456789abcdef0123456789abcdef0123456789abcdef0123456789abcdef0123456789abcdef']]|
-|stop = []|
 |inputs = [[]]~stop = []|
 guests memory|memory = 131072~guests = ['a']|
 protocol|protocol = '''~cand'''|
@@ -140,8 +148,6 @@ protocol|protocol = 1|kind protocol
 protocol|protocol = ['cand']|kind protocol
 protocol|protocol = 'CAND'|range protocol
 protocol|protocol = ''|range protocol
-protocol|protocol = 'cand-log'|range protocol
-protocol|protocol = 'cbndvs-log'|range protocol
 protocol|protocol = 'cpv-2pc'|range protocol
 protocol|protocol = 'cbndv-2pc'|range protocol
 protocol medium|protocol = 'cpv'|range protocol
@@ -185,10 +191,10 @@ guests||missing guests
 guests|guests = 'a'|kind guests
 guests|guests = [1]|kind guests
 guests|guests = ['a', 'b', 1]|kind guests
-guests|guests = ['a', 'b']|too many guests
 guests|guests = ['1', '2', '3', '4', '5', '6', '7', '8', '9']|too many guests
 guests|guests = []|range guests
 guests|guests = []~inputs = 1|range guests
+guests|guests = ['a', 'b']~inputs = [[]]|range inputs
 ";
 
 #[test]
@@ -223,10 +229,13 @@ schedule|turns = 1|missing schedule
 schedule|schedule = 1|kind schedule
 schedule|schedule = ['s']~seed = 'x'|kind schedule
 schedule|seed = 'x'~turns = 1|kind seed
-schedule|seed = 0~turns = 1|range seed
-schedule|seed = -1~turns = 1|range seed
-schedule|seed = 9223372036854775807~turns = 1|range seed
-schedule|seed = 0|range seed
+schedule|seed = -1~turns = 'x'|range seed
+schedule|seed = 0|missing turns
+schedule|seed = 0~stop = 1|missing turns
+schedule|seed = 0~turns = 'x'|kind turns
+schedule|seed = 0~turns = 1000001|range turns
+schedule|seed = 0~turns = -1|range turns
+schedule|seed = 0~turns = 0~stop = 1|kind stop
 |seed = 1.0|kind seed
 |seed = 1|range seed
 |seed = 1~turns = 'x'|range seed
@@ -263,7 +272,9 @@ const STOPS: &str = "\
 |stop = [{turn = 0, process = 0, call = 0, keep = 0}]|range stop
 |stop = [{turn = 0, process = 0, call = 1, keep = 4000000001}]|range stop
 |stop = [{turn = 0, process = 0, call = 1, keep = 0, fill = 0}]|range stop
-|[[stop]]~turn = 0~process = 0~call = 1~keep = 0|range stop
+|[[stop]]~turn = 0~process = 0~call = 4000000001~keep = 0|range stop
+|[[stop]]~turn = 0~process = 0~call = 1~keep = -1|range stop
+guests|guests = ['1', '2', '3', '4', '5', '6', '7', '8']~stop = [{turn = 0, process = 8, call = 1, keep = 0}]|range stop
 ";
 
 #[test]
@@ -275,7 +286,7 @@ fn has_values(plan: &Plan) -> Result<(), Fail> {
     holds(plan.protocol == Protocol::Cbndvs, "protocol")?;
     holds(plan.medium == Medium::Rio, "medium")?;
     holds(plan.memory == 1048576, "memory")?;
-    holds(plan.schedule.as_str() == "turns", "schedule")
+    holds(plan.stops.is_empty(), "stops")
 }
 
 fn has_guest(guests: &[String]) -> Result<(), Fail> {
@@ -307,6 +318,7 @@ fn a_plan_says_its_values(rt: HostRuntime) -> Result<(), Fail> {
         "protocol = \"cbndvs\"\nmedium = \"rio\"\nmemory = 1048576\nguests = [\"ping\"]\ninputs = [[\"6f6b\", \"\"]]\nschedule = \"turns\"\n";
     let plan = read_plan(rt.alloc(), text.as_bytes())?;
     has_values(&plan)?;
+    is_source(rt.alloc(), &plan.schedule, "file=turns")?;
     has_guest(&plan.guests)?;
     is_input(&plan.inputs, &[b"ok".as_slice(), b"".as_slice()])
 }
@@ -355,7 +367,118 @@ fn members_are_counted(rt: HostRuntime) -> Result<(), Fail> {
     )?;
     let stop = "{turn = -1, process = 0, call = 1, keep = 0},";
     counted(alloc, "stop = [", stop, 1_000, "]", "range stop")?;
-    counted(alloc, "stop = [", stop, 1_001, "]", "too many stop")
+    counted(alloc, "stop = [", stop, 1_001, "]", "too many stop")?;
+    counted(alloc, "stop = [1,", stop, 1_001, "]", "kind stop")?;
+    counted(alloc, "stop = [1, {},", stop, 1_001, "]", "missing stop")?;
+    let stop = "{turn = 0, process = 0, call = 1, keep = 0},";
+    counted(alloc, "stop = [", stop, 1_000, "]", "")
+}
+
+/// What a source says, as text.
+fn source_text(alloc: Global, source: &ScheduleSource) -> Result<String, AllocError> {
+    match source {
+        ScheduleSource::File(name) => format!(in alloc; "file={}", name.as_str()),
+        ScheduleSource::Seed(seed) => format!(in alloc; "seed {} {}", seed.start, seed.turns),
+    }
+}
+
+fn is_source(alloc: Global, source: &ScheduleSource, want: &str) -> Result<(), Fail> {
+    let told = source_text(alloc, source)?;
+    holds(told.as_str() == want, want)
+}
+
+/// What a stop says, as text: its turn, process and call, what it keeps and what it fills.
+fn stop_text(alloc: Global, stop: &PlannedStop) -> Result<String, AllocError> {
+    let mut text = format!(in alloc;
+        "{} {} {} {}",
+        stop.turn, stop.process, stop.call, stop.tear.keep
+    )?;
+    if let Some(byte) = stop.tear.fill {
+        text.push_str(" ")?;
+        text.push_str(format!(in alloc; "{byte}")?.as_str())?;
+    }
+    Ok(text)
+}
+
+/// What a plan says of its schedule and its stops, as text.
+fn plan_text(alloc: Global, plan: &Plan) -> Result<String, AllocError> {
+    let mut text = source_text(alloc, &plan.schedule)?;
+    for stop in &plan.stops {
+        text.push_str("; ")?;
+        text.push_str(stop_text(alloc, stop)?.as_str())?;
+    }
+    Ok(text)
+}
+
+/// Plans with what they say of their schedule and their stops.
+const SAID: &str = "\
+schedule|schedule = ''|file=
+schedule|seed = 0~turns = 0|seed 0 0
+schedule|turns = 3~seed = 7|seed 7 3
+schedule|seed = 9223372036854775807~turns = 1000000|seed 9223372036854775807 1000000
+|stop = []|file=s
+|[[stop]]~turn = 0~process = 0~call = 1~keep = 0|file=s; 0 0 1 0
+guests schedule|guests = ['1', '2', '3', '4', '5', '6', '7', '8']~seed = 7~turns = 3~stop = [{turn = 999999, process = 7, call = 4000000000, keep = 4000000000}, {keep = 4, call = 3, process = 2, turn = 1}]|seed 7 3; 999999 7 4000000000 4000000000; 1 2 3 4
+";
+
+fn plan_says(alloc: Global, row: &str) -> Result<(), Fail> {
+    let Some((removed, rest)) = row.split_once('|') else {
+        return Err(Fail::new("a row without a plan"));
+    };
+    let Some((added, want)) = rest.split_once('|') else {
+        return Err(Fail::new("a row without a text"));
+    };
+    let added = added.replace(alloc, "~", "\n")?;
+    let text = changed(alloc, removed, added.as_str())?;
+    let plan = read_plan(alloc, text.as_bytes())?;
+    let told = plan_text(alloc, &plan)?;
+    holds(told.as_str() == want, row)
+}
+
+#[test]
+fn a_plan_says_its_schedule_and_stops(rt: HostRuntime) -> Result<(), Fail> {
+    for row in SAID.lines() {
+        plan_says(rt.alloc(), row)?;
+    }
+    Ok(())
+}
+
+/// Tables of stops with a byte that fills, which no medium that is built takes, and what they say.
+const TABLES: &str = "\
+keep = 4, call = 3, process = 2, turn = 1, fill = 5|1 2 3 4 5
+turn = 0, process = 0, call = 1, keep = 0, fill = 0|0 0 1 0 0
+turn = 0, process = 0, call = 1, keep = 0, fill = 255|0 0 1 0 255
+";
+
+fn first_stop(table: &Table) -> Result<PlannedStop, Fail> {
+    match at_key(Key::Stop, table) {
+        Some(value) => match items_in(value) {
+            [stop] => Ok(stop_of(stop)),
+            _ => Err(Fail::new("another number of stops")),
+        },
+        None => Err(Fail::new("no stops")),
+    }
+}
+
+fn stop_says(alloc: Global, row: &str) -> Result<(), Fail> {
+    let Some((keys, want)) = row.split_once('|') else {
+        return Err(Fail::new("a row without a text"));
+    };
+    let text = format!(in alloc; "stop = [{{{keys}}}]")?;
+    let Ok(table) = toml::table_from_str(alloc, text.as_str()) else {
+        return Err(Fail::new(row));
+    };
+    let stop = first_stop(&table)?;
+    let told = stop_text(alloc, &stop)?;
+    holds(told.as_str() == want, row)
+}
+
+#[test]
+fn a_stop_says_its_numbers(rt: HostRuntime) -> Result<(), Fail> {
+    for row in TABLES.lines() {
+        stop_says(rt.alloc(), row)?;
+    }
+    Ok(())
 }
 
 fn has_text(alloc: Global, fault: PlanFault, text: &str) -> Result<(), Fail> {

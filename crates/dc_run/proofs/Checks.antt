@@ -1,22 +1,29 @@
 -- What a check was answered, by what its work was.
-use Rattle.std.proofs.Common.{◌≡◌, ◌⊎◌, ◌+◌, ◌<◌, ◌≤◌, inl, inr, zero, suc, ℕ, All, List, [], ◌∷◌, Option, None, Some, IfSome, IsOkAnd, IsSome, IsSomeAnd, Result, Ok, Err, String, true, false, ap, arith, length, refl, slice_index_or, subst, sym}
+use Rattle.std.proofs.Common.{◌≡◌, ◌∙◌, ◌+◌, ◌<◌, ◌≤◌, inl, inr, zero, suc, ℕ, All, List, [], ◌∷◌, Option, None, Some, IfSome, IsOkAnd, IsSome, Result, Ok, Err, String, true, ap, arith, length, refl, slice_index_or, subst, sym}
+use Rattle.std.proofs.lemmas.List.{length-map}
 use Rattle.std.specs.declared.alloc.Global.{Global}
 use Rattle.dc_acts.specs.Reading.{AreActs, Report}
 use Rattle.dc_model.specs.declared.act.Taken.{Taken}
+use Rattle.dc_plain.specs.Playing.{seen_image}
+use Rattle.dc_plan.specs.Plans.{Plan}
 use Rattle.dc_words.specs.Results.{◌>>=◌}
-use Rattle.dc_run.specs.Checking.{AsksToCheck, Checked, Concluded, Found, checked_in, found_in, passed_by, report_in}
+use Rattle.dc_run.specs.Checking.{AsksToCheck, Checked, Concluded, Found, checked_in, found_at_end, found_in, passed_by, report_for, report_in}
 use Rattle.dc_run.specs.Command.{Names, asked_of}
 use Rattle.dc_run.specs.Command.Asked.{ToCheck}
-use Rattle.dc_run.specs.Commands.{Asks, IfCheck, IsExact, IsOpenedFor, work_of}
+use Rattle.dc_run.specs.Commands.{Asks, IfCheck, IsExact, work_of}
 use Rattle.dc_run.specs.Commands.Work.{Check}
-use Rattle.dc_run.specs.Opening.{AsksToRun, Files, Setting, opening_of}
-use Rattle.dc_run.specs.Settings.{is_free, is_refusal, was_opened}
+use Rattle.dc_course.specs.Headline.{Setting}
+use Rattle.dc_run.specs.Opening.{AsksToRun, Files, file_in, opening_of, plan_in}
+use Rattle.dc_run.specs.Refusals.{as_verdict}
+use Rattle.dc_run.specs.Settings.{is_refusal, setting_of}
+use Rattle.dc_run.specs.declared.setting.Setting as code
 use Rattle.dc_run.specs.declared.outcome.Outcome.{Outcome}
+use Rattle.dc_run.specs.declared.refusal.Refusal.{Refusal}
 use Rattle.dc_run.specs.declared.verdict.Verdict.{Verdict}
 use Rattle.dc_run.specs.declared.verdict.Verdict.TheVariants.{LibraryFault}
 use Rattle.dc_run.specs.declared.verdict.Which.{Which}
 use Rattle.dc_run.specs.declared.verdict.Which.TheVariants as which
-use Rattle.dc_run.proofs.Works.{exact_named, exact_refusal, exact_work, refused_work}
+use Rattle.dc_run.proofs.Works.{exact_named, exact_refusal, exact_work}
 
 -- the acts of a report are of its processes, and few
 one_more : (n : ℕ) (x : Taken) (acts : List Taken) → x.p < n → All (λ y. y.p < n) acts → (k : ℕ) (d : Taken) → k < length (x ∷ acts) → (slice_index_or (x ∷ acts) k d).p < n
@@ -35,30 +42,40 @@ pub acts_few : (n : ℕ) (acts : List Taken) → AreActs n 0 acts → length act
 acts_few n acts are = let few = few_from n 0 acts (omega arith) are in omega (arith, few)
 
 -- a file that a run asks for
-nothing_there : (o : Option (List ℕ)) → IsSomeAnd o (λ text. ⊥) → ⊥
-nothing_there None asks = asks
-nothing_there (Some text) asks = asks
+nothing_there : (r : Result Plan Refusal) → IsOkAnd r (λ plan. ⊥) → ⊥
+nothing_there (Err refusal) asks = asks
+nothing_there (Ok plan) asks = asks
 
 pub asked_of_run : (files : Files) (names : Names) (w : Which) → AsksToRun files names.plan w → AsksToCheck files names w
 asked_of_run files names which.Plan asks = asks
 asked_of_run files names (which.Guest p) asks = asks
 asked_of_run files names which.Schedule asks = asks
-asked_of_run files names which.Report asks = absurd (nothing_there (files names.plan) asks)
-asked_of_run files names which.Out asks = absurd (nothing_there (files names.plan) asks)
-asked_of_run files names which.Source asks = absurd (nothing_there (files names.plan) asks)
+asked_of_run files names which.Report asks = absurd (nothing_there (plan_in files names.plan) asks)
+asked_of_run files names which.Out asks = absurd (nothing_there (plan_in files names.plan) asks)
+asked_of_run files names which.Source asks = absurd (nothing_there (plan_in files names.plan) asks)
 
 -- the report, and the output
 pub asked_report : (files : Files) (names : Names) (setting : Setting) (w : Which) → opening_of files names.plan ≡ Ok setting → w ≡ which.Report → IsSome (files names.report) → AsksToCheck files names w
 asked_report files names setting w opens is there = subst (AsksToCheck files names) (sym is) (rw opens there)
 
-pub asked_output : (files : Files) (names : Names) (setting : Setting) (report : Report) (w : Which) → opening_of files names.plan ≡ Ok setting → report_in files names.report ≡ Ok report
+pub asked_output : (files : Files) (names : Names) (setting : Setting) (report : Report) (w : Which) → opening_of files names.plan ≡ Ok setting → report_for files setting names.report ≡ Ok report
     → w ≡ which.Out → IsSome (files names.out) → AsksToCheck files names w
 asked_output files names setting report w opens reads is there = subst (AsksToCheck files names) (sym is) (rw (opens, reads) there)
+
+-- the report for the guests of a setting
+pub read_for : (files : Files) (setting : code.Setting) (n : ℕ) (name : List ℕ) (told : Result Report Refusal) → n ≡ length setting.images.items → report_in files n name ≡ told
+    → report_for files (setting_of setting) name ≡ told
+read_for files setting n name told same e = subst (λ k. report_in files k name ≡ told) (same ∙ sym (length-map setting.images.items seen_image)) e
+
+-- what is found, where the setting and the report are there
+pub found_by : (files : Files) (names : Names) (setting : Setting) (report : Report) → opening_of files names.plan ≡ Ok setting → report_for files setting names.report ≡ Ok report
+    → found_in files names ≡ (file_in files which.Out names.out >>= found_at_end setting report)
+found_by files names setting report opens reads = rw (opens, reads) refl
 
 -- what was found decides
 module _ (files : Files) (names : Names) where
   found_passes : (f : Found) → found_in files names ≡ Ok f → checked_in files names ≡ passed_by f
-  found_passes f e = ap (λ (r : Result Found Verdict). r >>= passed_by) e
+  found_passes f e = ap (λ (r : Result Found Refusal). as_verdict r >>= passed_by) e
 
   by_outcome : (told : Result Checked Verdict) (o : Outcome) (before after : Option (List ℕ)) (refusal : Verdict) → is_refusal refusal ≡ true → Concluded told o before after → IsExact o.verdict refusal told
   by_outcome (Ok checked) o before after refusal is done = exact_work o.verdict refusal (Ok checked) checked is refl (inl done.0)
@@ -67,16 +84,6 @@ module _ (files : Files) (names : Names) where
   pub found_exact : (f : Found) (o : Outcome) (before after : Option (List ℕ)) (refusal : Verdict) → found_in files names ≡ Ok f → is_refusal refusal ≡ true → Concluded (passed_by f) o before after
       → IsExact o.verdict refusal (checked_in files names)
   found_exact f o before after refusal e is done = subst (λ (told : Result Checked Verdict). IsExact o.verdict refusal told) (sym (found_passes f e)) (by_outcome (passed_by f) o before after refusal is done)
-
-  not_found : (v : Verdict) → (is_free v ≡ true) ⊎ (found_in files names ≡ Err v) → (is_free v ≡ true) ⊎ (checked_in files names ≡ Err v)
-  not_found v (inl free) = inl free
-  not_found v (inr e) = inr (ap (λ (r : Result Found Verdict). r >>= passed_by) e)
-
-  pub unfound_exact : (v answered refusal : Verdict) → answered ≡ v → (is_free v ≡ true) ⊎ (found_in files names ≡ Err v) → is_refusal refusal ≡ true → IsExact answered refusal (checked_in files names)
-  unfound_exact v answered refusal same told is = subst (λ (w : Verdict). IsExact w refusal (checked_in files names)) (sym same) (exact_refusal v refusal (checked_in files names) is (not_found v told))
-
-  pub unfound_opened : (v answered : Verdict) → answered ≡ v → was_opened v ≡ false → (is_free v ≡ true) ⊎ (found_in files names ≡ Err v) → IsOpenedFor answered (checked_in files names)
-  unfound_opened v answered same closed told = subst (λ (w : Verdict). IsOpenedFor w (checked_in files names)) (sym same) (refused_work v (checked_in files names) closed (not_found v told))
 
 -- the same of the words
 pub check_exact : (known : Option Files) (words : List (String Global)) (names : Names) → asked_of words ≡ Some (ToCheck names) → (v refusal : Verdict)

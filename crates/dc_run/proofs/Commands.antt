@@ -7,6 +7,7 @@ use Rattle.dc_run.specs.Command.Asked.{ToRun, ToAssemble}
 use Rattle.dc_run.specs.Commands.{Asks, IsExact, IsOpenedFor, work_of}
 use Rattle.dc_run.specs.Commands.Work.{Run, Assembly}
 use Rattle.dc_run.specs.Opening.{Files, AsksToRun, opening_of}
+use Rattle.dc_run.specs.Refusals.{as_verdict}
 use Rattle.dc_run.specs.Settings.{is_free, was_opened}
 use Rattle.dc_run.specs.declared.verdict.Verdict.{Verdict}
 use Rattle.dc_run.specs.declared.verdict.Verdict.TheVariants.{LibraryFault, Usage, WantOfMemory}
@@ -15,9 +16,9 @@ use Rattle.dc_run.specs.declared.verdict.Which.TheVariants.{Source}
 use Rattle.dc_run.proofs.Works.{exact_named, for_known, refused_work}
 
 pub run_exact : (known : Option Files) (words : List (String Global)) (plan : List ℕ) → asked_of words ≡ Some (ToRun plan) → (v refusal : Verdict)
-    → IfSome known (λ files. IsExact v refusal (opening_of files plan)) → IfSome known (λ files. IsExact v refusal (work_of files words))
+    → IfSome known (λ files. IsExact v refusal (as_verdict (opening_of files plan))) → IfSome known (λ files. IsExact v refusal (work_of files words))
 run_exact None words plan asked v refusal is = tt
-run_exact (Some files) words plan asked v refusal is = rw asked (exact_named Run v refusal (opening_of files plan) is)
+run_exact (Some files) words plan asked v refusal is = rw asked (exact_named Run v refusal (as_verdict (opening_of files plan)) is)
 
 pub assembly_exact : (known : Option Files) (words : List (String Global)) (source : List ℕ) → asked_of words ≡ Some (ToAssemble source) → (v refusal : Verdict)
     → IfSome known (λ files. IsExact v refusal (program_in files source)) → IfSome known (λ files. IsExact v refusal (work_of files words))

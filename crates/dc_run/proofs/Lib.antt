@@ -1,6 +1,5 @@
-mod Turns
 mod Works
 mod Commands
 mod Openings
-mod Headlines
 mod Checks
+mod Headlines

@@ -1,10 +1,12 @@
 -- What is answered for work that the told files give or refuse.
-use Rattle.std.proofs.Common.{◌≡◌, ◌∙◌, ◌⊎◌, inl, inr, Bool, true, false, not, ◌&&◌, Option, None, Some, IfSome, Result, Ok, Err, ap, refl, sym}
+use Rattle.std.proofs.Common.{◌≡◌, ◌∙◌, ◌⊎◌, inl, inr, Bool, true, false, not, ◌&&◌, Option, None, Some, IfSome, Result, Ok, Err, ap, refl, subst, sym}
 use Rattle.std.proofs.lemmas.Bool.{true≢false}
 use Rattle.dc_run.specs.Commands.{IsExact, IsOpenedFor}
 use Rattle.dc_words.specs.Results.{◌>>=◌}
 use Rattle.dc_run.specs.Opening.{Files}
-use Rattle.dc_run.specs.Settings.{is_free, is_refusal, was_opened}
+use Rattle.dc_run.specs.Refusals.{as_verdict, verdict_of}
+use Rattle.dc_run.specs.Settings.{is_free, is_free_refusal, is_refusal, was_opened}
+use Rattle.dc_run.specs.declared.refusal.Refusal.{Refusal}
 use Rattle.dc_run.specs.declared.verdict.Verdict.{Verdict}
 
 pub for_known : (known : Option Files) {P : Files → Type 0} → ((files : Files) → known ≡ Some files → P files) → IfSome known P
@@ -44,3 +46,16 @@ module _ {A B : Type 0} (f : A → B) (v refusal : Verdict) where
   pub exact_named : (told : Result A Verdict) → IsExact v refusal told → IsExact v refusal (told >>= λ x. Ok (f x))
   exact_named (Ok x) is = record { only = λ e. absurd (let never : ⊥ = let no : ◌≡◌ {A = Result A Verdict} (Ok x) (Err refusal) = is.only e in cc in never); where_told = λ e. absurd (let never : ⊥ = cc in never) }
   exact_named (Err told) is = record { only = λ e. let same : ◌≡◌ {A = Result A Verdict} (Err told) (Err refusal) = is.only e in cc; where_told = λ e. is.where_told (let same : told ≡ refusal = cc in ap Err same) }
+
+-- a refusal that is told, by its verdict
+pub told_verdict : {A : Type 0} (r : Refusal) (told : Result A Refusal) → (is_free_refusal r ≡ true) ⊎ (told ≡ Err r) → (is_free (verdict_of r) ≡ true) ⊎ (as_verdict told ≡ Err (verdict_of r))
+told_verdict r told (inl free) = inl free
+told_verdict r told (inr e) = inr (ap (λ (x : Result _ Refusal). as_verdict x) e)
+
+-- the same, where other work would go on from there
+pub told_before : {A B : Type 0} (v : Verdict) (told : Result A Verdict) (goes_on : A → Result B Verdict) → (is_free v ≡ true) ⊎ (told ≡ Err v) → (is_free v ≡ true) ⊎ ((told >>= goes_on) ≡ Err v)
+told_before v told goes_on (inl free) = inl free
+told_before v told goes_on (inr e) = inr (rw e refl)
+
+pub refused_exact : {A : Type 0} (v answered refusal : Verdict) (told : Result A Verdict) → answered ≡ v → is_refusal refusal ≡ true → (is_free v ≡ true) ⊎ (told ≡ Err v) → IsExact answered refusal told
+refused_exact v answered refusal told same is agrees = subst (λ (u : Verdict). IsExact u refusal told) (sym same) (exact_refusal v refusal told is agrees)

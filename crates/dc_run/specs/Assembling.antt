@@ -7,6 +7,7 @@ use Rattle.dc_asm.specs.declared.forms.Meant.{Meant}
 use Rattle.dc_media.specs.Told.{Becomes}
 use Rattle.dc_words.specs.Results.{◌>>=◌}
 use Rattle.dc_run.specs.Opening.{Files, file_in}
+use Rattle.dc_run.specs.Refusals.{as_verdict}
 use Rattle.dc_run.specs.Settings.{is_free}
 use Rattle.dc_run.specs.declared.outcome.Outcome.{Outcome}
 use Rattle.dc_run.specs.declared.verdict.Did.TheVariants.{Assembled}
@@ -22,7 +23,7 @@ program_or_fault (Err fault) = Err (AsmRefused fault)
 
 -- the program of the source of this name, or the refusal that comes first
 abbrev pub program_in : Files → List ℕ → Result (List Meant) Verdict
-program_in files name = file_in files Source name >>= (λ text. program_or_fault (program_of text))
+program_in files name = as_verdict (file_in files Source name) >>= (λ text. program_or_fault (program_of text))
 
 -- the file of the told program, or its refusal, where no free verdict takes its place
 abbrev pub IsMade : Result (Vec ℕ Global) Verdict → Result (List Meant) Verdict → Type 0

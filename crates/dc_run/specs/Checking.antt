@@ -9,14 +9,17 @@ use Rattle.dc_model.specs.declared.act.Taken.{Taken}
 use Rattle.dc_words.specs.Results.{◌>>=◌}
 use Rattle.dc_run.specs.Assembling.{WritesOut}
 use Rattle.dc_run.specs.Command.{Names}
-use Rattle.dc_run.specs.Headline.{guests}
-use Rattle.dc_run.specs.Opening.{AsksToRun, Files, Setting, file_in, opening_of}
+use Rattle.dc_course.specs.Headline.{Setting}
+use Rattle.dc_run.specs.Opening.{AsksToRun, Files, file_in, guests, opening_of}
+use Rattle.dc_run.specs.Refusals.{as_verdict}
 use Rattle.dc_run.specs.Settings.{differing_line, was_opened}
 use Rattle.dc_run.specs.declared.checking.Found as code
 use Rattle.dc_run.specs.declared.outcome.Outcome.{Outcome}
+use Rattle.dc_run.specs.declared.refusal.Refusal.{Refusal}
+use Rattle.dc_run.specs.declared.refusal.Refusal.TheVariants as refusal
 use Rattle.dc_run.specs.declared.verdict.Did.TheVariants as did
 use Rattle.dc_run.specs.declared.verdict.Verdict.{Verdict}
-use Rattle.dc_run.specs.declared.verdict.Verdict.TheVariants.{Differs, NotARun, ReportRefused}
+use Rattle.dc_run.specs.declared.verdict.Verdict.TheVariants.{Differs, NotARun}
 use Rattle.dc_run.specs.declared.verdict.Which.{Which}
 use Rattle.dc_run.specs.declared.verdict.Which.TheVariants as which
 
@@ -31,24 +34,28 @@ pub record Checked : Type 0 where
   pub visibles : ℕ
 
 -- the report, or the fault of its first faulty line
-abbrev pub report_or_fault : Result Report ReportFault → Result Report Verdict
+abbrev pub report_or_fault : Result Report ReportFault → Result Report Refusal
 report_or_fault (Ok report) = Ok report
-report_or_fault (Err fault) = Err (ReportRefused fault)
+report_or_fault (Err fault) = Err (refusal.Report fault)
 
 -- with the setting and the report, from the bytes of the output
-abbrev pub found_at_end : Setting → Report → List ℕ → Result Found Verdict
+abbrev pub found_at_end : Setting → Report → List ℕ → Result Found Refusal
 found_at_end setting report out = Ok (record { acts = report.acts; finding = finding_of (guests setting) setting.schedule report.acts out })
 
--- the report of this name
-abbrev pub report_in : Files → List ℕ → Result Report Verdict
-report_in files name = file_in files which.Report name >>= (λ text. report_or_fault (report_of 1 text))
+-- the report of this name, for n guests
+abbrev pub report_in : Files → ℕ → List ℕ → Result Report Refusal
+report_in files n name = file_in files which.Report name >>= (λ text. report_or_fault (report_of n text))
+
+-- the report of this name, for the guests of a setting
+abbrev pub report_for : Files → Setting → List ℕ → Result Report Refusal
+report_for files setting name = report_in files (length setting.images) name
 
 -- with the setting
-abbrev pub found_at_setting : Files → Names → Setting → Result Found Verdict
-found_at_setting files names setting = report_in files names.report >>= (λ report. file_in files which.Out names.out >>= found_at_end setting report)
+abbrev pub found_at_setting : Files → Names → Setting → Result Found Refusal
+found_at_setting files names setting = report_for files setting names.report >>= (λ report. file_in files which.Out names.out >>= found_at_end setting report)
 
 -- what a run is opened with, then the report, then the output: the first that is refused decides
-abbrev pub found_in : Files → Names → Result Found Verdict
+abbrev pub found_in : Files → Names → Result Found Refusal
 found_in files names = opening_of files names.plan >>= found_at_setting files names
 
 -- an output that passes, or how it is refused
@@ -63,7 +70,7 @@ passed_by f = passed f.acts f.finding
 
 -- the output that passes, or the refusal that comes first
 abbrev pub checked_in : Files → Names → Result Checked Verdict
-checked_in files names = found_in files names >>= passed_by
+checked_in files names = as_verdict (found_in files names) >>= passed_by
 
 -- what is written of an output that passes
 abbrev pub passed_text : ℕ → ℕ → List ℕ
@@ -98,6 +105,6 @@ TellsLine o = option_map (λ (difference : Difference). difference.line) o.diffe
 -- which files a check asks for and finds: those of a run, and the others once those before them were there and were not refused
 abbrev pub AsksToCheck : Files → Names → Which → Type 0
 AsksToCheck files names which.Report = IsOkAnd (opening_of files names.plan) (λ setting. IsSome (files names.report))
-AsksToCheck files names which.Out = IsOkAnd (opening_of files names.plan) (λ setting. IsOkAnd (report_in files names.report) (λ report. IsSome (files names.out)))
+AsksToCheck files names which.Out = IsOkAnd (opening_of files names.plan) (λ setting. IsOkAnd (report_for files setting names.report) (λ report. IsSome (files names.out)))
 AsksToCheck files names which.Source = ⊥
 AsksToCheck files names which = AsksToRun files names.plan which

@@ -7,7 +7,9 @@ use Rattle.dc_run.specs.Checking.{AsksToCheck, Checked, Found, checked_in, found
 use Rattle.dc_run.specs.Command.{Asked, asked_of}
 use Rattle.dc_run.specs.Command.Asked.{ToRun, ToCheck, ToAssemble}
 use Rattle.dc_words.specs.Results.{◌>>=◌, or_fault}
-use Rattle.dc_run.specs.Opening.{Files, Setting, AsksToRun, opening_of}
+use Rattle.dc_course.specs.Headline.{Setting}
+use Rattle.dc_run.specs.Opening.{Files, AsksToRun, opening_of}
+use Rattle.dc_run.specs.Refusals.{as_verdict}
 use Rattle.dc_run.specs.Settings.{is_free, was_opened}
 use Rattle.dc_run.specs.declared.verdict.Verdict.{Verdict}
 use Rattle.dc_run.specs.declared.verdict.Verdict.TheVariants.{Usage}
@@ -22,7 +24,7 @@ pub data Work : Type 0 where
 
 -- what there is to carry out, by what is asked for
 abbrev pub work_by : Files → Asked → Result Work Verdict
-work_by files (ToRun plan) = opening_of files plan >>= (λ setting. Ok (Run setting))
+work_by files (ToRun plan) = as_verdict (opening_of files plan) >>= (λ setting. Ok (Run setting))
 work_by files (ToCheck names) = checked_in files names >>= (λ checked. Ok (Check checked))
 work_by files (ToAssemble source) = program_in files source >>= (λ program. Ok (Assembly program))
 

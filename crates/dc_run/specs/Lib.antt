@@ -1,8 +1,8 @@
 pub mod Command
-pub mod Answers
 pub mod Headline
 pub mod Outcomes
-pub mod Running
+pub mod Refusals
+pub mod Single
 pub mod Opening
 pub mod Settings
 pub mod Assembling

@@ -1,91 +1,110 @@
 -- What a run is opened with, by the told files, or the refusal that comes first.
-use Rattle.std.specs.Prelude.{◌≡◌, ℕ, List, [], Option, None, Some, IsOkAnd, IsSome, IsSomeAnd, Result, Ok, Err, if◌then◌else◌, slice_index_or}
+use Rattle.std.specs.Prelude.{ℕ, suc, List, [], ◌∷◌, Option, None, Some, IsOkAnd, IsSome, IsSomeAnd, Result, Ok, Err, length, slice_get, take}
+use Rattle.dc_course.specs.Headline.{Setting}
 use Rattle.dc_elf.specs.Files.{file_fault}
 use Rattle.dc_elf.specs.Images.{Image, image_of}
 use Rattle.dc_elf.specs.declared.faults.ElfFault.{ElfFault}
-use Rattle.dc_words.specs.Results.{◌>>=◌, or_fault}
-use Rattle.dc_plan.specs.Plans.{Plan, plan_of}
-use Rattle.dc_plan.specs.declared.fault.PlanFault.{PlanFault}
+use Rattle.dc_guest.specs.Guest.{Guest, guests_of}
+use Rattle.dc_model.specs.Guests.{Guests}
 use Rattle.dc_model.specs.declared.entry.Entry.{Entry}
-use Rattle.dc_plan.specs.Built.{are_stop_lines_built}
-use Rattle.dc_schedule.specs.Schedules.{schedule_of, turns_of}
+use Rattle.dc_plan.specs.Plans.{Plan, Source, InFile, FromSeed, plan_of}
+use Rattle.dc_plan.specs.declared.fault.PlanFault.{PlanFault}
+use Rattle.dc_schedule.specs.Generated.{generated}
+use Rattle.dc_schedule.specs.Schedules.{schedule_of}
 use Rattle.dc_schedule.specs.declared.fault.ScheduleFault.{ScheduleFault}
-use Rattle.dc_run.specs.declared.verdict.Verdict.{Verdict}
-use Rattle.dc_run.specs.declared.verdict.Verdict.TheVariants.{PlanRefused, GuestRefused, Missing, ScheduleRefused}
+use Rattle.dc_words.specs.Results.{◌>>=◌, or_fault}
+use Rattle.dc_run.specs.declared.refusal.Refusal.{Refusal}
+use Rattle.dc_run.specs.declared.refusal.Refusal.TheVariants as refusal
 use Rattle.dc_run.specs.declared.verdict.Which.{Which}
-use Rattle.dc_run.specs.declared.verdict.Which.TheVariants.{Plan as ThePlan, Guest, Schedule}
+use Rattle.dc_run.specs.declared.verdict.Which.TheVariants as which
 
--- the guest's image, the records of each guest's input, and the schedule
-pub record Setting : Type 0 where
-  pub image : Image
-  pub inputs : List (List (List ℕ))
-  pub schedule : List Entry
+-- the guests of a setting
+abbrev pub guests : Setting → Guests Guest
+guests setting = guests_of setting.images setting.inputs
 
 -- told files: the bytes of each name
 abbrev pub Files : Type 0
 Files = List ℕ → Option (List ℕ)
 
 -- the file that a command wants there, or the refusal
-abbrev pub file_in : Files → Which → List ℕ → Result (List ℕ) Verdict
-file_in files which name = or_fault (Missing which) (files name)
-
--- the image, or the fault of the guest's file
-abbrev pub image_or_fault : Option ElfFault → Image → Result Image Verdict
-image_or_fault None image = Ok image
-image_or_fault (Some fault) image = Err (GuestRefused 0 fault)
-
--- the image of the guest's file in a memory of this size
-abbrev pub guest_in : ℕ → List ℕ → Result Image Verdict
-guest_in size file = image_or_fault (file_fault file size) (image_of size file)
+abbrev pub file_in : Files → Which → List ℕ → Result (List ℕ) Refusal
+file_in files which name = or_fault (refusal.Missing which) (files name)
 
 -- the plan, or the rule that it breaks first
-abbrev pub plan_in : Result Plan PlanFault → Result Plan Verdict
-plan_in (Ok plan) = Ok plan
-plan_in (Err fault) = Err (PlanRefused fault)
+abbrev pub plan_or_fault : Result Plan PlanFault → Result Plan Refusal
+plan_or_fault (Ok plan) = Ok plan
+plan_or_fault (Err fault) = Err (refusal.Plan fault)
 
--- the name of the one guest's file
-abbrev pub guest_name : Plan → List ℕ
-guest_name plan = slice_index_or plan.guests 0 []
+-- the plan of this name
+abbrev pub plan_in : Files → List ℕ → Result Plan Refusal
+plan_in files name = file_in files which.Plan name >>= (λ text. plan_or_fault (plan_of text))
 
--- the schedule of a text, by what is built of its lines
-abbrev pub schedule_of_plan : ℕ → List ℕ → Result (List Entry) ScheduleFault
-schedule_of_plan n text = if are_stop_lines_built then schedule_of n text else turns_of n text
+-- the image, or the fault of the file of guest p
+abbrev pub image_or_fault : ℕ → Option ElfFault → Image → Result Image Refusal
+image_or_fault p None image = Ok image
+image_or_fault p (Some fault) image = Err (refusal.Guest p fault)
+
+-- the image of a file in a memory of this size, as that of guest p
+abbrev pub guest_of : ℕ → ℕ → List ℕ → Result Image Refusal
+guest_of size p file = image_or_fault p (file_fault file size) (image_of size file)
+
+-- the image of guest p, whose file has this name
+abbrev pub guest_in : Files → ℕ → ℕ → List ℕ → Result Image Refusal
+guest_in files size p name = file_in files (which.Guest p) name >>= guest_of size p
+
+-- the images of the guests from number p on, by the names of their files: the first that is missing or refused decides
+abbrev pub images_in : Files → ℕ → ℕ → List (List ℕ) → Result (List Image) Refusal
+images_in files size p [] = Ok []
+images_in files size p (name ∷ names) = guest_in files size p name >>= (λ image. images_in files size (suc p) names >>= (λ images. Ok (image ∷ images)))
 
 -- the schedule, or the fault of its first faulty line
-abbrev pub schedule_in : Result (List Entry) ScheduleFault → Result (List Entry) Verdict
-schedule_in (Ok schedule) = Ok schedule
-schedule_in (Err fault) = Err (ScheduleRefused fault)
+abbrev pub schedule_or_fault : Result (List Entry) ScheduleFault → Result (List Entry) Refusal
+schedule_or_fault (Ok schedule) = Ok schedule
+schedule_or_fault (Err fault) = Err (refusal.Schedule fault)
 
--- with the plan and the image, from the bytes of the schedule
-abbrev pub opening_at_end : Plan → Image → List ℕ → Result Setting Verdict
-opening_at_end plan image text = schedule_in (schedule_of_plan 1 text) >>= (λ schedule. Ok (record { image = image; inputs = plan.inputs; schedule = schedule }))
+-- the schedule of n guests: that of the file, or the one that is drawn from the seed
+abbrev pub schedule_in : Files → ℕ → Source → Result (List Entry) Refusal
+schedule_in files n (InFile name) = file_in files which.Schedule name >>= (λ text. schedule_or_fault (schedule_of n text))
+schedule_in files n (FromSeed start turns) = Ok (generated start turns n)
 
--- with the plan, from the bytes of the guest
-abbrev pub opening_at_guest : Files → Plan → List ℕ → Result Setting Verdict
-opening_at_guest files plan file = guest_in plan.memory file >>= (λ image. file_in files Schedule plan.schedule >>= opening_at_end plan image)
+-- with the plan, the images and the schedule
+abbrev pub setting_with : Plan → List Image → List Entry → Setting
+setting_with plan images schedule = record { protocol = plan.protocol; images = images; inputs = plan.inputs; schedule = schedule; stops = plan.stops }
 
--- from the bytes of the plan
-abbrev pub opening_at_plan : Files → List ℕ → Result Setting Verdict
-opening_at_plan files text = plan_in (plan_of text) >>= (λ plan. file_in files (Guest 0) (guest_name plan) >>= opening_at_guest files plan)
+-- with the plan and the images
+abbrev pub opening_at_images : Files → Plan → List Image → Result Setting Refusal
+opening_at_images files plan images = schedule_in files (length images) plan.schedule >>= (λ schedule. Ok (setting_with plan images schedule))
 
--- the plan, the guest, the schedule: the first that is refused decides
-abbrev pub opening_of : Files → List ℕ → Result Setting Verdict
-opening_of files name = file_in files ThePlan name >>= opening_at_plan files
+-- with the plan
+abbrev pub opening_at_plan : Files → Plan → Result Setting Refusal
+opening_at_plan files plan = images_in files plan.memory 0 plan.guests >>= opening_at_images files plan
+
+-- the plan, the guests in order, the schedule: the first that is missing or refused decides
+abbrev pub opening_of : Files → List ℕ → Result Setting Refusal
+opening_of files name = plan_in files name >>= opening_at_plan files
 
 -- Which files a run asks for and finds: one only after those before it were there and were not refused.
 
--- with the plan, from the bytes of the guest
-abbrev pub AsksAtGuest : Files → Plan → List ℕ → Which → Type 0
-AsksAtGuest files plan file Schedule = (file_fault file plan.memory ≡ None) × IsSome (files plan.schedule)
-AsksAtGuest files plan file _ = ⊥
+-- the file of guest q is there, and so is that of each guest before it, which is not refused
+abbrev pub AsksForGuest : Files → ℕ → List (List ℕ) → ℕ → Type 0
+AsksForGuest files size names q = IsOkAnd (images_in files size 0 (take q names)) (λ images. IsSomeAnd (slice_get names q) (λ name. IsSome (files name)))
 
--- from the bytes of the plan
-abbrev pub AsksAtPlan : Files → List ℕ → Which → Type 0
-AsksAtPlan files text (Guest p) = (p ≡ 0) × IsOkAnd (plan_of text) (λ plan. IsSome (files (guest_name plan)))
-AsksAtPlan files text Schedule = IsOkAnd (plan_of text) (λ plan. IsSomeAnd (files (guest_name plan)) (λ file. AsksAtGuest files plan file Schedule))
-AsksAtPlan files text _ = ⊥
+-- a schedule's file is there; a seed has none
+abbrev pub IsSourceThere : Files → Source → Type 0
+IsSourceThere files (InFile name) = IsSome (files name)
+IsSourceThere files (FromSeed start turns) = ⊥
+
+-- each guest's file is there and not refused, and so is the schedule's there
+abbrev pub AsksForSchedule : Files → Plan → Type 0
+AsksForSchedule files plan = IsOkAnd (images_in files plan.memory 0 plan.guests) (λ images. IsSourceThere files plan.schedule)
+
+-- with the plan
+abbrev pub AsksAtPlan : Files → Plan → Which → Type 0
+AsksAtPlan files plan (which.Guest q) = AsksForGuest files plan.memory plan.guests q
+AsksAtPlan files plan which.Schedule = AsksForSchedule files plan
+AsksAtPlan files plan _ = ⊥
 
 -- by the plan's name
 abbrev pub AsksToRun : Files → List ℕ → Which → Type 0
-AsksToRun files name ThePlan = IsSome (files name)
-AsksToRun files name which = IsSomeAnd (files name) (λ text. AsksAtPlan files text which)
+AsksToRun files name which.Plan = IsSome (files name)
+AsksToRun files name which = IsOkAnd (plan_in files name) (λ plan. AsksAtPlan files plan which)

@@ -5,8 +5,10 @@ use Rattle.dc_asm.specs.declared.faults.AsmKind.{AsmKind}
 use Rattle.dc_asm.specs.declared.faults.AsmKind.TheVariants as asm
 use Rattle.dc_elf.specs.declared.faults.ElfFault.{ElfFault}
 use Rattle.dc_elf.specs.declared.faults.ElfFault.TheVariants as elf
+use Rattle.dc_kernel.specs.declared.faults.StoreFault.{StoreFault}
+use Rattle.dc_kernel.specs.declared.faults.StoreFault.TheVariants as store
 use Rattle.dc_run.specs.declared.verdict.Did.{Did}
-use Rattle.dc_run.specs.declared.verdict.Did.TheVariants.{Run, Checked, Assembled}
+use Rattle.dc_run.specs.declared.verdict.Did.TheVariants.{Nothing, Run, Checked, Assembled}
 use Rattle.dc_run.specs.declared.verdict.Outlet.{Outlet}
 use Rattle.dc_run.specs.declared.verdict.Outlet.TheVariants.{Out, Report}
 use Rattle.dc_plan.specs.Keys.{key_text}
@@ -15,7 +17,7 @@ use Rattle.dc_plan.specs.declared.fault.PlanFault.TheVariants as plan
 use Rattle.dc_acts.specs.Reading.{kind_text as report_kind_text}
 use Rattle.dc_schedule.specs.Schedules.{kind_text as schedule_kind_text}
 use Rattle.dc_run.specs.declared.verdict.Verdict.{Verdict}
-use Rattle.dc_run.specs.declared.verdict.Verdict.TheVariants.{Done, Unfinished, Usage, PlanRefused, GuestRefused, Missing, LibraryFault, SinkFault, NotARun, Differs, WantOfMemory, ScheduleRefused, ReportRefused, AsmRefused}
+use Rattle.dc_run.specs.declared.verdict.Verdict.TheVariants.{Done, Unfinished, Usage, PlanRefused, GuestRefused, Missing, LibraryFault, DeviceFault, SinkFault, NotARun, Differs, WantOfMemory, ScheduleRefused, StoreRefused, ReportRefused, AsmRefused}
 use Rattle.dc_run.specs.declared.verdict.Which.{Which}
 use Rattle.dc_run.specs.declared.verdict.Which.TheVariants as which
 
@@ -28,11 +30,13 @@ status_of (PlanRefused fault) = 3
 status_of (GuestRefused p fault) = 4
 status_of (Missing which) = 5
 status_of (LibraryFault which) = 6
+status_of (DeviceFault p) = 7
 status_of (SinkFault outlet) = 8
 status_of (NotARun place) = 9
 status_of (Differs line) = 9
 status_of WantOfMemory = 10
 status_of (ScheduleRefused fault) = 11
+status_of (StoreRefused p fault) = 12
 status_of (ReportRefused fault) = 13
 status_of (AsmRefused fault) = 14
 
@@ -71,6 +75,20 @@ elf_fault_text elf.Entry = codes "entry"
 abbrev pub guest_fault_text : ℕ → ElfFault → List ℕ
 guest_fault_text p fault = codes "guest " ++ decimal p ++ codes " refused: " ++ elf_fault_text fault
 
+-- a device that failed
+abbrev pub device_fault_text : ℕ → List ℕ
+device_fault_text p = codes "device of " ++ decimal p ++ codes " failed"
+
+-- what is wrong with what a store holds, in words
+abbrev pub store_kind_text : StoreFault → List ℕ
+store_kind_text store.Header = codes "header"
+store_kind_text (store.Record i) = codes "record " ++ decimal i
+store_kind_text store.Kernel = codes "kernel"
+
+-- a refused store
+abbrev pub store_fault_text : ℕ → StoreFault → List ℕ
+store_fault_text p fault = codes "store of " ++ decimal p ++ codes " refused: " ++ store_kind_text fault
+
 -- the faulty line of a text
 abbrev pub refused_text : List ℕ → ℕ → List ℕ → List ℕ
 refused_text what number kind = what ++ codes " line " ++ decimal number ++ codes " refused: " ++ kind
@@ -95,6 +113,7 @@ counts_text name acts lines = name ++ decimal acts ++ codes " acts " ++ decimal 
 
 -- what a call did that is done
 abbrev pub done_text : Did → ℕ → ℕ → List ℕ
+done_text Nothing acts lines = counts_text (codes "done ") acts lines
 done_text Run acts lines = counts_text (codes "done ") acts lines
 done_text (Checked visibles) acts lines = counts_text (codes "done ") acts visibles
 done_text (Assembled bytes) acts lines = codes "done " ++ decimal bytes ++ codes " bytes"
@@ -108,11 +127,13 @@ verdict_text (PlanRefused fault) did acts lines = codes "plan refused: " ++ plan
 verdict_text (GuestRefused p fault) did acts lines = guest_fault_text p fault
 verdict_text (Missing which) did acts lines = codes "missing: " ++ which_text which
 verdict_text (LibraryFault which) did acts lines = codes "library failed: " ++ which_text which
+verdict_text (DeviceFault p) did acts lines = device_fault_text p
 verdict_text (SinkFault outlet) did acts lines = codes "sink failed: " ++ outlet_text outlet
 verdict_text (NotARun place) did acts lines = codes "not a run: act " ++ decimal place
 verdict_text (Differs line) did acts lines = codes "differs: line " ++ decimal line
 verdict_text WantOfMemory did acts lines = codes "out of memory"
 verdict_text (ScheduleRefused fault) did acts lines = refused_text (codes "schedule") fault.line (schedule_kind_text fault.kind)
+verdict_text (StoreRefused p fault) did acts lines = store_fault_text p fault
 verdict_text (ReportRefused fault) did acts lines = refused_text (codes "report") fault.line (report_kind_text fault.kind)
 verdict_text (AsmRefused fault) did acts lines = refused_text (codes "source") fault.line (asm_kind_text fault.kind)
 
@@ -120,9 +141,9 @@ verdict_text (AsmRefused fault) did acts lines = refused_text (codes "source") f
 abbrev pub outcome_line : Outcome → List ℕ
 outcome_line o = codes "dc: " ++ verdict_text o.verdict o.did (length o.acts.items) o.lines ++ 10 ∷ []
 
--- nothing was run
+-- it came to no work
 pub record IsNothing (o : Outcome) : Type 0 where
-  pub did : o.did ≡ Run
+  pub did : o.did ≡ Nothing
   pub acts : o.acts.items ≡ []
   pub marks : o.marks.items ≡ []
   pub lines : o.lines ≡ 0

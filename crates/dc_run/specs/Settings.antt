@@ -1,19 +1,24 @@
 -- How the code's opening stands to the told files.
-use Rattle.std.specs.Prelude.{◌≡◌, ◌≤◌, ◌⊎◌, ℕ, Option, None, Some, Bool, true, false, not, ◌&&◌, Result, Ok, Err}
-use Rattle.dc_plain.specs.Playing.{lists_of}
+use Rattle.std.specs.Prelude.{◌≡◌, ◌≤◌, ◌⊎◌, ℕ, Option, None, Some, Bool, true, false, not, ◌&&◌, Result, Ok, Err, map}
+use Rattle.dc_plain.specs.Playing.{lists_of, seen_image}
 use Rattle.dc_media.specs.Told.{Becomes, TellsOn}
-use Rattle.dc_run.specs.Opening.{Files, Setting}
+use Rattle.dc_course.specs.Headline.{Setting}
+use Rattle.dc_run.specs.Opening.{Files}
+use Rattle.dc_run.specs.Refusals.{verdict_of}
+use Rattle.dc_run.specs.declared.refusal.Refusal.{Refusal}
 use Rattle.dc_run.specs.declared.setting.Setting as code
 use Rattle.dc_run.specs.declared.verdict.Verdict.{Verdict}
-use Rattle.dc_run.specs.declared.verdict.Verdict.TheVariants.{Done, Unfinished, LibraryFault, SinkFault, Differs, WantOfMemory}
+use Rattle.dc_run.specs.declared.verdict.Verdict.TheVariants.{Done, Unfinished, LibraryFault, DeviceFault, SinkFault, Differs, WantOfMemory, StoreRefused}
 
--- a verdict that no told file decides: want of memory, and a fault of the library
+-- a verdict that no told file decides: want of memory, a fault of the library or of a device, and what a store holds
 abbrev pub is_free : Verdict → Bool
 is_free WantOfMemory = true
 is_free (LibraryFault which) = true
+is_free (DeviceFault p) = true
+is_free (StoreRefused p fault) = true
 is_free _ = false
 
--- the verdict of a command that was carried out
+-- the verdict of a command that was carried out to its end, but for a fault of a sink
 abbrev pub was_opened : Verdict → Bool
 was_opened Done = true
 was_opened Unfinished = true
@@ -39,11 +44,15 @@ pub record LibraryKept (old new : Option Files) (faults_before faults_after : �
   pub tells : TellsOn 0 faults_after old new
   pub later : faults_before ≤ faults_after
 
--- the same value or refusal as the told files give, where no free verdict takes its place
-abbrev pub Agrees : {A X : Type 0} → (X → A) → Result X Verdict → Result A Verdict → Type 0
+-- a refusal that no told file decides
+abbrev pub is_free_refusal : Refusal → Bool
+is_free_refusal refusal = is_free (verdict_of refusal)
+
+-- the same value or refusal as the told files give, where no free refusal takes its place
+abbrev pub Agrees : {A X : Type 0} → (X → A) → Result X Refusal → Result A Refusal → Type 0
 Agrees view (Ok x) told = told ≡ Ok (view x)
-Agrees view (Err v) told = (is_free v ≡ true) ⊎ (told ≡ Err v)
+Agrees view (Err refusal) told = (is_free_refusal refusal ≡ true) ⊎ (told ≡ Err refusal)
 
 -- a setting by the fields that the code has of it
 abbrev pub setting_of : code.Setting → Setting
-setting_of s = record { image = record { memory = s.memory.items; entry = s.entry }; inputs = lists_of s.inputs.items; schedule = s.schedule.items }
+setting_of s = record { protocol = s.protocol; images = map seen_image s.images.items; inputs = lists_of s.inputs.items; schedule = s.schedule.items; stops = s.stops.items }

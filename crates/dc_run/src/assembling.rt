@@ -1,4 +1,4 @@
-ghost use Rattle.std.specs.Prelude.{◌≡◌, ◌≤◌, ◌⊎◌, Err, Some, false, true, List, IfErr, IfOk, IfSome, IsErrOf, IsSome, IsOkAnd, OnOk};
+ghost use Rattle.std.specs.Prelude.{◌≡◌, ◌≤◌, ◌⊎◌, ℕ, Err, Some, false, true, List, IfErr, IfOk, IfSome, IsErrOf, IsSome, IsOkAnd, OnOk};
 ghost use Rattle.dc_asm.specs.Program.{IsFileOf};
 ghost use Rattle.dc_asm.specs.declared.forms.Meant.{Meant};
 ghost use Rattle.dc_media.specs.Causes.{Rose};
@@ -13,6 +13,7 @@ ghost use Rattle.dc_run.specs.declared.verdict.Verdict.{Verdict as Verdicts};
 ghost use Rattle.dc_run.specs.declared.verdict.Which.{Which as Whose};
 
 use crate::opening::fetch;
+use crate::refusal::verdict_of;
 use crate::{Did, Outcome, Outlet, Verdict, Which};
 use dc_asm::{AsmError, assemble};
 use dc_media::{Library, Sink, write_whole};
@@ -27,9 +28,13 @@ fn file_of<L: Library>(alloc: Global, source: &str, lib: &mut L) -> Result<Vec<u
     ensures there { (files : Files) (w : Whose) → L.files lib.old ≡ Some files → IsErrOf result (Verdict.LibraryFault w) → IsSome (files source.now) }
     ensures fault { (w : Whose) → IsErrOf result (Verdict.LibraryFault w) → Rose (L.faults lib.old) (L.faults lib.new) }
     ensures asked { ¬ (result ≡ Err Verdict.Usage) }
+    ensures device { (p : ℕ) → ¬ (result ≡ Err (Verdict.DeviceFault p)) }
     ensures library { LibraryKept (L.files lib.old) (L.files lib.new) (L.faults lib.old) (L.faults lib.new) }
 {
-    let text = fetch(alloc, lib, Which::Source, source)?;
+    let text = match fetch(alloc, lib, Which::Source, source) {
+        Ok(text) => text,
+        Err(refusal) => return Err(verdict_of(refusal)),
+    };
     match assemble(alloc, &text) {
         Ok(file) => Ok(file),
         Err(AsmError::Refused(fault)) => Err(Verdict::AsmRefused(fault)),
@@ -42,6 +47,7 @@ fn write_file<O: Sink>(alloc: Global, file: &[u8], out: &mut O) -> Outcome
     ensures written { IsWritten file.now result (O.held out.old) (O.held out.new) }
     ensures opened { was_opened result.verdict ≡ true }
     ensures own { ¬ (result.verdict ≡ Verdict.SinkFault Outlet.Report) }
+    ensures device { (p : ℕ) → ¬ (result.verdict ≡ Verdict.DeviceFault p) }
     ensures fault { result.verdict ≡ Verdict.SinkFault Outlet.Out → Rose (O.faults out.old) (O.faults out.new) }
     ensures did { ¬ (result.did ≡ Did.Run) }
     ensures line { TellsLine result }
@@ -76,6 +82,7 @@ pub fn assemble_source<L: Library, O: Sink>(
     ensures library_fault { (w : Whose) → result.verdict ≡ Verdict.LibraryFault w → Rose (L.faults lib.old) (L.faults lib.new) }
     ensures output_fault { result.verdict ≡ Verdict.SinkFault Outlet.Out → Rose (O.faults out.old) (O.faults out.new) }
     ensures own { ¬ (result.verdict ≡ Verdict.SinkFault Outlet.Report) }
+    ensures device { (p : ℕ) → ¬ (result.verdict ≡ Verdict.DeviceFault p) }
     ensures unopened { was_opened result.verdict ≡ false → IsNothing result × (out.new ≡ out.old) }
     ensures did { was_opened result.verdict ≡ true → ¬ (result.did ≡ Did.Run) }
     ensures line { TellsLine result }

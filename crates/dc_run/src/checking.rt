@@ -1,26 +1,25 @@
-ghost use Rattle.std.specs.Prelude.{◌≡◌, ◌≤◌, ◌<◌, ◌⊎◌, ℕ, All, Err, Some, false, true, IfErr, IfOk, IfSome, IsErrOf, IsSome, IsSomeAnd, IsOkAnd, OnOk, length};
-ghost use Rattle.dc_acts.specs.Reading.{report_of};
+ghost use Rattle.std.specs.Prelude.{◌≡◌, ◌≤◌, ◌<◌, ℕ, All, Ok, Some, false, true, IfOk, IfSome, IsErrOf, IsSome, IsOkAnd, OnOk, length};
 ghost use Rattle.dc_acts.specs.Reads.{seen};
 ghost use Rattle.dc_media.specs.Causes.{Rose};
 ghost use Rattle.dc_media.specs.Told.{TellsOn};
-ghost use Rattle.dc_run.specs.Checking.{AsksToCheck, Checked as Passed, Concluded, IsChecked, TellsDifference, TellsLine, checked_in, found_at_end, found_in, found_view, passed_by, passed_text, report_in, report_or_fault};
+ghost use Rattle.dc_run.specs.Checking.{AsksToCheck, Checked as Passed, Concluded, IsChecked, TellsDifference, TellsLine, checked_in, found_at_end, found_in, found_view, passed_by, passed_text, report_in};
 ghost use Rattle.dc_run.specs.Command.{names_view};
 ghost use Rattle.dc_run.specs.Commands.{IsExact, IsOpenedFor};
 ghost use Rattle.dc_run.specs.Opening.{Files};
 ghost use Rattle.dc_run.specs.Outcomes.{IsNothing};
-ghost use Rattle.dc_run.specs.Settings.{Agrees, IsEarly, LibraryKept, is_refusal, setting_of, was_opened};
+ghost use Rattle.dc_run.specs.Settings.{Agrees, LibraryKept, is_refusal, setting_of, was_opened};
 ghost use Rattle.dc_run.specs.declared.verdict.Verdict.{Verdict as Verdicts};
 ghost use Rattle.dc_run.specs.declared.verdict.Which.{Which as Whose};
 
 use crate::command::Names;
 use crate::opening::{fetch, open};
+use crate::refusal::{Refusal, verdict_of};
 use crate::setting::Setting;
 use crate::{Did, Outcome, Outlet, Verdict, Which};
 use dc_acts::{Acts, Line, ReadError, Report, read_report};
 use dc_check::{Finding, check};
-use dc_elf::Image;
 use dc_media::{Library, Sink, write_whole};
-use std::alloc::Global;
+use std::alloc::{AllocError, Global};
 
 /// The acts of a report, and what comes of checking an output against them.
 #[derive(Drop)]
@@ -29,85 +28,63 @@ pub struct Found {
     pub finding: Finding,
 }
 
-/// The report of a text.
-fn read(alloc: Global, text: &[u8]) -> Result<Report, Verdict>
-    ensures told { Agrees seen result (report_or_fault (report_of 1 text.now)) }
-    ensures processes { IfOk result (λ report. All (λ x. x.p < 1) report.acts.items) }
+/// The report of that name, for `n` guests.
+fn report_at<L: Library>(alloc: Global, lib: &mut L, n: u32, name: &str) -> Result<Report, Refusal>
+    requires some { 0 < n }
+    requires few { n ≤ 8 }
+    ensures told { (files : Files) → L.files lib.old ≡ Some files → Agrees seen result (report_in files n name.now) }
+    ensures processes { IfOk result (λ report. All (λ x. x.p < n) report.acts.items) }
     ensures few { IfOk result (λ report. length report.acts.items ≤ 1000000) }
-    ensures early { IfErr result IsEarly }
-    ensures asked { ¬ (result ≡ Err Verdict.Usage) }
-    ensures sound { (w : Whose) → IsErrOf result (Verdict.LibraryFault w) → ⊥ }
-{
-    match read_report(alloc, text, 1) {
-        Ok(report) => Ok(report),
-        Err(ReadError::Refused(fault)) => Err(Verdict::ReportRefused(fault)),
-        Err(ReadError::Memory) => Err(Verdict::WantOfMemory),
-    }
-}
-
-/// The report of that name.
-fn report_at<L: Library>(alloc: Global, lib: &mut L, name: &str) -> Result<Report, Verdict>
-    ensures told { (files : Files) → L.files lib.old ≡ Some files → Agrees seen result (report_in files name.now) }
-    ensures processes { IfOk result (λ report. All (λ x. x.p < 1) report.acts.items) }
-    ensures few { IfOk result (λ report. length report.acts.items ≤ 1000000) }
-    ensures early { IfErr result IsEarly }
-    ensures asked { ¬ (result ≡ Err Verdict.Usage) }
-    ensures which { (w : Whose) → IsErrOf result (Verdict.LibraryFault w) → w ≡ Which.Report }
-    ensures there { (files : Files) (w : Whose) → L.files lib.old ≡ Some files → IsErrOf result (Verdict.LibraryFault w) → IsSome (files name.now) }
+    ensures which { (w : Whose) → IsErrOf result (Refusal.Library w) → w ≡ Which.Report }
+    ensures there { (files : Files) (w : Whose) → L.files lib.old ≡ Some files → IsErrOf result (Refusal.Library w) → IsSome (files name.now) }
     ensures files { OnOk result (L.files lib.new ≡ L.files lib.old) }
-    ensures fault { (w : Whose) → IsErrOf result (Verdict.LibraryFault w) → Rose (L.faults lib.old) (L.faults lib.new) }
+    ensures fault { (w : Whose) → IsErrOf result (Refusal.Library w) → Rose (L.faults lib.old) (L.faults lib.new) }
     ensures library { LibraryKept (L.files lib.old) (L.files lib.new) (L.faults lib.old) (L.faults lib.new) }
 {
     let text = fetch(alloc, lib, Which::Report, name)?;
-    read(alloc, &text)
-}
-
-/// What comes of checking an output, where the setting and the report are there.
-fn find(alloc: Global, setting: Setting, report: Report, out: &[u8]) -> Result<Found, Verdict>
-    requires processes { All (λ x. x.p < 1) report.acts.items }
-    requires few { length report.acts.items ≤ 1000000 }
-    ensures told { Agrees found_view result (found_at_end (setting_of setting) (seen report) out.now) }
-    ensures early { IfErr result IsEarly }
-    ensures asked { ¬ (result ≡ Err Verdict.Usage) }
-    ensures sound { (w : Whose) → IsErrOf result (Verdict.LibraryFault w) → ⊥ }
-{
-    let Setting {
-        memory,
-        entry,
-        inputs,
-        schedule,
-    } = setting;
-    let images = [Image { memory, entry }];
-    match check(
-        alloc,
-        &images,
-        &inputs,
-        &schedule,
-        report.acts.as_slice(),
-        out,
-    ) {
-        Ok(finding) => Ok(Found {
-            acts: report.acts,
-            finding,
-        }),
-        Err(_) => Err(Verdict::WantOfMemory),
+    match read_report(alloc, &text, n) {
+        Ok(report) => Ok(report),
+        Err(ReadError::Refused(fault)) => Err(Refusal::Report(fault)),
+        Err(ReadError::Memory) => Err(Refusal::Memory),
     }
 }
 
+/// What comes of checking an output, where the setting and the report are there.
+fn find(alloc: Global, setting: &Setting, report: Report, out: &[u8]) -> Result<Found, AllocError>
+    requires processes { All (λ x. x.p < length setting.now.images.items) report.acts.items }
+    requires few { length report.acts.items ≤ 1000000 }
+    ensures { IfOk result (λ found. Ok (found_view found) ≡ found_at_end (setting_of setting.now) (seen report) out.now) }
+{
+    let finding = check(
+        alloc,
+        &setting.images,
+        &setting.inputs,
+        &setting.schedule,
+        report.acts.as_slice(),
+        out,
+    )?;
+    Ok(Found {
+        acts: report.acts,
+        finding,
+    })
+}
+
 /// What comes of checking the output of that name.
-fn find_in<L: Library>(alloc: Global, names: &Names, lib: &mut L) -> Result<Found, Verdict>
+fn find_in<L: Library>(alloc: Global, names: &Names, lib: &mut L) -> Result<Found, Refusal>
     ensures told { (files : Files) → L.files lib.old ≡ Some files → Agrees found_view result (found_in files (names_view names.now)) }
-    ensures early { IfErr result IsEarly }
-    ensures asked { ¬ (result ≡ Err Verdict.Usage) }
-    ensures reached { (files : Files) (w : Whose) → L.files lib.old ≡ Some files → IsErrOf result (Verdict.LibraryFault w) →
+    ensures reached { (files : Files) (w : Whose) → L.files lib.old ≡ Some files → IsErrOf result (Refusal.Library w) →
         AsksToCheck files (names_view names.now) w }
-    ensures fault { (w : Whose) → IsErrOf result (Verdict.LibraryFault w) → Rose (L.faults lib.old) (L.faults lib.new) }
+    ensures fault { (w : Whose) → IsErrOf result (Refusal.Library w) → Rose (L.faults lib.old) (L.faults lib.new) }
     ensures library { LibraryKept (L.files lib.old) (L.files lib.new) (L.faults lib.old) (L.faults lib.new) }
 {
     let setting = open(alloc, names.plan, lib)?;
-    let report = report_at(alloc, lib, names.report)?;
+    let n = setting.images.len() as u32;
+    let report = report_at(alloc, lib, n, names.report)?;
     let out = fetch(alloc, lib, Which::Out, names.out)?;
-    find(alloc, setting, report, &out)
+    match find(alloc, &setting, report, &out) {
+        Ok(found) => Ok(found),
+        Err(AllocError) => Err(Refusal::Memory),
+    }
 }
 
 /// The line of an output that passes: `ok`, how many acts its report has, and how many visible records they show.
@@ -129,6 +106,7 @@ fn write_passed<O: Sink>(alloc: Global, acts: Acts, visibles: u32, out: &mut O) 
     ensures opened { was_opened result.verdict ≡ true }
     ensures line { TellsLine result }
     ensures own { ¬ (result.verdict ≡ Verdict.SinkFault Outlet.Report) }
+    ensures device { (p : ℕ) → ¬ (result.verdict ≡ Verdict.DeviceFault p) }
     ensures fault { result.verdict ≡ Verdict.SinkFault Outlet.Out → Rose (O.faults out.old) (O.faults out.new) }
     ensures later { O.faults out.old ≤ O.faults out.new }
     ensures tells { TellsOn 0 (O.faults out.new) (O.held out.old) (O.held out.new) }
@@ -151,6 +129,7 @@ fn conclude_check<O: Sink>(alloc: Global, found: Found, out: &mut O) -> Outcome
     ensures difference { (line : ℕ) → result.verdict ≡ Verdict.Differs line → TellsDifference result.difference (found_view found) }
     ensures line { TellsLine result }
     ensures own { ¬ (result.verdict ≡ Verdict.SinkFault Outlet.Report) }
+    ensures device { (p : ℕ) → ¬ (result.verdict ≡ Verdict.DeviceFault p) }
     ensures fault { result.verdict ≡ Verdict.SinkFault Outlet.Out → Rose (O.faults out.old) (O.faults out.new) }
     ensures unopened { was_opened result.verdict ≡ false → IsNothing result × (out.new ≡ out.old) }
     ensures later { O.faults out.old ≤ O.faults out.new }
@@ -170,7 +149,7 @@ fn conclude_check<O: Sink>(alloc: Global, found: Found, out: &mut O) -> Outcome
     }
 }
 
-/// Checks the output of that name against the report of that name, by a plan with its guest and its schedule.
+/// Checks the output of that name against the report of that name, by a plan with its guests and its schedule.
 pub fn check_output<L: Library, O: Sink>(
     alloc: Global,
     names: &Names,
@@ -190,6 +169,7 @@ pub fn check_output<L: Library, O: Sink>(
     ensures library_fault { (which : Whose) → result.verdict ≡ Verdict.LibraryFault which → Rose (L.faults lib.old) (L.faults lib.new) }
     ensures output_fault { result.verdict ≡ Verdict.SinkFault Outlet.Out → Rose (O.faults out.old) (O.faults out.new) }
     ensures own { ¬ (result.verdict ≡ Verdict.SinkFault Outlet.Report) }
+    ensures device { (p : ℕ) → ¬ (result.verdict ≡ Verdict.DeviceFault p) }
     ensures unopened { was_opened result.verdict ≡ false → IsNothing result × (out.new ≡ out.old) }
     ensures library { LibraryKept (L.files lib.old) (L.files lib.new) (L.faults lib.old) (L.faults lib.new) }
     ensures later { O.faults out.old ≤ O.faults out.new }
@@ -197,6 +177,6 @@ pub fn check_output<L: Library, O: Sink>(
 {
     match find_in(alloc, names, lib) {
         Ok(found) => conclude_check(alloc, found, out),
-        Err(verdict) => Outcome::idle(alloc, verdict),
+        Err(refusal) => Outcome::idle(alloc, verdict_of(refusal)),
     }
 }

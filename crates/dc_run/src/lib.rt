@@ -1,22 +1,22 @@
-//! The program's call: a guest runs under a schedule, and what users see is what the guest shows when nothing fails; an output is
-//! checked against a report; a source is assembled.
+//! The program's call: guests run under a schedule, are stopped and recover, and what users see is what the guests show when nothing
+//! fails, but for repeats; an output is checked against a report; a source is assembled.
 #![tactic(auto)]
 
 mod assembling;
 mod checking;
 mod command;
-mod draw;
 mod opening;
 mod outcome;
 mod program;
+mod refusal;
 mod setting;
 mod verdict;
-mod world;
 
 pub use dc_acts::{Acts, ReportFault, ReportKind, Reserved};
 pub use dc_asm::{AsmFault, AsmKind};
 pub use dc_check::Difference;
 pub use dc_elf::ElfFault;
+pub use dc_kernel::StoreFault;
 pub use dc_plan::{Key, PlanFault};
 pub use dc_schedule::{ScheduleFault, ScheduleKind};
 pub use outcome::{Outcome, conclude};

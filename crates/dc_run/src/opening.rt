@@ -1,24 +1,23 @@
-ghost use Rattle.std.specs.Prelude.{◌≡◌, ◌≤◌, ◌⊎◌, ◌%◌, false, true, None, Some, Err, All, IfErr, IfOk, IsErrOf, IsSome, OnOk, length};
+ghost use Rattle.std.specs.Prelude.{◌≡◌, ◌≤◌, ◌<◌, ◌%◌, ℕ, All, IsErrOf, IsSome, OnOk, Some, IfOk, length, map, string_bytes};
 ghost use Rattle.dc_media.specs.Causes.{Rose};
-ghost use Rattle.dc_elf.specs.Files.{file_fault};
-ghost use Rattle.dc_run.specs.Opening.{AsksAtGuest, AsksAtPlan, AsksToRun, Files, file_in, opening_of, opening_at_plan, opening_at_guest, opening_at_end, guest_in, plan_in};
-ghost use Rattle.dc_plan.specs.Allowed.{IsAllowed};
-ghost use Rattle.dc_plan.specs.Plans.{plan_of, plan_view};
-ghost use Rattle.dc_run.specs.Opening.{schedule_of_plan};
-ghost use Rattle.dc_run.specs.Running.{is_turn};
-ghost use Rattle.dc_schedule.specs.Schedules.{Reads};
-ghost use Rattle.dc_run.specs.Settings.{Agrees, IsEarly, LibraryKept, setting_of};
 ghost use Rattle.dc_plain.specs.Playing.{seen_image};
+ghost use Rattle.dc_plan.specs.Allowed.{IsAllowed, IsSourceAllowed};
+ghost use Rattle.dc_plan.specs.Plans.{InFile, plan_view, source_view};
+ghost use Rattle.dc_schedule.specs.Entries.{IsSchedule};
+ghost use Rattle.dc_world.specs.Opened.{CanOpen};
+ghost use Rattle.dc_run.specs.Opening.{AsksAtPlan, AsksForGuest, AsksToRun, Files, IsSourceThere, file_in, guest_in, images_in, opening_at_plan, opening_of, plan_in, schedule_in};
+ghost use Rattle.dc_run.specs.Settings.{Agrees, LibraryKept, setting_of};
 ghost use Rattle.dc_run.specs.declared.verdict.Which.{Which as Whose};
 
+use crate::Which;
+use crate::refusal::Refusal;
 use crate::setting::Setting;
-use crate::{Verdict, Which};
 use dc_elf::{Image, LoadFault, load};
 use dc_media::{Fetch, Library};
 use dc_model::Entry;
-use dc_plan::{ARE_STOP_LINES_BUILT, Plan, PlanError, read_plan};
-use dc_schedule::{ReadError, read, read_turns};
-use std::alloc::Global;
+use dc_plan::{Plan, PlanError, ScheduleSource, read_plan};
+use dc_schedule::{ReadError, generate, read};
+use std::alloc::{AllocError, Global};
 
 /// All the bytes of a file of the command.
 pub fn fetch<L: Library>(
@@ -26,140 +25,177 @@ pub fn fetch<L: Library>(
     lib: &mut L,
     which: Which,
     name: &str,
-) -> Result<Vec<u8>, Verdict>
+) -> Result<Vec<u8>, Refusal>
     ensures told { (files : Files) → L.files lib.old ≡ Some files → Agrees (λ bytes. bytes.items) result (file_in files which name.now) }
+    ensures which { (w : Whose) → IsErrOf result (Refusal.Library w) → w ≡ which }
+    ensures there { (files : Files) (w : Whose) → L.files lib.old ≡ Some files → IsErrOf result (Refusal.Library w) → IsSome (files name.now) }
     ensures files { OnOk result (L.files lib.new ≡ L.files lib.old) }
-    ensures early { IfErr result IsEarly }
-    ensures asked { ¬ (result ≡ Err Verdict.Usage) }
-    ensures which { (w : Whose) → IsErrOf result (Verdict.LibraryFault w) → w ≡ which }
-    ensures there { (files : Files) (w : Whose) → L.files lib.old ≡ Some files → IsErrOf result (Verdict.LibraryFault w) → IsSome (files name.now) }
-    ensures fault { (w : Whose) → IsErrOf result (Verdict.LibraryFault w) → Rose (L.faults lib.old) (L.faults lib.new) }
+    ensures fault { (w : Whose) → IsErrOf result (Refusal.Library w) → Rose (L.faults lib.old) (L.faults lib.new) }
     ensures library { LibraryKept (L.files lib.old) (L.files lib.new) (L.faults lib.old) (L.faults lib.new) }
 {
     match lib.fetch(alloc, name) {
         Ok(bytes) => Ok(bytes),
-        Err(Fetch::Missing) => Err(Verdict::Missing(which)),
-        Err(Fetch::Failed) => Err(Verdict::LibraryFault(which)),
-        Err(Fetch::Memory) => Err(Verdict::WantOfMemory),
+        Err(Fetch::Missing) => Err(Refusal::Missing(which)),
+        Err(Fetch::Failed) => Err(Refusal::Library(which)),
+        Err(Fetch::Memory) => Err(Refusal::Memory),
     }
 }
 
-/// The image of the guest's file in a memory of this size.
-fn image_in(alloc: Global, file: &[u8], size: u32) -> Result<Image, Verdict>
-    ensures told { Agrees seen_image result (guest_in size file.now) }
-    ensures long { IfOk result (λ image. length image.memory.items ≡ size) }
-    ensures aligned { IfOk result (λ image. image.entry % 4 ≡ 0) }
-    ensures right { OnOk result (file_fault file.now size ≡ None) }
-    ensures early { IfErr result IsEarly }
-    ensures asked { ¬ (result ≡ Err Verdict.Usage) }
-    ensures sound { (w : Whose) → IsErrOf result (Verdict.LibraryFault w) → ⊥ }
-{
-    match load(alloc, file, size) {
-        Ok(image) => Ok(image),
-        Err(LoadFault::Refused(fault)) => Err(Verdict::GuestRefused(0, fault)),
-        Err(LoadFault::Memory) => Err(Verdict::WantOfMemory),
-    }
-}
-
-/// The plan of the bytes.
-fn plan_in(alloc: Global, text: &[u8]) -> Result<Plan, Verdict>
-    ensures told { Agrees plan_view result (plan_in (plan_of text.now)) }
+/// The plan of that name.
+fn plan_at<L: Library>(alloc: Global, lib: &mut L, name: &str) -> Result<Plan, Refusal>
+    ensures told { (files : Files) → L.files lib.old ≡ Some files → Agrees plan_view result (plan_in files name.now) }
     ensures allowed { IfOk result (λ plan. IsAllowed (plan_view plan)) }
-    ensures early { IfErr result IsEarly }
-    ensures asked { ¬ (result ≡ Err Verdict.Usage) }
-    ensures sound { (w : Whose) → IsErrOf result (Verdict.LibraryFault w) → ⊥ }
+    ensures which { (w : Whose) → IsErrOf result (Refusal.Library w) → w ≡ Which.Plan }
+    ensures there { (files : Files) (w : Whose) → L.files lib.old ≡ Some files → IsErrOf result (Refusal.Library w) → IsSome (files name.now) }
+    ensures files { OnOk result (L.files lib.new ≡ L.files lib.old) }
+    ensures fault { (w : Whose) → IsErrOf result (Refusal.Library w) → Rose (L.faults lib.old) (L.faults lib.new) }
+    ensures library { LibraryKept (L.files lib.old) (L.files lib.new) (L.faults lib.old) (L.faults lib.new) }
 {
-    match read_plan(alloc, text) {
+    let text = fetch(alloc, lib, Which::Plan, name)?;
+    match read_plan(alloc, &text) {
         Ok(plan) => Ok(plan),
-        Err(PlanError::Refused(fault)) => Err(Verdict::PlanRefused(fault)),
-        Err(PlanError::Memory) => Err(Verdict::WantOfMemory),
+        Err(PlanError::Refused(fault)) => Err(Refusal::Plan(fault)),
+        Err(PlanError::Memory) => Err(Refusal::Memory),
     }
 }
 
-/// The schedule of a text for one guest, by what is built of its lines.
-fn read_schedule(alloc: Global, text: &[u8]) -> Result<Vec<Entry>, ReadError>
-    ensures exact { Reads result (schedule_of_plan 1 text.now) }
-    ensures turns { IfOk result (λ entries. All (λ entry. is_turn entry ≡ true) entries.items) }
-    ensures few { IfOk result (λ entries. length entries.items ≤ 1000000) }
-{
-    if ARE_STOP_LINES_BUILT {
-        read(alloc, text, 1)
-    } else {
-        read_turns(alloc, text, 1)
-    }
-}
-
-/// With the plan, the guest's image and the bytes of the schedule.
-fn settle(alloc: Global, plan: Plan, image: Image, text: &[u8]) -> Result<Setting, Verdict>
-    requires allowed { IsAllowed (plan_view plan) }
-    requires long { length image.memory.items ≡ plan.memory }
-    requires aligned { image.entry % 4 ≡ 0 }
-    ensures told { Agrees setting_of result (opening_at_end (plan_view plan) (seen_image image) text.now) }
-    ensures early { IfErr result IsEarly }
-    ensures asked { ¬ (result ≡ Err Verdict.Usage) }
-    ensures sound { (w : Whose) → IsErrOf result (Verdict.LibraryFault w) → ⊥ }
-{
-    match read_schedule(alloc, text) {
-        Ok(schedule) => Ok(Setting {
-            memory: image.memory,
-            entry: image.entry,
-            inputs: plan.inputs,
-            schedule,
-        }),
-        Err(ReadError::Refused(fault)) => Err(Verdict::ScheduleRefused(fault)),
-        Err(ReadError::Memory) => Err(Verdict::WantOfMemory),
-    }
-}
-
-/// With the plan and the bytes of the guest's file.
-fn open_guest<L: Library>(
+/// The image of guest `p`, whose file has that name, in a memory of this size.
+fn load_guest<L: Library>(
     alloc: Global,
     lib: &mut L,
-    plan: Plan,
-    file: &[u8],
-) -> Result<Setting, Verdict>
-    requires { IsAllowed (plan_view plan) }
-    ensures told { (files : Files) → L.files lib.old ≡ Some files → Agrees setting_of result (opening_at_guest files (plan_view plan) file.now) }
-    ensures early { IfErr result IsEarly }
-    ensures asked { ¬ (result ≡ Err Verdict.Usage) }
-    ensures reached { (files : Files) (w : Whose) → L.files lib.old ≡ Some files → IsErrOf result (Verdict.LibraryFault w) →
-        AsksAtGuest files (plan_view plan) file.now w }
+    size: u32,
+    p: u32,
+    name: &str,
+) -> Result<Image, Refusal>
+    requires least { 65536 ≤ size }
+    requires most { size ≤ 1048576 }
+    requires pages { size % 4096 ≡ 0 }
+    ensures told { (files : Files) → L.files lib.old ≡ Some files → Agrees seen_image result (guest_in files size p name.now) }
+    ensures good { IfOk result CanOpen }
+    ensures which { (w : Whose) → IsErrOf result (Refusal.Library w) → w ≡ Which.Guest p }
+    ensures there { (files : Files) (w : Whose) → L.files lib.old ≡ Some files → IsErrOf result (Refusal.Library w) → IsSome (files name.now) }
     ensures files { OnOk result (L.files lib.new ≡ L.files lib.old) }
-    ensures fault { (w : Whose) → IsErrOf result (Verdict.LibraryFault w) → Rose (L.faults lib.old) (L.faults lib.new) }
+    ensures fault { (w : Whose) → IsErrOf result (Refusal.Library w) → Rose (L.faults lib.old) (L.faults lib.new) }
     ensures library { LibraryKept (L.files lib.old) (L.files lib.new) (L.faults lib.old) (L.faults lib.new) }
 {
-    let image = image_in(alloc, file, plan.memory)?;
-    let text = fetch(alloc, lib, Which::Schedule, &plan.schedule)?;
-    settle(alloc, plan, image, &text)
+    let file = fetch(alloc, lib, Which::Guest(p), name)?;
+    match load(alloc, &file, size) {
+        Ok(image) => Ok(image),
+        Err(LoadFault::Refused(fault)) => Err(Refusal::Guest(p, fault)),
+        Err(LoadFault::Memory) => Err(Refusal::Memory),
+    }
 }
 
-/// With the bytes of the plan.
-fn open_plan<L: Library>(alloc: Global, lib: &mut L, text: &[u8]) -> Result<Setting, Verdict>
-    ensures told { (files : Files) → L.files lib.old ≡ Some files → Agrees setting_of result (opening_at_plan files text.now) }
-    ensures early { IfErr result IsEarly }
-    ensures asked { ¬ (result ≡ Err Verdict.Usage) }
-    ensures reached { (files : Files) (w : Whose) → L.files lib.old ≡ Some files → IsErrOf result (Verdict.LibraryFault w) →
-        AsksAtPlan files text.now w }
+/// The images of the guests, whose files have those names, each in a memory of this size.
+fn load_guests<L: Library>(
+    alloc: Global,
+    lib: &mut L,
+    size: u32,
+    names: &[String],
+) -> Result<Vec<Image>, Refusal>
+    requires few { length names.now ≤ 8 }
+    requires least { 65536 ≤ size }
+    requires most { size ≤ 1048576 }
+    requires pages { size % 4096 ≡ 0 }
+    ensures told { (files : Files) → L.files lib.old ≡ Some files → Agrees (λ images. map seen_image images.items) result (images_in files size 0 (map string_bytes names.now)) }
+    ensures good { IfOk result (λ images. All CanOpen images.items) }
+    ensures count { IfOk result (λ images. length images.items ≡ length names.now) }
+    ensures reached { (files : Files) (w : Whose) → L.files lib.old ≡ Some files → IsErrOf result (Refusal.Library w) →
+        (q : ℕ) × (w ≡ Which.Guest q) × AsksForGuest files size (map string_bytes names.now) q }
     ensures files { OnOk result (L.files lib.new ≡ L.files lib.old) }
-    ensures fault { (w : Whose) → IsErrOf result (Verdict.LibraryFault w) → Rose (L.faults lib.old) (L.faults lib.new) }
+    ensures fault { (w : Whose) → IsErrOf result (Refusal.Library w) → Rose (L.faults lib.old) (L.faults lib.new) }
     ensures library { LibraryKept (L.files lib.old) (L.files lib.new) (L.faults lib.old) (L.faults lib.new) }
 {
-    let plan = plan_in(alloc, text)?;
-    let file = fetch(alloc, lib, Which::Guest(0), &plan.guests[0])?;
-    open_guest(alloc, lib, plan, &file)
+    let mut images = Vec::new(alloc);
+    for name in names {
+        let p = images.len() as u32;
+        let image = load_guest(alloc, lib, size, p, name)?;
+        if images.push(image).is_err() {
+            return Err(Refusal::Memory);
+        }
+    }
+    Ok(images)
+}
+
+/// The schedule of the file of that name, for `n` guests.
+fn schedule_at<L: Library>(
+    alloc: Global,
+    lib: &mut L,
+    n: u32,
+    name: &str,
+) -> Result<Vec<Entry>, Refusal>
+    requires { 0 < n }
+    ensures told { (files : Files) → L.files lib.old ≡ Some files → Agrees (λ entries. entries.items) result (schedule_in files n (InFile name.now)) }
+    ensures schedule { IfOk result (λ entries. IsSchedule n entries.items) }
+    ensures which { (w : Whose) → IsErrOf result (Refusal.Library w) → w ≡ Which.Schedule }
+    ensures there { (files : Files) (w : Whose) → L.files lib.old ≡ Some files → IsErrOf result (Refusal.Library w) → IsSome (files name.now) }
+    ensures files { OnOk result (L.files lib.new ≡ L.files lib.old) }
+    ensures fault { (w : Whose) → IsErrOf result (Refusal.Library w) → Rose (L.faults lib.old) (L.faults lib.new) }
+    ensures library { LibraryKept (L.files lib.old) (L.files lib.new) (L.faults lib.old) (L.faults lib.new) }
+{
+    let text = fetch(alloc, lib, Which::Schedule, name)?;
+    match read(alloc, &text, n) {
+        Ok(entries) => Ok(entries),
+        Err(ReadError::Refused(fault)) => Err(Refusal::Schedule(fault)),
+        Err(ReadError::Memory) => Err(Refusal::Memory),
+    }
+}
+
+/// The schedule of a plan for `n` guests.
+fn schedule_from<L: Library>(
+    alloc: Global,
+    lib: &mut L,
+    n: u32,
+    source: &ScheduleSource,
+) -> Result<Vec<Entry>, Refusal>
+    requires some { 0 < n }
+    requires allowed { IsSourceAllowed (source_view source.now) }
+    ensures told { (files : Files) → L.files lib.old ≡ Some files → Agrees (λ entries. entries.items) result (schedule_in files n (source_view source.now)) }
+    ensures schedule { IfOk result (λ entries. IsSchedule n entries.items) }
+    ensures which { (w : Whose) → IsErrOf result (Refusal.Library w) → w ≡ Which.Schedule }
+    ensures there { (files : Files) (w : Whose) → L.files lib.old ≡ Some files → IsErrOf result (Refusal.Library w) → IsSourceThere files (source_view source.now) }
+    ensures files { OnOk result (L.files lib.new ≡ L.files lib.old) }
+    ensures fault { (w : Whose) → IsErrOf result (Refusal.Library w) → Rose (L.faults lib.old) (L.faults lib.new) }
+    ensures library { LibraryKept (L.files lib.old) (L.files lib.new) (L.faults lib.old) (L.faults lib.new) }
+{
+    match source {
+        ScheduleSource::File(name) => schedule_at(alloc, lib, n, name),
+        ScheduleSource::Seed(seed) => match generate(alloc, seed.start, seed.turns, n) {
+            Ok(entries) => Ok(entries),
+            Err(AllocError) => Err(Refusal::Memory),
+        },
+    }
+}
+
+/// With the plan.
+fn open_plan<L: Library>(alloc: Global, lib: &mut L, plan: Plan) -> Result<Setting, Refusal>
+    requires { IsAllowed (plan_view plan) }
+    ensures told { (files : Files) → L.files lib.old ≡ Some files → Agrees setting_of result (opening_at_plan files (plan_view plan)) }
+    ensures reached { (files : Files) (w : Whose) → L.files lib.old ≡ Some files → IsErrOf result (Refusal.Library w) → AsksAtPlan files (plan_view plan) w }
+    ensures files { OnOk result (L.files lib.new ≡ L.files lib.old) }
+    ensures fault { (w : Whose) → IsErrOf result (Refusal.Library w) → Rose (L.faults lib.old) (L.faults lib.new) }
+    ensures library { LibraryKept (L.files lib.old) (L.files lib.new) (L.faults lib.old) (L.faults lib.new) }
+{
+    let images = load_guests(alloc, lib, plan.memory, &plan.guests)?;
+    let n = images.len() as u32;
+    let schedule = schedule_from(alloc, lib, n, &plan.schedule)?;
+    Ok(Setting {
+        protocol: plan.protocol,
+        images,
+        inputs: plan.inputs,
+        schedule,
+        stops: plan.stops,
+    })
 }
 
 /// What the files open the run of that plan with, or the first refusal.
-pub fn open<L: Library>(alloc: Global, plan: &str, lib: &mut L) -> Result<Setting, Verdict>
+pub fn open<L: Library>(alloc: Global, plan: &str, lib: &mut L) -> Result<Setting, Refusal>
     ensures told { (files : Files) → L.files lib.old ≡ Some files → Agrees setting_of result (opening_of files plan.now) }
-    ensures early { IfErr result IsEarly }
-    ensures asked { ¬ (result ≡ Err Verdict.Usage) }
-    ensures reached { (files : Files) (w : Whose) → L.files lib.old ≡ Some files → IsErrOf result (Verdict.LibraryFault w) →
-        AsksToRun files plan.now w }
+    ensures reached { (files : Files) (w : Whose) → L.files lib.old ≡ Some files → IsErrOf result (Refusal.Library w) → AsksToRun files plan.now w }
     ensures files { OnOk result (L.files lib.new ≡ L.files lib.old) }
-    ensures fault { (w : Whose) → IsErrOf result (Verdict.LibraryFault w) → Rose (L.faults lib.old) (L.faults lib.new) }
+    ensures fault { (w : Whose) → IsErrOf result (Refusal.Library w) → Rose (L.faults lib.old) (L.faults lib.new) }
     ensures library { LibraryKept (L.files lib.old) (L.files lib.new) (L.faults lib.old) (L.faults lib.new) }
 {
-    let text = fetch(alloc, lib, Which::Plan, plan)?;
-    open_plan(alloc, lib, &text)
+    let plan = plan_at(alloc, lib, plan)?;
+    open_plan(alloc, lib, plan)
 }

@@ -6,11 +6,11 @@ ghost use Rattle.dc_media.specs.Told.{TellsOn};
 ghost use Rattle.dc_plan.specs.Keys.{key_text};
 ghost use Rattle.dc_schedule.specs.Schedules.{kind_text as schedule_kind_text};
 ghost use Rattle.dc_run.specs.Headline.{Concludes, course};
-ghost use Rattle.dc_run.specs.Outcomes.{IsNothing, asm_kind_text, counts_text, done_text, elf_fault_text, guest_fault_text, outcome_line, outlet_text, plan_fault_text, refused_text, status_of, verdict_text, which_text};
+ghost use Rattle.dc_run.specs.Outcomes.{IsNothing, asm_kind_text, counts_text, device_fault_text, done_text, elf_fault_text, guest_fault_text, outcome_line, outlet_text, plan_fault_text, refused_text, status_of, store_fault_text, store_kind_text, verdict_text, which_text};
 
 use crate::{
-    AsmFault, AsmKind, Did, ElfFault, Key, Outlet, PlanFault, ReportFault, ScheduleFault, Verdict,
-    Which,
+    AsmFault, AsmKind, Did, ElfFault, Key, Outlet, PlanFault, ReportFault, ScheduleFault,
+    StoreFault, Verdict, Which,
 };
 use dc_acts::{Acts, Line, Reserved};
 use dc_check::Difference;
@@ -34,7 +34,7 @@ pub struct Outcome {
 }
 
 impl Outcome {
-    /// The outcome of a call that ran nothing.
+    /// The outcome of a call that came to no work.
     pub fn idle(alloc: Global, verdict: Verdict) -> Outcome
         ensures verdict { result.verdict ≡ verdict }
         ensures nothing { IsNothing result }
@@ -42,7 +42,7 @@ impl Outcome {
     {
         Outcome {
             verdict,
-            did: Did::Run,
+            did: Did::Nothing,
             acts: Acts::new(alloc),
             marks: Reserved::new(alloc),
             lines: 0,
@@ -62,11 +62,13 @@ impl Outcome {
             Verdict::GuestRefused(_, _) => 4,
             Verdict::Missing(_) => 5,
             Verdict::LibraryFault(_) => 6,
+            Verdict::DeviceFault(_) => 7,
             Verdict::SinkFault(_) => 8,
             Verdict::NotARun(_) => 9,
             Verdict::Differs(_) => 9,
             Verdict::WantOfMemory => 10,
             Verdict::ScheduleRefused(_) => 11,
+            Verdict::StoreRefused(_, _) => 12,
             Verdict::ReportRefused(_) => 13,
             Verdict::AsmRefused(_) => 14,
         }
@@ -107,11 +109,13 @@ impl Outcome {
             Verdict::GuestRefused(p, fault) => push_guest_fault(line, p, fault),
             Verdict::Missing(which) => push_which(line, b"missing: ", which),
             Verdict::LibraryFault(which) => push_which(line, b"library failed: ", which),
+            Verdict::DeviceFault(p) => push_device_fault(line, p),
             Verdict::SinkFault(outlet) => push_both(line, b"sink failed: ", outlet_name(outlet)),
             Verdict::NotARun(place) => push_at(line, b"not a run: act ", u64::from(place)),
             Verdict::Differs(number) => push_at(line, b"differs: line ", number),
             Verdict::WantOfMemory => line.push(b"out of memory"),
             Verdict::ScheduleRefused(fault) => push_schedule_fault(line, fault),
+            Verdict::StoreRefused(p, fault) => push_store_fault(line, p, fault),
             Verdict::ReportRefused(fault) => push_report_fault(line, fault),
             Verdict::AsmRefused(fault) => push_asm_fault(line, fault),
         }
@@ -124,6 +128,7 @@ impl Outcome {
         ensures length { length line.new ≤ length line.old + 90 }
     {
         match self.did {
+            Did::Nothing => self.push_counts(line, b"done ", self.lines),
             Did::Run => self.push_counts(line, b"done ", self.lines),
             Did::Checked(visibles) => self.push_counts(line, b"done ", visibles),
             Did::Assembled(bytes) => {
@@ -291,6 +296,42 @@ fn push_elf_fault(line: &mut Line, fault: ElfFault)
             line.push_number(u64::from(i));
         }
         ElfFault::Entry => line.push(b"entry"),
+    }
+}
+
+fn push_device_fault(line: &mut Line, p: u32)
+    requires { length line.old ≤ 4 }
+    ensures text { line.new ≡ line.old ++ device_fault_text p }
+    ensures length { length line.new ≤ length line.old + 90 }
+{
+    line.push(b"device of ");
+    line.push_number(u64::from(p));
+    line.push(b" failed");
+}
+
+fn push_store_fault(line: &mut Line, p: u32, fault: StoreFault)
+    requires { length line.old ≤ 4 }
+    ensures text { line.new ≡ line.old ++ store_fault_text p fault }
+    ensures length { length line.new ≤ length line.old + 90 }
+{
+    line.push(b"store of ");
+    line.push_number(u64::from(p));
+    line.push(b" refused: ");
+    push_store_kind(line, fault);
+}
+
+fn push_store_kind(line: &mut Line, fault: StoreFault)
+    requires { length line.old ≤ 60 }
+    ensures text { line.new ≡ line.old ++ store_kind_text fault }
+    ensures length { length line.new ≤ length line.old + 30 }
+{
+    match fault {
+        StoreFault::Header => line.push(b"header"),
+        StoreFault::Record(i) => {
+            line.push(b"record ");
+            line.push_number(u64::from(i));
+        }
+        StoreFault::Kernel => line.push(b"kernel"),
     }
 }
 

@@ -1,19 +1,23 @@
-ghost use Rattle.std.specs.Prelude.{◌≡◌, ◌⊎◌, ◌≤◌, ◌<◌, ◌^◌, ◌∷◌, ℕ, None, Some, [], false, true, IfOk, IfSome, IsOkAnd, IsSomeAnd, List, Option, OnErr, length, slice_get, unwrap_or};
+ghost use Rattle.std.specs.Prelude.{◌≡◌, ◌⊎◌, ◌≤◌, ◌<◌, ◌^◌, ℕ, Err, None, Some, false, true, IfOk, IfSome, IsOkAnd, IsSomeAnd, List, OnErr, length};
 ghost use Rattle.dc_acts.specs.Reports.{report_text};
-ghost use Rattle.dc_plain.specs.Playing.{lists_of};
+ghost use Rattle.dc_asm.specs.declared.forms.Meant.{Meant};
+ghost use Rattle.dc_course.specs.Courses.{IsCourse, account_of, counts_of};
+ghost use Rattle.dc_course.specs.Headline.{Setting as Settings};
+ghost use Rattle.dc_course.specs.Running.{output};
+ghost use Rattle.dc_course.specs.Segments.{SegmentsLeft, TellsStores, capped_by};
+ghost use Rattle.dc_course.specs.declared.ending.Ending.TheVariants as endings;
+ghost use Rattle.dc_world.specs.declared.faults.OpenFault.TheVariants as opening;
 ghost use Rattle.dc_media.specs.Causes.{Rose};
 ghost use Rattle.dc_media.specs.Told.{TellsOn};
 ghost use Rattle.dc_run.specs.Assembling.{IsAssembled};
-ghost use Rattle.dc_run.specs.Command.{asked_of};
-ghost use Rattle.dc_asm.specs.declared.forms.Meant.{Meant};
 ghost use Rattle.dc_run.specs.Checking.{Checked, IsChecked, TellsDifference, TellsLine};
-ghost use Rattle.dc_run.specs.Command.{Names};
+ghost use Rattle.dc_run.specs.Command.{Names, asked_of};
 ghost use Rattle.dc_run.specs.Command.Asked.{ToAssemble, ToCheck, ToRun};
 ghost use Rattle.dc_run.specs.Commands.{Asks, IfAssembly, IfCheck, IfFound, IfRun, IsExact, IsOpenedFor, work_of};
-ghost use Rattle.dc_run.specs.Headline.{IsHeadline, IsReported, Reports, account_of, course, unreported};
+ghost use Rattle.dc_run.specs.Headline.{IsReported, Reports, course, loan, may_have_run, unopened_by, unreported, verdict_at};
 ghost use Rattle.dc_run.specs.Opening.{AsksToRun, opening_of};
-ghost use Rattle.dc_run.specs.Opening.{Setting as Settings};
 ghost use Rattle.dc_run.specs.Outcomes.{IsNothing, status_of};
+ghost use Rattle.dc_run.specs.Refusals.{as_verdict};
 ghost use Rattle.dc_run.specs.Settings.{LibraryKept, is_refusal, setting_of, was_opened};
 ghost use Rattle.dc_run.specs.declared.verdict.Verdict.{Verdict as Verdicts};
 ghost use Rattle.dc_run.specs.declared.verdict.Which.{Which as Whose};
@@ -23,21 +27,23 @@ use crate::checking::check_output;
 use crate::command::{Asked, command_in};
 use crate::opening::open;
 use crate::outcome::Outcome;
+use crate::refusal::verdict_of;
 use crate::setting::Setting;
-use crate::world::World;
 use crate::{Did, Outlet, Verdict};
 use dc_acts::write_report;
-use dc_links::Message;
+use dc_course::{Course, Ending, run_on_memory};
 use dc_media::{Disks, Keeps, Library, Sink};
-use std::alloc::{AllocError, Global};
+use dc_world::{OpenFault, Setup};
+use std::alloc::Global;
 
 /// Carries out the command that the words give; the first word is the program's name.
 ///
-/// `run PLAN` fetches the plan, its guest and its schedule from the library, opens the run, gives the guest its turns in order,
-/// writes the lines of its visible records to `out`, and last the report of the run to `report`. `check PLAN REPORT OUT` fetches what a
-/// run is opened with, then a report and an output, plays the report's acts in the failure-free world, compares the output's lines with
-/// those that they show, and writes `ok`, the counts of acts and of visible records to `out` where both belong together. `asm SOURCE`
-/// fetches the source, assembles it and writes the ELF file to `out`. Nothing is persistent yet: the stores and the disks stay untouched.
+/// `run PLAN` fetches the plan, its guests and its schedule from the library, or draws the schedule from a seed, makes a store for each
+/// guest in `keeps`, runs the entries in order, lets processes stop where the plan or the schedule says so and recover, writes the lines
+/// of their visible records to `out`, and last the report of the run to `report`. `check PLAN REPORT OUT` fetches what a run is opened
+/// with, then a report and an output, plays the report's acts in the failure-free world, compares the output's lines with those that they
+/// show, and writes `ok`, the counts of acts and of visible records to `out` where both belong together. `asm SOURCE` fetches the source,
+/// assembles it and writes the ELF file to `out`. The disks stay untouched: no plan asks for them yet.
 pub fn dc<L: Library, K: Keeps, D: Disks, O: Sink, R: Sink>(
     alloc: Global,
     words: &[String],
@@ -57,22 +63,25 @@ pub fn dc<L: Library, K: Keeps, D: Disks, O: Sink, R: Sink>(
     // Faults, only where the count of the object that was handed in rose, and at a file only where the command asks for it.
     ensures library_fault { (which : Whose) → result.verdict ≡ Verdict.LibraryFault which → Rose (L.faults lib.old) (L.faults lib.new) }
     ensures library_asked { (which : Whose) → IfSome (L.files lib.old) (λ files. result.verdict ≡ Verdict.LibraryFault which → Asks files words.now which) }
+    ensures device_fault { (p : ℕ) → result.verdict ≡ Verdict.DeviceFault p → Rose (K.faults keeps.old p) (K.faults keeps.new p) }
     ensures output_fault { result.verdict ≡ Verdict.SinkFault Outlet.Out → Rose (O.faults out.old) (O.faults out.new) }
     ensures report_fault { result.verdict ≡ Verdict.SinkFault Outlet.Report → Rose (R.faults report.old) (R.faults report.new) }
 
     // What users see of a run that was opened, and its report.
-    ensures headline { was_opened result.verdict ≡ true → IfSome (L.files lib.old) (λ files. IsOkAnd (work_of files words.now) (λ work. IfRun work (λ setting.
-        IsReported setting (account_of result) (course (O.held out.old) (O.held out.new) (O.faults out.old) (O.faults out.new))
+    ensures headline { result.did ≡ Did.Run → IfSome (L.files lib.old) (λ files. IsOkAnd (work_of files words.now) (λ work. IfRun work (λ setting.
+        IsReported K.Keeps setting result (loan keeps.old keeps.new) (course (O.held out.old) (O.held out.new) (O.faults out.old) (O.faults out.new))
         (course (R.held report.old) (R.held report.new) (R.faults report.old) (R.faults report.new))))) }
 
-    // The same where the files are not told: there is a setting of which it holds. A call that runs a plan says that it ran.
-    ensures ran { was_opened result.verdict ≡ true → result.did ≡ Did.Run → (setting : Settings) ×
-        IsReported setting (account_of result) (course (O.held out.old) (O.held out.new) (O.faults out.old) (O.faults out.new))
+    // The same where the files are not told: there is a setting of which it holds. A call that is asked to run a plan says that it ran where
+    // the run came to its end.
+    ensures ran { result.did ≡ Did.Run → (setting : Settings) ×
+        IsReported K.Keeps setting result (loan keeps.old keeps.new) (course (O.held out.old) (O.held out.new) (O.faults out.old) (O.faults out.new))
         (course (R.held report.old) (R.held report.new) (R.faults report.old) (R.faults report.new)) }
-    ensures did { (plan : List ℕ) → asked_of words.now ≡ Some (ToRun plan) → result.did ≡ Did.Run }
+    ensures did { (plan : List ℕ) → asked_of words.now ≡ Some (ToRun plan) → was_opened result.verdict ≡ true → result.did ≡ Did.Run }
+    ensures idle { may_have_run result.verdict ≡ false → result.did ≡ Did.Nothing }
 
-    // An output that passes: `ok`, the counts of its report's acts and of the visible records that they show; and how another differs. The
-    // same where the files are not told: some acts and some count. A difference is told exactly where a line differs, of that line.
+    // An output that passes: `ok`, the counts of its report's acts and of the visible records that they show; and how another differs.
+    // The same where the files are not told: some acts and some count. A difference is told exactly where a line differs, of that line.
     ensures checked { was_opened result.verdict ≡ true → IfSome (L.files lib.old) (λ files. IsOkAnd (work_of files words.now) (λ work. IfCheck work (λ checked.
         IsChecked checked result (O.held out.old) (O.held out.new) × (report.new ≡ report.old)))) }
     ensures passed { (names : Names) → asked_of words.now ≡ Some (ToCheck names) → was_opened result.verdict ≡ true →
@@ -88,103 +97,142 @@ pub fn dc<L: Library, K: Keeps, D: Disks, O: Sink, R: Sink>(
         (program : List Meant) × IsAssembled program result (O.held out.old) (O.held out.new) × (report.new ≡ report.old) }
 
     // What stays.
-    ensures unopened { was_opened result.verdict ≡ false → IsNothing result × (out.new ≡ out.old) × (report.new ≡ report.old) }
+    ensures unopened { result.did ≡ Did.Nothing → IsNothing result × (out.new ≡ out.old) × (report.new ≡ report.old) }
     ensures library { LibraryKept (L.files lib.old) (L.files lib.new) (L.faults lib.old) (L.faults lib.new) }
     ensures tells { TellsOn 0 (O.faults out.new) (O.held out.old) (O.held out.new) }
     ensures report_tells { TellsOn 0 (R.faults report.new) (R.held report.old) (R.held report.new) }
     ensures output_later { O.faults out.old ≤ O.faults out.new }
     ensures report_later { R.faults report.old ≤ R.faults report.new }
-    ensures keeps { keeps.new ≡ keeps.old }
+    ensures keeps { ((plan : List ℕ) → asked_of words.now ≡ Some (ToRun plan) → ⊥) → keeps.new ≡ keeps.old }
+    ensures keeps_later { (p : ℕ) → (K.stops keeps.old p ≤ K.stops keeps.new p) × (K.faults keeps.old p ≤ K.faults keeps.new p) }
     ensures disks { disks.new ≡ disks.old }
 {
     match command_in(alloc, words) {
-        Ok(Asked::Run(plan)) => run_plan(alloc, plan, lib, out, report),
+        Ok(Asked::Run(plan)) => run_plan(alloc, plan, lib, keeps, out, report),
         Ok(Asked::Check(names)) => check_output(alloc, &names, lib, out),
         Ok(Asked::Assemble(source)) => assemble_source(alloc, source, lib, out),
         Err(verdict) => Outcome::idle(alloc, verdict),
     }
 }
 
+/// The verdict of a run that ended so.
+fn verdict_at(ending: Ending) -> Verdict
+    ensures { result ≡ verdict_at ending }
+{
+    match ending {
+        Ending::Done => Verdict::Done,
+        Ending::Unfinished => Verdict::Unfinished,
+        Ending::Device(p) => Verdict::DeviceFault(p),
+        Ending::Store(p, fault) => Verdict::StoreRefused(p, fault),
+        Ending::Sink => Verdict::SinkFault(Outlet::Out),
+    }
+}
+
+/// The outcome of a run.
+fn outcome_of(course: Course) -> Outcome
+    ensures { result ≡ record { verdict = verdict_at course.ending; did = Did.Run; acts = course.acts; marks = course.marks; lines = course.lines; difference = None } }
+{
+    let Course {
+        acts,
+        marks,
+        lines,
+        ending,
+    } = course;
+    Outcome {
+        verdict: verdict_at(ending),
+        did: Did::Run,
+        acts,
+        marks,
+        lines,
+        difference: None,
+    }
+}
+
+/// What a run is answered that was not opened.
+fn unopened(fault: OpenFault) -> Verdict
+    ensures { result ≡ unopened_by fault }
+{
+    match fault {
+        OpenFault::Memory => Verdict::WantOfMemory,
+        OpenFault::Failed(p) => Verdict::DeviceFault(p),
+    }
+}
+
+/// Runs an opened plan.
+fn run_setting<K: Keeps, O: Sink>(
+    alloc: Global,
+    setting: Setting,
+    keeps: &mut K,
+    out: &mut O,
+) -> Result<Course, OpenFault>
+    ensures headline { IfOk result (λ run. TellsStores K.Keeps (length (setting_of setting).images) keeps.old keeps.new →
+        IsCourse (setting_of setting) (account_of run) run.ending (output (O.held out.old) (O.held out.new)) (counts_of K.stops (capped_by K.calls) keeps.old keeps.new)
+        (λ core. SegmentsLeft K.Keeps (setting_of setting) core keeps.new)) }
+    ensures device { IfOk result (λ run. (p : ℕ) → run.ending ≡ endings.Device p → Rose (K.faults keeps.old p) (K.faults keeps.new p)) }
+    ensures sink { IfOk result (λ run. run.ending ≡ endings.Sink → Rose (O.faults out.old) (O.faults out.new)) }
+    ensures few { IfOk result (λ run. length run.marks.items < 2 ^ 32) }
+    ensures failed { (p : ℕ) → result ≡ Err (opening.Failed p) → Rose (K.faults keeps.old p) (K.faults keeps.new p) }
+    ensures unopened { OnErr result (out.new ≡ out.old) }
+    ensures keeps_later { (p : ℕ) → (K.stops keeps.old p ≤ K.stops keeps.new p) × (K.faults keeps.old p ≤ K.faults keeps.new p) }
+    ensures later { O.faults out.old ≤ O.faults out.new }
+    ensures tells { TellsOn 0 (O.faults out.new) (O.held out.old) (O.held out.new) }
+{
+    let Setting {
+        protocol,
+        images,
+        inputs,
+        schedule,
+        stops,
+    } = setting;
+    let setup = Setup {
+        protocol,
+        images,
+        inputs,
+    };
+    run_on_memory(alloc, setup, &schedule, stops, keeps, out)
+}
+
 /// Runs that plan.
-fn run_plan<L: Library, O: Sink, R: Sink>(
+fn run_plan<L: Library, K: Keeps, O: Sink, R: Sink>(
     alloc: Global,
     plan: &str,
     lib: &mut L,
+    keeps: &mut K,
     out: &mut O,
     report: &mut R,
 ) -> Outcome
-    ensures refused { (refusal : Verdicts) → is_refusal refusal ≡ true → IfSome (L.files lib.old) (λ files. IsExact result.verdict refusal (opening_of files plan.now)) }
-    ensures opened { IfSome (L.files lib.old) (λ files. IsOpenedFor result.verdict (opening_of files plan.now)) }
+    ensures refused { (refusal : Verdicts) → is_refusal refusal ≡ true → IfSome (L.files lib.old) (λ files. IsExact result.verdict refusal (as_verdict (opening_of files plan.now))) }
+    ensures opened { IfSome (L.files lib.old) (λ files. IsOpenedFor result.verdict (as_verdict (opening_of files plan.now))) }
     ensures asked { ¬ (result.verdict ≡ Verdict.Usage) }
     ensures library_fault { (which : Whose) → result.verdict ≡ Verdict.LibraryFault which → Rose (L.faults lib.old) (L.faults lib.new) }
     ensures library_asked { (which : Whose) → IfSome (L.files lib.old) (λ files. result.verdict ≡ Verdict.LibraryFault which → AsksToRun files plan.now which) }
+    ensures device_fault { (p : ℕ) → result.verdict ≡ Verdict.DeviceFault p → Rose (K.faults keeps.old p) (K.faults keeps.new p) }
     ensures output_fault { result.verdict ≡ Verdict.SinkFault Outlet.Out → Rose (O.faults out.old) (O.faults out.new) }
     ensures report_fault { result.verdict ≡ Verdict.SinkFault Outlet.Report → Rose (R.faults report.old) (R.faults report.new) }
-    ensures headline { was_opened result.verdict ≡ true → IfSome (L.files lib.old) (λ files. IsOkAnd (opening_of files plan.now) (λ setting.
-        IsReported setting (account_of result) (course (O.held out.old) (O.held out.new) (O.faults out.old) (O.faults out.new))
+    ensures headline { result.did ≡ Did.Run → IfSome (L.files lib.old) (λ files. IsOkAnd (as_verdict (opening_of files plan.now)) (λ setting.
+        IsReported K.Keeps setting result (loan keeps.old keeps.new) (course (O.held out.old) (O.held out.new) (O.faults out.old) (O.faults out.new))
         (course (R.held report.old) (R.held report.new) (R.faults report.old) (R.faults report.new)))) }
-    ensures ran { was_opened result.verdict ≡ true → (setting : Settings) ×
-        IsReported setting (account_of result) (course (O.held out.old) (O.held out.new) (O.faults out.old) (O.faults out.new))
+    ensures ran { result.did ≡ Did.Run → (setting : Settings) ×
+        IsReported K.Keeps setting result (loan keeps.old keeps.new) (course (O.held out.old) (O.held out.new) (O.faults out.old) (O.faults out.new))
         (course (R.held report.old) (R.held report.new) (R.faults report.old) (R.faults report.new)) }
-    ensures did { result.did ≡ Did.Run }
+    ensures did { was_opened result.verdict ≡ true → result.did ≡ Did.Run }
+    ensures idle { may_have_run result.verdict ≡ false → result.did ≡ Did.Nothing }
     ensures line { TellsLine result }
-    ensures unopened { was_opened result.verdict ≡ false → IsNothing result × (out.new ≡ out.old) × (report.new ≡ report.old) }
+    ensures unopened { result.did ≡ Did.Nothing → IsNothing result × (out.new ≡ out.old) × (report.new ≡ report.old) }
     ensures library { LibraryKept (L.files lib.old) (L.files lib.new) (L.faults lib.old) (L.faults lib.new) }
     ensures tells { TellsOn 0 (O.faults out.new) (O.held out.old) (O.held out.new) }
     ensures report_tells { TellsOn 0 (R.faults report.new) (R.held report.old) (R.held report.new) }
     ensures output_later { O.faults out.old ≤ O.faults out.new }
     ensures report_later { R.faults report.old ≤ R.faults report.new }
+    ensures keeps_later { (p : ℕ) → (K.stops keeps.old p ≤ K.stops keeps.new p) × (K.faults keeps.old p ≤ K.faults keeps.new p) }
 {
     let setting = match open(alloc, plan, lib) {
         Ok(setting) => setting,
-        Err(verdict) => return Outcome::idle(alloc, verdict),
+        Err(refusal) => return Outcome::idle(alloc, verdict_of(refusal)),
     };
-    match carry_out(alloc, setting, out) {
-        Ok(outcome) => reported(outcome, report),
-        Err(AllocError) => Outcome::idle(alloc, Verdict::WantOfMemory),
-    }
-}
-
-/// The inputs of the first guest.
-fn first_of(alloc: Global, inputs: Vec<Vec<Message>>) -> Vec<Message>
-    ensures { result.items ≡ unwrap_or (slice_get (lists_of inputs.items) 0) [] }
-{
-    match inputs.into_iter().next() {
-        Some(first) => first,
-        None => Vec::new(alloc),
-    }
-}
-
-/// Runs an opened guest through its schedule.
-fn carry_out<O: Sink>(alloc: Global, setting: Setting, out: &mut O) -> Result<Outcome, AllocError>
-    ensures headline { IfOk result (λ o. IsHeadline (setting_of setting) (account_of o) (O.held out.old) (O.held out.new)) }
-    ensures opened { IfOk result (λ o. was_opened o.verdict ≡ true) }
-    ensures own { IfOk result (λ o. ¬ (o.verdict ≡ Verdict.SinkFault Outlet.Report)) }
-    ensures few { IfOk result (λ o. length o.marks.items < 2 ^ 32) }
-    ensures output_fault { IfOk result (λ o. o.verdict ≡ Verdict.SinkFault Outlet.Out → Rose (O.faults out.old) (O.faults out.new)) }
-    ensures unopened { OnErr result (out.new ≡ out.old) }
-    ensures did { IfOk result (λ o. o.did ≡ Did.Run) }
-    ensures difference { IfOk result (λ o. o.difference ≡ None) }
-    ensures later { O.faults out.old ≤ O.faults out.new }
-    ensures tells { TellsOn 0 (O.faults out.new) (O.held out.old) (O.held out.new) }
-{
-    let Setting {
-        memory,
-        entry,
-        inputs,
-        schedule,
-    } = setting;
-    let first = first_of(alloc, inputs);
-    let mut world = World::open(alloc, memory, entry, first, schedule.len())?;
-    match world.run(&schedule, out) {
-        Err(_) => Ok(world.outcome(Verdict::SinkFault(Outlet::Out))),
-        Ok(()) => {
-            if world.guest.has_ended() {
-                Ok(world.outcome(Verdict::Done))
-            } else {
-                Ok(world.outcome(Verdict::Unfinished))
-            }
-        }
+    match run_setting(alloc, setting, keeps, out) {
+        Ok(course) => reported(outcome_of(course), report),
+        Err(fault) => Outcome::idle(alloc, unopened(fault)),
     }
 }
 

@@ -1,20 +1,28 @@
-ghost use Rattle.std.specs.Prelude.{◌≡◌, ◌≤◌, ◌%◌, All, length, true};
-ghost use Rattle.dc_run.specs.Running.{is_turn};
+ghost use Rattle.std.specs.Prelude.{◌≡◌, ◌≤◌, ◌<◌, All, false, length};
+ghost use Rattle.dc_protocols.specs.Rules.{is_global};
+ghost use Rattle.dc_schedule.specs.Entries.{IsSchedule};
+ghost use Rattle.dc_world.specs.Opened.{CanOpen};
+ghost use Rattle.dc_run.specs.Single.{IsSchedule-prop, all_can_open-prop};
 
+use dc_armed::PlannedStop;
+use dc_elf::Image;
 use dc_links::Message;
 use dc_model::Entry;
+use dc_protocols::Protocol;
 
-/// What a run is opened with: its guest's memory and entry, the records of each guest's input, and its schedule.
+/// What a run is opened with: its protocol, the image of each guest, the records of each one's input, its schedule, and the stops
+/// that are planned.
 #[derive(Drop)]
 pub struct Setting {
-    pub memory: Vec<u8>,
-    pub entry: u32,
+    pub protocol: Protocol,
+    pub images: Vec<Image>,
     pub inputs: Vec<Vec<Message>>,
     pub schedule: Vec<Entry>,
-    ghost long: { 65536 ≤ length memory.items },
-    ghost short: { length memory.items ≤ 1048576 },
-    ghost words: { length memory.items % 4 ≡ 0 },
-    ghost aligned: { entry % 4 ≡ 0 },
-    ghost turns: { All (λ entry. is_turn entry ≡ true) schedule.items },
-    ghost few: { length schedule.items ≤ 1000000 },
+    pub stops: Vec<PlannedStop>,
+    ghost local: { is_global protocol ≡ false },
+    ghost some: { 0 < length images.items },
+    ghost few: { length images.items ≤ 8 },
+    ghost good: { All CanOpen images.items } by { all_can_open-prop images.items },
+    ghost each: { length inputs.items ≡ length images.items },
+    ghost entries: { IsSchedule (length images.items) schedule.items } by { IsSchedule-prop (length images.items) schedule.items },
 }

@@ -1,6 +1,7 @@
 use dc_acts::ReportFault;
 use dc_asm::AsmFault;
 use dc_elf::ElfFault;
+use dc_kernel::StoreFault;
 use dc_plan::PlanFault;
 use dc_schedule::ScheduleFault;
 
@@ -33,7 +34,9 @@ pub enum Outlet {
 /// What a call of the program did.
 #[derive(Clone, Copy, Debug, PartialEq, Eq)]
 pub enum Did {
-    /// It ran a plan, or came to no command's work.
+    /// It came to no work.
+    Nothing,
+    /// It ran a plan.
     Run,
     /// It checked an output, and found so many visible records in it.
     Checked(u32),
@@ -59,6 +62,8 @@ pub enum Verdict {
     Missing(Which),
     /// The library failed at that file.
     LibraryFault(Which),
+    /// The device of that process failed.
+    DeviceFault(u32),
     /// That sink failed.
     SinkFault(Outlet),
     /// The act at that place of the report, from 0 on, is the first that was not drawn at its turn or does not apply.
@@ -69,6 +74,8 @@ pub enum Verdict {
     WantOfMemory,
     /// The schedule's first faulty line.
     ScheduleRefused(ScheduleFault),
+    /// The checkpoint in the store of that process is refused, by the first thing that is wrong with it.
+    StoreRefused(u32, StoreFault),
     /// The report's first faulty line.
     ReportRefused(ReportFault),
     /// The source's first faulty line.

@@ -1,12 +1,11 @@
 -- What the code finds ended has ended in the theory.
-use Rattle.std.proofs.Common.{◌≡◌, ◌≢◌, ◌⊎◌, ◌∙◌, ◌<◌, ◌&&◌, ℕ, zero, suc, Bool, true, false, List, [], ◌∷◌, Option, None, Some, if◌then◌else◌, ap, arith, inl, inr, length, refl, slice_index_or, subst, sym}
+use Rattle.std.proofs.Common.{◌≡◌, ◌∙◌, ◌<◌, ◌&&◌, ℕ, zero, suc, Bool, true, false, List, [], ◌∷◌, Option, None, Some, if◌then◌else◌, ap, arith, inl, inr, length, refl, slice_index_or, subst, sym}
 use Rattle.std.specs.List.{list_all}
 use Rattle.std.proofs.lemmas.Bool.{and_parts, true≢false}
 use Rattle.dc_checkpoint.specs.declared.checkpoint.Checkpoint as checkpoint
 use Rattle.dc_elf.specs.Images.{Image}
 use Rattle.dc_guest.proofs.Coming.{live_coming, not_ended}
 use Rattle.dc_guest.specs.Guest.{Guest, event_of, machine_over, next_of, over}
-use Rattle.dc_model.specs.Guests.{Guests}
 use Rattle.dc_model.specs.Guests.Event.{AtEnd}
 use Rattle.dc_model.specs.Runs.{own}
 use Rattle.dc_proc.proofs.Ruling.{guest_is}
@@ -19,7 +18,7 @@ use Rattle.dc_recovery.specs.Core.{Core, stands}
 use Rattle.dc_recovery.specs.Systems.{System}
 use Rattle.dc_world.specs.Ended.{HasEnded, HaveEnded, IsLeft}
 use Rattle.dc_world.specs.Slots.{AreOf, has_ended, have_ended, held_in, is_up, slot_at}
-use Rattle.dc_world.specs.Stages.{IsWorld, Stage, memory_of, seen_of, store_of, words_of}
+use Rattle.dc_world.specs.Stages.{IsWorld, Stage, memory_of, store_of, words_of}
 use Rattle.dc_world.specs.declared.slot.Slot.{Slot}
 use Rattle.dc_world.specs.declared.slot.Slot.TheVariants.{Up, Down}
 

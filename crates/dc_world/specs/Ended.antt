@@ -7,7 +7,7 @@ use Rattle.dc_model.specs.Guests.{Guests}
 use Rattle.dc_model.specs.Guests.Event.{AtEnd}
 use Rattle.dc_proc.specs.Carried.{system}
 use Rattle.dc_recovery.specs.Core.{Core, stands}
-use Rattle.dc_world.specs.Stages.{IsWorld, Stage}
+use Rattle.dc_world.specs.Stages.{IsWorld}
 use Rattle.dc_world.specs.Worlds.{MayRun, stage_in}
 use Rattle.dc_world.specs.declared.world.World.{World}
 

@@ -125,6 +125,7 @@ impl<C: Checkpoint + Drop> World<C> {
         ensures later { (p : ℕ) → (C.stops dev.old p ≤ C.stops dev.new p) × (C.faults dev.old p ≤ C.faults dev.new p) }
         ensures continues { C.continues dev.old dev.new }
         ensures stopped { IfOk result (λ mark. mark ≡ marks.Stopped → (p : ℕ) × IsTurnOf p entry.now × Rose (C.stops dev.old p) (C.stops dev.new p)) }
+        ensures calm { IfOk result (λ mark. (mark ≡ marks.Stopped → ⊥) → (p : ℕ) → IsTurnOf p entry.now → (C.stops dev.new p ≡ C.stops dev.old p) × (C.faults dev.new p ≡ C.faults dev.old p)) }
         ensures device { (p : ℕ) → IsErrOf result (faults.Device p) → IsTurnOf p entry.now × Rose (C.faults dev.old p) (C.faults dev.new p) }
         ensures store { (p : ℕ) (fault : stores.StoreFault) → IsErrOf result (faults.Store p fault) → HasNoRun C.Checkpoint (stage_in self.old dev.old) (later 0 (stage_in self.new dev.new)) }
         ensures sink { IsErrOf result faults.Sink → ⊥ }
@@ -175,6 +176,7 @@ impl<C: Checkpoint + Drop> World<C> {
         ensures out_tells { TellsOn 0 (O.faults out.new) (O.held out.old) (O.held out.new) }
         ensures out_later { O.faults out.old ≤ O.faults out.new }
         ensures stopped { IfOk result (λ mark. mark ≡ marks.Stopped → (p : ℕ) × IsTurnOf p entry.now × Rose (C.stops dev.old p) (C.stops dev.new p)) }
+        ensures calm { IfOk result (λ mark. (mark ≡ marks.Stopped → ⊥) → (p : ℕ) → IsTurnOf p entry.now → (C.stops dev.new p ≡ C.stops dev.old p) × (C.faults dev.new p ≡ C.faults dev.old p)) }
         ensures device { (p : ℕ) → IsErrOf result (faults.Device p) → IsTurnOf p entry.now × Rose (C.faults dev.old p) (C.faults dev.new p) }
         ensures store { (p : ℕ) (fault : stores.StoreFault) → IsErrOf result (faults.Store p fault) → HasNoRun C.Checkpoint (stage_in self.old dev.old) (stage_in self.new dev.new) }
         ensures failed { OnErr result ((result ≡ Err faults.Sink → ⊥) → GoesOn C.Checkpoint (stage_in self.old dev.old) (stage_in self.new dev.new) entry.now marks.Stopped None × (out.new ≡ out.old)) }

@@ -1,16 +1,19 @@
 //! A case: a name, and then lines `key=value`. In a value `~` stands for a line feed and `@` for 512 zeros.
+//!
+//! Of the call a case may say the words; the protocol, the planned stops, and in what else the plan differs; the guests by the names of
+//! their sources, or one guest by its source, by the words of its code, by a count of zero words, or as the file of `hi` with another byte
+//! or cut off, and the name of that file; how often a source to assemble is repeated; the schedule; the report and the output of a check;
+//! which fetch, which write and which store call fail; the room of the output and the report.
+//!
+//! Of what comes of it: the line on standard error and the status; the output as text or as the file of code; the report by its close line,
+//! the turns of its acts and those that are not plain; the marks.
 
 use std::alloc::{AllocError, Global};
 use std::test::Fail;
 
-/// What a case may say. Of the call: its words; the plan, or what of the plan stands as something else; the guest by its source,
-/// so many times over, by the words of its code, by a count of zero words, or as the file of `hi` with another byte or cut off;
-/// the guest's name; the schedule and how often it is repeated; the report and the output of a check; which fetch and which write fail; the room of the output and
-/// the report. Of what comes of it: the line on standard error and the status; the output as text or as the file of code; the
-/// report by its close line, the count of its acts and the one that is not plain; the marks.
 const KEYS: &str =
-    "words plan old new source copies code zeros place byte cut name schedule times report output fetch write room report_room \
-said status out elf close acts act marks";
+    "words plan protocol stops old new guests source copies code zeros place byte cut name schedule report output fetch write \
+device room report_room said status out elf close acts act marks";
 
 /// Fails with the name of a case and what does not hold of it.
 pub fn holds(ok: bool, case: &str, what: &str) -> Result<(), Fail> {
@@ -68,4 +71,47 @@ pub fn is_read(case: &str) -> Result<(), Fail> {
         holds(known, case, "an unknown key")?;
     }
     Ok(())
+}
+
+/// Turns of a process, from one to another, of which each so many-th is meant.
+#[derive(Clone, Copy, Drop)]
+pub struct Span {
+    pub process: usize,
+    pub from: usize,
+    pub to: usize,
+    step: usize,
+}
+
+/// The turns of a word `P:FROM-TO/STEP`, in which the process may be left out where it is 0, the end where it is the beginning, and the
+/// step where it is 1.
+pub fn span_of(word: &str) -> Result<Span, Fail> {
+    let (process, turns) = word.split_once(':').unwrap_or(("0", word));
+    let (turns, step) = turns.split_once('/').unwrap_or((turns, "1"));
+    let (from, to) = turns.split_once('-').unwrap_or((turns, turns));
+    Ok(Span {
+        process: process.parse::<usize>()?,
+        from: from.parse::<usize>()?,
+        to: to.parse::<usize>()?,
+        step: step.parse::<usize>()?,
+    })
+}
+
+/// Whether a turn is one of these.
+fn has(span: Span, turn: usize) -> bool {
+    if span.step == 0 || turn < span.from || turn > span.to {
+        return false;
+    }
+    (turn - span.from) % span.step == 0
+}
+
+/// What a case says that the act of a turn was told: `plain` where it says nothing of it.
+pub fn told<'a>(case: &'a str, turn: usize) -> Result<&'a str, Fail> {
+    for part in value(case, "act", "").split(", ") {
+        if let Some((turns, told)) = part.split_once(' ') {
+            if has(span_of(turns)?, turn) {
+                return Ok(told);
+            }
+        }
+    }
+    Ok("plain")
 }

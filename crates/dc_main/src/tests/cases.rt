@@ -9,6 +9,7 @@ mod plans;
 mod runs;
 mod schedules;
 mod sources;
+mod stops;
 
 pub use answers::ANSWERS;
 pub use calls::CALLS;
@@ -17,5 +18,6 @@ pub use commands::COMMANDS;
 pub use guests::GUESTS;
 pub use plans::PLANS;
 pub use runs::RUNS;
-pub use schedules::SCHEDULES;
+pub use schedules::{LONG, SCHEDULES, TOO_LONG};
 pub use sources::SOURCES;
+pub use stops::STOPS;

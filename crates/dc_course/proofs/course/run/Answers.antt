@@ -1,12 +1,12 @@
-use Rattle.std.proofs.Common.{◌≡◌, ◌∙◌, ◌≤◌, ◌<◌, ◌+◌, ◌-◌, ◌^◌, ◌||◌, ℕ, Bool, true, false, List, Err, ap, arith, length, map, nat_le, refl, reverse, rules, slice_get, subst, sym}
+use Rattle.std.proofs.Common.{◌≡◌, ◌∙◌, ◌≤◌, ◌<◌, ◌+◌, ◌-◌, ◌^◌, ◌||◌, ℕ, Bool, true, false, Err, ap, arith, length, nat_le, refl, reverse, subst, sym}
 use Rattle.std.proofs.lemmas.Bool.{le-leb, lt-leb}
 use Rattle.std.proofs.lemmas.List.{length-map}
 use Rattle.dc_course.proofs.Between.{tells_on}
-use Rattle.dc_course.proofs.Steps.{now_world, steps_whole}
+use Rattle.dc_course.proofs.Steps.{now_world}
 use Rattle.dc_course.proofs.Whole.{course_is, ending_broken, ending_whole, opened_running, told_at, up_as}
-use Rattle.dc_course.specs.Headline.{IsEnding, Last, Setting, StopsTold, late, system_in, unplanned}
+use Rattle.dc_course.specs.Headline.{IsCalledOn, IsEnding, Last, PlannedCome, Setting, StopsCome, StopsTold, late, system_in, unplanned}
 use Rattle.dc_course.specs.Headline.Last.{Whole}
-use Rattle.dc_course.specs.Courses.{IsCourse, StoresLeft, TellsThroughout, account_of, setting_of, stops_of}
+use Rattle.dc_course.specs.Courses.{IsCourse, StoresLeft, TellsThroughout, account_of, counts_of, setting_of}
 use Rattle.dc_course.specs.Running.{IsEnded, IsRunning, moment_of, output}
 use Rattle.dc_course.specs.declared.course.Course.{Course}
 use Rattle.dc_course.specs.declared.ending.Ending.{Ending}
@@ -89,21 +89,46 @@ stops_told g c tells p less =
     let none : unplanned (given g c) p (reverse c.in_ok-marks.marks.items) ≡ 0 = ap (λ ms. unplanned (given g c) p (reverse ms)) c.in_ok-marks.ensures.items in
     omega (arith, first, rest, none)
 
+-- the calls of a process's device up to where the marks end
+pub record Called (g : Over) (c : goal.After-course g) (last : Last) (p : ℕ) : Type 0 where
+  pub made : ℕ
+  pub on : IsCalledOn (given g c) p c.in_ok-marks.marks.items c.run.new.self.marks.items (g.C.Planned.calls c.open.new.dev p) made
+  pub later : made ≤ g.C.Planned.calls c.run.new.dev p
+  pub whole : last ≡ Whole → made ≡ g.C.Planned.calls c.run.new.dev p
+
+-- the planned stops came
+planned_come : (g : Over) (c : goal.After-course g) (last : Last) (p : ℕ) → Called g c last p → PlannedCome (given g c) last c.run.new.self.marks.items p (g.C.Planned.calls c.args.dev.now p) (g.C.Planned.calls c.run.new.dev p)
+planned_come g c last p called = record {
+  made = called.made;
+  come = called.on (g.C.Planned.calls c.args.dev.now p) (subst (λ ms. StopsCome (given g c) p (reverse ms) (g.C.Planned.calls c.args.dev.now p) (g.C.Planned.calls c.open.new.dev p)) (sym c.in_ok-marks.ensures.items)
+      (g.met.C.Planned.calls_later c.args.dev.now c.open.new.dev p (g.met.C.Planned.lasts_within c.args.dev.now c.open.new.dev c.open.ensures.continues)));
+  later = called.later;
+  whole = called.whole;
+}
+
+-- the plan is that of the world that was opened
+plan_kept : (g : Over) (c : goal.After-course g) → g.C.Planned.planned c.args.dev.now ≡ g.C.Planned.planned c.open.new.dev
+plan_kept g c = sym (g.met.C.Planned.planned_same c.args.dev.now c.open.new.dev (g.met.C.Planned.lasts_within c.args.dev.now c.open.new.dev c.open.ensures.continues))
+
+-- a process of the run is below the number of its guests
+inside : (g : Over) (c : goal.After-course g) (p : ℕ) → p < length (given g c).images → p < length c.args.setup.images.items
+inside g c p less = subst (λ n. p < n) (length-map c.args.setup.images.items seen_image) less
+
 -- its last entry went so, and it ended so
 course : (g : Over) (c : goal.After-course g) (tells : TellsThroughout g.C.Checkpoint (length c.args.setup.images.items) c.args.dev.now c.run.new.dev) (ending : Ending) → c.match-run.ending ≡ ending → (last : Last)
     (ended : IsEnded g.C.Checkpoint (given g c) (up g c) (stage_in c.run.new.self.world c.run.new.dev) c.run.new.self.marks.items last (output (g.O.Sink.held c.args.out.now) (g.O.Sink.held c.run.new.out)))
-    → IsEnding (given g c) ending c.run.new.self.marks.items last ended.core
-    → IsCourse (given g c) (account_of c.course.result) c.course.result.ending (output (g.O.Sink.held c.args.out.now) (g.O.Sink.held c.run.new.out)) (stops_of (g.C.Planned.unplanned c.args.dev.now) (g.C.Planned.unplanned c.run.new.dev))
+    → IsEnding (given g c) ending c.run.new.self.marks.items last ended.core → ((p : ℕ) → p < length (given g c).images → Called g c last p)
+    → IsCourse (given g c) (account_of c.course.result) c.course.result.ending (output (g.O.Sink.held c.args.out.now) (g.O.Sink.held c.run.new.out)) (counts_of g.C.Planned.unplanned g.C.Planned.calls c.args.dev.now c.run.new.dev)
     (λ core. StoresLeft g.C.Checkpoint (given g c) core c.run.new.dev)
-course g c tells ending same last ended is =
+course g c tells ending same last ended is called =
     let out = output (g.O.Sink.held c.args.out.now) (g.O.Sink.held c.run.new.out) in
-    let stops = stops_of (g.C.Planned.unplanned c.args.dev.now) (g.C.Planned.unplanned c.run.new.dev) in
+    let counts = counts_of g.C.Planned.unplanned g.C.Planned.calls c.args.dev.now c.run.new.dev in
     let w = c.run.new.self.world in
     let left = (λ (core : Core). StoresLeft g.C.Checkpoint (given g c) core c.run.new.dev) in
-    subst (λ (o : Course). IsCourse (given g c) (account_of o) o.ending out stops left) (sym c.course.ensures)
-    (subst (λ e. IsCourse (given g c) (record { acts = w.processes.acts.items; marks = c.run.new.self.marks.items; lines = w.processes.lines }) e out stops left) (sym same)
+    subst (λ (o : Course). IsCourse (given g c) (account_of o) o.ending out counts left) (sym c.course.ensures)
+    (subst (λ e. IsCourse (given g c) (record { acts = w.processes.acts.items; marks = c.run.new.self.marks.items; lines = w.processes.lines }) e out counts left) (sym same)
     (course_is g.C.Checkpoint (given g c) c.requires.alone (up g c) w.stores.items c.run.new.dev w.processes c.run.new.self.marks.items last out ended c.run.ensures.ready
-    (c.run.ensures.long ∙ c.in-Ok.ensures.begins.slots_long ∙ sym (length-map c.args.setup.images.items seen_image)) (up_beyond g c) stops ending is (stops_told g c tells)))
+    (c.run.ensures.long ∙ c.in-Ok.ensures.begins.slots_long ∙ sym (length-map c.args.setup.images.items seen_image)) (up_beyond g c) counts ending is (stops_told g c tells) (λ p less. planned_come g c last p (called p less))))
 
 pub returns-clause-headline : goal.returns-clause-headline
 returns-clause-headline g c tells = elim c.match-run.branch [
@@ -116,11 +141,13 @@ returns-clause-headline g c tells = elim c.match-run.branch [
       let have = w.ended.ensures.core c.run.new.dev images r.core c.run.ensures.ready (now_world g.C.Checkpoint (given g c) c.requires.alone (up g c) x marks out r) in
       let came = ending_whole g.C.Checkpoint (given g c) (up g c) (moment_of c.run.new.self c.run.new.dev (g.O.Sink.held c.run.new.out)) (g.O.Sink.held c.args.out.now) w.ended.result r
       (subst (λ i. HaveEnded w.ended.result (guests_of images i) r.core) r.of.inputs_are have) w.in-Ok-run.ensures.used in
-      course g c tells _ (w.ending-is ∙ w.ended-ending.ensures) came.last came.ended came.is)
+      course g c tells _ (w.ending-is ∙ w.ended-ending.ensures) came.last came.ended came.is
+      (λ p less. let own = inside g c p less in let come = w.in-Ok-run.ensures.come (given g c) p (plan_kept g c) refl (tells.stops p own) (tells.faults p own) in record { made = come.0; on = come.1; later = come.2; whole = λ e. come.3 refl }))
   | in-Err-run w ↦ (
       let came = ending_broken g.C.Checkpoint (given g c) (up g c) (moment_of c.run.new.self c.run.new.dev (g.O.Sink.held c.run.new.out)) (g.O.Sink.held c.args.out.now) w.in-Err-run.fault
       (w.in-Err-run.ensures.runs_off w.in-Err-run.fault refl (given g c) (up g c) (g.O.Sink.held c.args.out.now) c.requires.alone refl (told_opened g c tells) (told_ended g c tells) (begun g c tells)) in
-      course g c tells _ (w.ending-is ∙ w.ended_by-ending.ensures) came.last came.ended came.is)
+      course g c tells _ (w.ending-is ∙ w.ended_by-ending.ensures) came.last came.ended came.is
+      (λ p less. let own = inside g c p less in let come = w.in-Err-run.ensures.come (given g c) p (plan_kept g c) refl (tells.stops p own) (tells.faults p own) in record { made = come.0; on = come.1; later = come.2; whole = λ e. absurd (came.broken e) }))
 ]
 
 pub returns-clause-planned : goal.returns-clause-planned

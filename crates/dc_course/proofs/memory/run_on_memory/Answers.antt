@@ -1,13 +1,11 @@
-use Rattle.std.proofs.Common.{◌≡◌, ◌≤◌, ◌<◌, ℕ, Err, IfOk, IsSome, ap, arith, length, refl, rules, subst, sym}
+use Rattle.std.proofs.Common.{◌≡◌, ◌≤◌, ◌<◌, IfOk, IsSome, ap, arith, length, refl, rules, subst, sym}
 use Rattle.std.proofs.lemmas.Result.{IfOk-weaker}
 use Rattle.dc_course.proofs.Segments.{memory_course}
 use Rattle.dc_vista.specs.Handles.{shape_of}
-use Rattle.dc_course.specs.Courses.{IsCourse, account_of, setting_of, stops_of}
+use Rattle.dc_course.specs.Courses.{IsCourse, account_of, counts_of, setting_of}
 use Rattle.dc_course.specs.Running.{output}
-use Rattle.dc_course.specs.Segments.{SegmentsLeft, TellsStores}
-use Rattle.dc_course.specs.declared.ending.Ending.TheVariants as endings
+use Rattle.dc_course.specs.Segments.{SegmentsLeft, TellsStores, capped_by}
 use Rattle.dc_media.specs.Causes.{Rose}
-use Rattle.dc_world.specs.declared.faults.OpenFault.TheVariants as opening
 use Rattle.dc_course.proofs.memory.run_on_memory.Goals as goal
 
 pub returns-clause-later : goal.returns-clause-later
@@ -27,7 +25,7 @@ returns-clause-headline g c =
     let setting = setting_of c.args.setup c.args.schedule.now c.args.stops.items in
     let out = output (g.O.Sink.held c.args.out.now) (g.O.Sink.held c.run-course.new.out) in
     subst (λ k. IfOk c.run-course.result (λ course. TellsStores g.K.Keeps (length c.args.setup.images.items) c.args.keeps.now k →
-    IsCourse setting (account_of course) course.ending out (stops_of (g.K.Keeps.stops c.args.keeps.now) (g.K.Keeps.stops k)) (λ core. SegmentsLeft g.K.Keeps setting core k))) {x = c.run-course.new.dev.device.now} (search rules)
+    IsCourse setting (account_of course) course.ending out (counts_of g.K.Keeps.stops (capped_by g.K.Keeps.calls) c.args.keeps.now k) (λ core. SegmentsLeft g.K.Keeps setting core k))) {x = c.run-course.new.dev.device.now} (search rules)
     (IfOk-weaker c.run-course.result _ _ (λ course says tells.
     let armed = c.new-armed.result in
     let dev = c.run-course.new.dev in

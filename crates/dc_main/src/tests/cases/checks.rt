@@ -146,7 +146,7 @@ status=9
 said=dc: not a run: act 7~
 * an act of a process that has ended
 words=dc check plan report output
-schedule=0 0 0~0 0 0~0 0 0~0 0 0~0 0 0~0 0 0~0 0 0~0 0 0~
+schedule=8 x 0 0 0
 report=%act 7 0 plain~close 0 8 8 2~
 output=out 0 0 6869~end 0 1 0~
 status=9
@@ -190,6 +190,14 @@ report=dc-report 1~act 0 0 plain~act 1 0 plain~act 2 0 plain~act 3 0 receive fro
 output=
 status=9
 said=dc: not a run: act 3~
+* a message that was taken before
+words=dc check plan report output
+guests=sender teller
+schedule=5 x 0 0 0, 4 x 1 0 0, stop 0, 2 x 0 0 0, 10 x 1 0 0, 3 x 0 0 0
+report=dc-report 1~act 0 0 plain~act 1 0 plain~act 2 0 plain~act 3 0 plain~act 4 0 plain~act 5 1 plain~act 6 1 plain~act 7 1 plain~act 8 1 receive from 0~act 12 1 plain~act 13 1 plain~act 14 1 plain~act 15 1 plain~act 16 1 plain~act 17 1 plain~act 18 1 plain~act 19 1 plain~act 20 1 plain~act 21 1 receive from 0~act 22 0 plain~act 23 0 plain~act 24 0 plain~close 1 25 22 2~
+output=out 1 0 6869~end 0 0 0~
+status=9
+said=dc: not a run: act 18~
 * the acts decide before the lines
 words=dc check plan report output
 report=dc-report 1~act 0 0 random 0~close 1 1 1 0~
@@ -210,10 +218,10 @@ status=5
 said=dc: missing: guest 0~
 * a bad schedule and no report
 words=dc check plan report output
-schedule=stop 0~
+schedule=stop 1~
 report=none
 status=11
-said=dc: schedule line 1 refused: form~
+said=dc: schedule line 1 refused: process~
 * no report and no output
 words=dc check plan report output
 report=none

@@ -68,7 +68,7 @@ said=dc: usage: dc run PLAN | dc check PLAN REPORT OUT | dc asm SOURCE~
 words=dc run -- plan
 said=dc: done 7 acts 2 lines~
 out=out 0 0 6869~end 0 1 0~
-acts=7
+acts=0-6
 close=close 0 7 7 2
 * a plan named -
 words=dc run -

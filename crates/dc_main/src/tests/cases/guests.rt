@@ -50,14 +50,14 @@ place=24
 byte=16
 out=end 0 0 0~
 said=dc: done 3 acts 1 lines~
-acts=3
+acts=0-2
 close=close 0 7 3 1
 marks=ss0iiii
 * 64,512 bytes from 1024 on fill the memory
 zeros=16128
 out=trap 0 0 2 00000400~
 said=dc: done 1 acts 1 lines~
-acts=1
+acts=0
 close=close 0 7 1 1
 * a word more does not fit
 zeros=16129
@@ -65,90 +65,79 @@ status=4
 said=dc: guest 0 refused: segment 0~
 * no bytes, 256 and 257 of them, the last refused
 code=00200893 20000513 00000593 00000073 20000513 10000593 00000073 20000513 10100593 00000073 00100893 00000073
-schedule=0 0 0~
-times=12
+schedule=12 x 0 0 0
 out=out 0 0 -~out 0 1 @~end 0 2 4294967293~
 said=dc: done 12 acts 3 lines~
-acts=12
+acts=0-11
 close=close 0 12 12 3
 * sltiu compares with a word that is all ones
 code=fff03513 00100893 00000073
-schedule=0 0 0~
-times=3
+schedule=3 x 0 0 0
 out=end 0 0 1~
 said=dc: done 3 acts 1 lines~
-acts=3
+acts=0-2
 close=close 0 3 3 1
 * srai copies the sign
 code=800002b7 41f2d513 00100893 00000073
-schedule=0 0 0~
-times=4
+schedule=4 x 0 0 0
 out=end 0 0 4294967295~
 said=dc: done 4 acts 1 lines~
-acts=4
+acts=0-3
 close=close 0 4 4 1
 * jalr clears the lowest bit
 code=40900293 00028067 0
-schedule=0 0 0~
-times=3
+schedule=3 x 0 0 0
 out=trap 0 0 2 00000408~
 said=dc: done 3 acts 1 lines~
-acts=3
+acts=0-2
 close=close 0 3 3 1
 * a jump to no multiple of four
 code=40600293 00028067 0
-schedule=0 0 0~
-times=2
+schedule=2 x 0 0 0
 out=trap 0 0 0 00000404~
 said=dc: done 2 acts 1 lines~
-acts=2
+acts=0-1
 close=close 0 2 2 1
 * no word at pc
 code=000102b7 00028067
-schedule=0 0 0~
-times=3
+schedule=3 x 0 0 0
 out=trap 0 0 1 00010000~
 said=dc: done 3 acts 1 lines~
-acts=3
+acts=0-2
 close=close 0 3 3 1
 * a misaligned load
 code=00202283
-schedule=0 0 0~
-times=1
+schedule=1 x 0 0 0
 out=trap 0 0 4 00000400~
 said=dc: done 1 acts 1 lines~
-acts=1
+acts=0
 close=close 0 1 1 1
 * a load past the memory
 code=ffc02283
-schedule=0 0 0~
-times=1
+schedule=1 x 0 0 0
 out=trap 0 0 5 00000400~
 said=dc: done 1 acts 1 lines~
-acts=1
+acts=0
 close=close 0 1 1 1
 * a misaligned store
 code=005010a3
-schedule=0 0 0~
-times=1
+schedule=1 x 0 0 0
 out=trap 0 0 6 00000400~
 said=dc: done 1 acts 1 lines~
-acts=1
+acts=0
 close=close 0 1 1 1
 * a store past the memory
 code=fe500fa3
-schedule=0 0 0~
-times=1
+schedule=1 x 0 0 0
 out=trap 0 0 7 00000400~
 said=dc: done 1 acts 1 lines~
-acts=1
+acts=0
 close=close 0 1 1 1
 * ebreak
 code=00100073
-schedule=0 0 0~
-times=1
+schedule=1 x 0 0 0
 out=trap 0 0 3 00000400~
 said=dc: done 1 acts 1 lines~
-acts=1
+acts=0
 close=close 0 1 1 1
 ";

@@ -3,7 +3,7 @@ pub const RUNS: &str = "\
 * a guest shows hi and ends
 out=out 0 0 6869~end 0 1 0~
 said=dc: done 7 acts 2 lines~
-acts=7
+acts=0-6
 close=close 0 7 7 2
 marks=sss0ss1
 * a word that codes nothing is a trap
@@ -11,7 +11,7 @@ code=0
 schedule=0 0 0~
 out=trap 0 0 2 00000400~
 said=dc: done 1 acts 1 lines~
-acts=1
+acts=0
 close=close 0 1 1 1
 marks=0
 * an empty schedule ends nothing
@@ -21,18 +21,17 @@ said=dc: unfinished 0 acts 0 lines~
 close=close 1 0 0 0
 marks=
 * turns past the end are idle
-schedule=0 0 0~
-times=10
+schedule=10 x 0 0 0
 out=out 0 0 6869~end 0 1 0~
 said=dc: done 7 acts 2 lines~
-acts=7
+acts=0-6
 close=close 0 10 7 2
 marks=sss0ss1iii
 * the first line is refused
 write=1
 status=8
 said=dc: sink failed: out~
-acts=4
+acts=0-3
 close=close 8 3 4 0
 marks=sss
 * the first line is cut off
@@ -40,7 +39,7 @@ room=5
 out=out 0
 status=8
 said=dc: sink failed: out~
-acts=4
+acts=0-3
 close=close 8 3 4 0
 marks=sss
 * the second line is refused
@@ -48,7 +47,7 @@ write=2
 out=out 0 0 6869~
 status=8
 said=dc: sink failed: out~
-acts=7
+acts=0-6
 close=close 8 6 7 1
 marks=sss0ss
 * the second line is cut off
@@ -56,7 +55,7 @@ room=22
 out=out 0 0 6869~end 0 1 0
 status=8
 said=dc: sink failed: out~
-acts=7
+acts=0-6
 close=close 8 6 7 1
 marks=sss0ss
 * output and report fail
@@ -65,6 +64,6 @@ report_room=15
 out=out 0
 status=8
 said=dc: sink failed: out~
-acts=4
+acts=0-3
 close=close 8 3 4 0
 ";

@@ -9,7 +9,7 @@ said=dc: done 88 bytes~
 source=# shows rez, and ends with 7~addi x17,x0,2~addi x10,x0,word~addi x11,x0,3~ecall~addi x17,x0,1~addi x10,x0,7~ecall~word:~.word 8021362 # the bytes of rez, the lowest first~
 out=out 0 0 72657a~end 0 1 7~
 said=dc: done 7 acts 2 lines~
-acts=7
+acts=0-6
 close=close 0 7 7 2
 * a source refused for word
 words=dc asm source

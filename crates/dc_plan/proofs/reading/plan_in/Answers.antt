@@ -1,6 +1,9 @@
-use Rattle.std.proofs.Common.{◌∙◌, ap, sym, Ok}
+use Rattle.std.proofs.Common.{◌∙◌, ap, refl, sym, Ok}
 use Rattle.std.proofs.lemmas.Bool.{false≢true}
 use Rattle.dc_plan.proofs.Documents.{a_document, no_document, no_text}
+use Rattle.toml.specs.View.{table_view}
+use Rattle.dc_plan.specs.Parts.{parts_view}
+use Rattle.dc_plan.proofs.Allowing.{read_have_room}
 use Rattle.dc_plan.proofs.reading.plan_in.Goals as goal
 
 pub returns-in_default : goal.returns-in_default
@@ -16,3 +19,6 @@ returns-in-Err-parts_in c = a_document c.args.bytes.now c.in-Ok.text.now c.in-Ok
 pub returns-in-Ok-copied : goal.returns-in-Ok-copied
 returns-in-Ok-copied c = a_document c.args.bytes.now c.in-Ok.text.now c.in-Ok.ensures.cases.0 c.in-Ok.ensures.cases.1 _ c.in-Ok-table_from_str.ensures.ok
     ∙ sym c.in-Ok-parts_in.ensures ∙ ap Ok (sym c.in-Ok-copied.ensures)
+
+pub copied-requires : goal.copied-requires
+copied-requires c = read_have_room (table_view c.in-Ok-table_from_str.table) (parts_view c.in-Ok-parts_in.parts) c.in-Ok-parts_in.parts.stops.now refl (sym c.in-Ok-parts_in.ensures)

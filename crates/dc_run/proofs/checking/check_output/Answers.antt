@@ -1,7 +1,9 @@
-use Rattle.dc_run.specs.Checking.{found_view}
+use Rattle.std.proofs.Common.{◌∙◌}
+use Rattle.dc_run.specs.Checking.{found_view, passed_by}
 use Rattle.dc_run.specs.Command.{names_view}
-use Rattle.dc_run.proofs.Checks.{found_exact, unfound_exact, unfound_opened}
-use Rattle.dc_run.proofs.Works.{for_known}
+use Rattle.dc_run.specs.Refusals.{verdict_of}
+use Rattle.dc_run.proofs.Checks.{found_exact}
+use Rattle.dc_run.proofs.Works.{for_known, refused_exact, told_before, told_verdict}
 use Rattle.dc_run.proofs.checking.check_output.Goals as goal
 
 pub returns-in-Ok-clause-refused : goal.returns-in-Ok-clause-refused
@@ -9,7 +11,5 @@ returns-in-Ok-clause-refused g c = λ refusal is. for_known _ (λ files here. fo
     (c.in-Ok.ensures.told files here) is c.conclude_check.ensures.exact)
 
 pub returns-in-Err-clause-refused : goal.returns-in-Err-clause-refused
-returns-in-Err-clause-refused g c = λ refusal is. for_known _ (λ files here. unfound_exact files (names_view c.args.names.now) c.in-Err.verdict c.idle.result.verdict refusal c.idle.ensures.verdict (c.in-Err.ensures.told files here) is)
-
-pub returns-in-Err-clause-opened : goal.returns-in-Err-clause-opened
-returns-in-Err-clause-opened g c = for_known _ (λ files here. unfound_opened files (names_view c.args.names.now) c.in-Err.verdict c.idle.result.verdict c.idle.ensures.verdict c.in-Err.ensures.early.0 (c.in-Err.ensures.told files here))
+returns-in-Err-clause-refused g c = λ refusal is. for_known _ (λ files here. refused_exact (verdict_of c.in-Err.refusal) c.idle.result.verdict refusal _ (c.idle.ensures.verdict ∙ c.verdict_of.ensures) is
+    (told_before (verdict_of c.in-Err.refusal) _ passed_by (told_verdict c.in-Err.refusal _ (c.in-Err.ensures.told files here))))

@@ -1,9 +1,11 @@
-use Rattle.std.proofs.Common.{sym, ap, ◌∙◌, Some}
+use Rattle.std.proofs.Common.{ap, map, string_bytes}
+use Rattle.std.proofs.lemmas.Result.{err_from_is_err_and}
 use Rattle.dc_plan.specs.Plans.{plan_view}
-use Rattle.dc_run.proofs.Openings.{there, asked_by_plan, name_first, planned}
+use Rattle.dc_run.specs.declared.refusal.Refusal.TheVariants.{Library}
+use Rattle.dc_run.proofs.Openings.{asked_guest, same_refusal}
 use Rattle.dc_run.proofs.opening.open_plan.Goals as goal
 
-pub returns-clause-reached : goal.returns-clause-reached
-returns-clause-reached g c files w told fault = let plan = plan_view c.in_ok-plan.plan in
-    let file = there _ _ _ (c.in_ok-file.ensures.told files told) ∙ ap (λ bytes. Some bytes) (sym c.deref-2.ensures.value) in
-    asked_by_plan files c.args.text.now c.deref-2.result.now plan w (planned _ _ c.in_ok-plan.ensures.told) (ap files (name_first c.in_ok-plan.plan.guests.items c.index.result.now c.in_ok-plan.ensures.allowed.guests_least c.index.ensures ∙ sym c.deref.ensures) ∙ file) (c.open_guest.ensures.reached files w (c.in_ok-file.ensures.files ∙ told) fault)
+pub returns-in_err-images-clause-reached : goal.returns-in_err-images-clause-reached
+returns-in_err-images-clause-reached g c = λ files w known fault. let p = err_from_is_err_and c.from_residual.result c.from_residual.ensures.1 in
+    let failed = same_refusal c.in_err-images.field-0.0 (Library w) (rw (p.1, p.2) at fault) in
+    asked_guest files (plan_view c.args.plan) _ w (ap (map string_bytes) c.deref.ensures.value) (c.in_err-images.ensures.reached files w known failed)

@@ -1,9 +1,9 @@
-use Rattle.std.proofs.Common.{◌≡◌, ◌≤◌, ◌<◌, ◌+◌, ◌-◌, ◌∙◌, ℕ, Some, ap, arith, length, refl, rules, slice_get, subst, sym}
+use Rattle.std.proofs.Common.{◌+◌, ◌∙◌, ap, arith, length, refl, slice_get, subst, sym}
 use Rattle.std.proofs.lemmas.Option.{slice_get-get_or}
 use Rattle.dc_course.proofs.Between.{counted_twice, later_on, runs_more, runs_off, tells_on}
+use Rattle.dc_course.specs.Headline.{IsCalledOn}
 use Rattle.dc_course.specs.Running.{moment_of}
 use Rattle.dc_media.proofs.Becoming.{TellsOn-then}
-use Rattle.dc_model.specs.declared.entry.Entry.{Entry}
 use Rattle.dc_course.proofs.running.Running.run.Goals as goal
 
 pub returns-in-Err-clause-others : goal.returns-in-Err-clause-others
@@ -40,6 +40,9 @@ loop-entry-preserved g c = record {
       (c.loop-entry.invariant.stops setting p planned is (let l = c.turn.ensures.later p in omega (arith, l.0, below)))
       (c.turn.ensures.stops setting p (planned ∙ sym (g.met.C.Planned.planned_same c.args.dev.now c.loop-entry.dev c.loop-entry.invariant.lasts))
       (ap (λ s. slice_get s (length c.loop-entry.self.marks.items)) is ∙ ap (slice_get c.args.schedule.now) c.loop-entry.invariant.marks ∙ slice_get-get_or c.args.schedule.now c.loop-entry.entry-index _ c.loop-entry-test.true) below);
+  comes = λ setting p planned is below sound before come. c.in-Ok.ensures.comes setting p (planned ∙ sym (g.met.C.Planned.planned_same c.args.dev.now c.loop-entry.dev c.loop-entry.invariant.lasts))
+      (ap (λ s. slice_get s (length c.loop-entry.self.marks.items)) is ∙ ap (slice_get c.args.schedule.now) c.loop-entry.invariant.marks ∙ slice_get-get_or c.args.schedule.now c.loop-entry.entry-index _ c.loop-entry-test.true) below sound before
+      (let l = c.turn.ensures.later p in c.loop-entry.invariant.comes setting p planned is (omega (arith, l.0, below)) (omega (arith, l.1, sound)) before come);
   planned = λ p. let before = c.loop-entry.invariant.planned p in let more = c.turn.ensures.once p in omega (arith, before, more);
   later = later_on g.C.Checkpoint c.args.dev.now c.loop-entry.dev c.turn.new.dev c.loop-entry.invariant.later c.turn.ensures.later;
   tells = λ p. tells_on g.C.Checkpoint c.args.dev.now c.loop-entry.dev c.turn.new.dev p (c.loop-entry.invariant.tells p) c.turn.ensures.later (c.turn.ensures.tells p);
@@ -48,6 +51,25 @@ loop-entry-preserved g c = record {
   out_tells = TellsOn-then _ _ _ 0 _ _ c.turn.ensures.out_later c.loop-entry.invariant.out_tells c.turn.ensures.out_tells;
   out_later = (let before = c.loop-entry.invariant.out_later in let more = c.turn.ensures.out_later in omega (arith, before, more));
 }
+
+pub returns-in-Err-clause-come : goal.returns-in-Err-clause-come
+returns-in-Err-clause-come g c setting p planned is below sound =
+    let mid = c.loop-entry.dev in
+    let l = c.turn.ensures.later p in (
+      g.C.Planned.calls mid p,
+      subst (λ ms. IsCalledOn setting p c.args.self.now.marks.items ms (g.C.Planned.calls c.args.dev.now p) (g.C.Planned.calls mid p)) (sym c.in-Err.ensures.unmarked)
+          (c.loop-entry.invariant.comes setting p planned is (omega (arith, l.0, below)) (omega (arith, l.1, sound))),
+      g.met.C.Planned.calls_later mid c.turn.new.dev p c.turn.ensures.lasts,
+      λ ok. absurd (cc),
+    )
+
+pub returns-clause-come : goal.returns-clause-come
+returns-clause-come g c setting p planned is below sound = (
+  g.C.Planned.calls c.loop-entry.dev p,
+  c.loop-entry.invariant.comes setting p planned is below sound,
+  omega arith,
+  λ ok. refl,
+)
 
 pub returns-in-Err-clause-planned : goal.returns-in-Err-clause-planned
 returns-in-Err-clause-planned g c p = let before = c.loop-entry.invariant.planned p in let more = c.turn.ensures.once p in omega (arith, before, more, c.loop-entry-test.true)

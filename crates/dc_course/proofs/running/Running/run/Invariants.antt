@@ -1,6 +1,6 @@
 use Rattle.std.proofs.Common.{◌≡◌, ◌-◌, ◌^◌, ◌≤◌, ◌<◌, ◌+◌, ℕ, length}
 use Rattle.dc_course.proofs.Between.{Later}
-use Rattle.dc_course.specs.Headline.{IsCountedOn, Setting}
+use Rattle.dc_course.specs.Headline.{IsCalledOn, IsCountedOn, Setting}
 use Rattle.dc_course.specs.Running.{RunsOn, moment_of}
 use Rattle.dc_media.specs.Told.{TellsOn}
 use Rattle.dc_world.specs.Stages.{KeepsTelling}
@@ -19,6 +19,8 @@ invariant-loop-entry g l = let O = g.O.Sink in let C = g.C.Checkpoint in record 
   lasts : g.C.Planned.lasts l.fn.dev l.dev;
   stops : (setting : Setting) (p : ℕ) → setting.stops ≡ g.C.Planned.planned l.fn.dev → setting.schedule ≡ l.schedule → C.stops l.dev p < 2 ^ 64 - 1
       → IsCountedOn setting p l.fn.self.marks.items l.self.marks.items (g.C.Planned.unplanned l.fn.dev p) (g.C.Planned.unplanned l.dev p);
+  comes : (setting : Setting) (p : ℕ) → setting.stops ≡ g.C.Planned.planned l.fn.dev → setting.schedule ≡ l.schedule → C.stops l.dev p < 2 ^ 64 - 1 → C.faults l.dev p < 2 ^ 64 - 1
+      → IsCalledOn setting p l.fn.self.marks.items l.self.marks.items (g.C.Planned.calls l.fn.dev p) (g.C.Planned.calls l.dev p);
   planned : (p : ℕ) → C.stops l.dev p + g.C.Planned.unplanned l.fn.dev p ≤ g.C.Planned.unplanned l.dev p + C.stops l.fn.dev p + l.entry-index;
   later : Later C l.fn.dev l.dev;
   tells : (p : ℕ) → KeepsTelling C l.fn.dev l.dev p;

@@ -1,19 +1,15 @@
-use Rattle.std.proofs.Common.{◌≡◌, ◌≢◌, ◌⊎◌, ◌∙◌, ◌≤◌, ◌<◌, ◌+◌, ℕ, Bool, false, List, Option, Some, Err, IsErrOf, ap, arith, length, refl, reverse, rules, slice_get, subst, sym}
+use Rattle.std.proofs.Common.{◌≡◌, ◌∙◌, ◌≤◌, ◌<◌, ◌+◌, false, Err, IfSome, ap, arith, length, reverse, rules, subst, sym}
 use Rattle.dc_course.proofs.Steps.{steps_on}
-use Rattle.dc_course.proofs.Counting.{counted_on, unplanned_parts}
+use Rattle.dc_armed.specs.Stops.{first_stop}
+use Rattle.dc_course.proofs.Counting.{at_turn, called_on, counted_on, turn_is, unplanned_parts, unstopped_is}
 use Rattle.dc_course.proofs.Breaking.{Broke, ended_by, turn_below}
 use Rattle.dc_media.specs.Causes.{Rose}
 use Rattle.dc_plain.specs.Playing.{lists_of}
 use Rattle.dc_course.proofs.Still.{running_still, told_still}
-use Rattle.dc_course.specs.Headline.{Setting, is_planned, unplanned}
-use Rattle.dc_course.specs.Running.{IsRunning, IsEndedBy, moment_of, output}
-use Rattle.dc_media.specs.Told.{TellsOn}
-use Rattle.dc_model.specs.declared.mark.Mark.{Mark}
-use Rattle.dc_protocols.specs.Rules.{is_global}
+use Rattle.dc_course.specs.Headline.{IsCalledOn, is_planned, is_turn_of, unplanned}
+use Rattle.dc_course.specs.Running.{IsRunning, output}
 use Rattle.dc_twophase.proofs.Laws.{Laws, QuietLaws}
-use Rattle.dc_world.specs.Stages.{IsTold}
 use Rattle.dc_world.specs.Worlds.{stage_in}
-use Rattle.dc_world.specs.declared.faults.TurnFault.{TurnFault}
 use Rattle.dc_world.specs.declared.faults.TurnFault.TheVariants as fault
 use Rattle.dc_course.proofs.running.Running.turn.Given.{Over}
 use Rattle.dc_course.proofs.running.Running.turn.Goals as goal
@@ -97,3 +93,17 @@ returns-in-Ok-clause-once g c p = c.begin.ensures.once c.turn.new.dev p c.turn.e
 
 pub returns-in-Err-clause-once : goal.returns-in-Err-clause-once
 returns-in-Err-clause-once g c p = c.begin.ensures.once c.turn.new.dev p c.turn.ensures.continues
+
+pub returns-in-Ok-clause-comes : goal.returns-in-Ok-clause-comes
+returns-in-Ok-clause-comes g c setting p planned at below sound =
+    let marks = c.args.self.now.marks.items in
+    let C = g.C.Checkpoint in
+    let lasts = c.begin.ensures.lasts c.turn.new.dev c.turn.ensures.continues in
+    subst (λ ms. IsCalledOn setting p marks ms (g.C.Planned.calls c.args.dev.now p) (g.C.Planned.calls c.turn.new.dev p)) (sym c.push.ensures.items)
+    (called_on setting marks c.in-Ok.mark p (g.C.Planned.calls c.args.dev.now p) (g.C.Planned.calls c.turn.new.dev p) (g.met.C.Planned.calls_later c.args.dev.now c.turn.new.dev p lasts)
+    (λ whole of.
+    let calm = c.in-Ok.ensures.calm (unstopped_is c.in-Ok.mark whole) p (turn_is c.args.entry.now p (sym (ap (is_turn_of p) at) ∙ of)) in
+    let begun = c.begin.ensures.same p in
+    subst (λ ss. IfSome (first_stop ss (length marks) p) (λ stop. g.C.Planned.calls c.turn.new.dev p < g.C.Planned.calls c.args.dev.now p + stop.call)) (sym planned)
+    (at_turn (g.C.Planned.planned c.args.dev.now) p (λ stop. g.C.Planned.calls c.turn.new.dev p < g.C.Planned.calls c.args.dev.now p + stop.call) _ (length marks)
+    (c.begin.ensures.comes c.turn.new.dev p c.turn.ensures.continues (record { stops_same = calm.0 ∙ begun.0; faults_same = calm.1 ∙ begun.1; stops_below = below; faults_below = sound })) (search rules))))
