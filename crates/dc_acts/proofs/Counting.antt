@@ -1,11 +1,11 @@
 -- The counts of acts, as acts are added and cut.
 use Rattle.std.proofs.Common.{◌≡◌, ◌≢◌, ◌∙◌, ◌+◌, ◌-◌, ◌^◌, ◌<◌, ◌≤◌, ℕ, suc, List, [], ◌∷◌, ◌++◌, length, reverse, min, take, drop, set, get_or, slice_index, slice_index_or, slice_set, ap, sym, subst, refl, arith, ⊎_elim, length-append, length-take, add-one, drop-cons}
 use Rattle.std.proofs.lemmas.Bool.{cases_eq}
-use Rattle.std.proofs.lemmas.List.{reverse-append, length-reverse, get_or-set_same, get_or-set_other, length-set, take_all, take_more, take_more_set, drop-set-lt}
+use Rattle.std.proofs.lemmas.List.{reverse-append, reverse-reverse, length-reverse, get_or-set_same, get_or-set_other, length-set, take_all, take_more, take_more_set, drop-set-lt}
 use Rattle.dc_model.specs.Cuts.{cut, reach_of}
 use Rattle.dc_model.specs.declared.act.Taken.{Taken}
 use Rattle.dc_acts.specs.Counted.{AreCounted, acts_of, cut_acts}
-use Rattle.dc_acts.proofs.Cutting.{count_all, count_cut, count_here, count_joined, count_other, count_turned, kept_here, left_out, length_cut, reach_here, reach_other}
+use Rattle.dc_acts.proofs.Cutting.{count_all, count_cut, cut_none, count_here, count_joined, count_other, count_turned, kept_here, left_out, length_cut, reach_here, reach_other}
 
 -- one act more
 pub counted_more : (counts : List ℕ) (acts after : List Taken) (x : Taken) → length counts ≡ 8 → x.p < 8 → length acts < 2 ^ 32 - 1
@@ -85,9 +85,6 @@ module _ (p reach i : ℕ) (acts : List Taken) (x d : Taken) (within : i < lengt
   kept_other ne = let all = count_all (λ (y : Taken). y.p) x.p (take i acts) in
       kept_one (omega (arith, reach_other p reach (length acts) x.p ne, all, length-take i acts, within))
 
-  kept_own : x.p ≡ p → acts_of p (take i acts) < reach → kept_of p reach acts (i + 1) ≡ kept_of p reach acts i ++ x ∷ []
-  kept_own e low = kept_one (omega (arith, reach_here p reach (length acts) x.p e, ap (λ q. acts_of q (take i acts)) e, low))
-
   kept_not : x.p ≡ p → reach ≤ acts_of p (take i acts) → kept_of p reach acts (i + 1) ≡ kept_of p reach acts i
   kept_not e high = kept_next
       ∙ ap reverse (left_out (λ (y : Taken). y.p) (reach_of p reach (length acts)) x (reverse (take i acts))
@@ -110,8 +107,32 @@ pub record IsCutTo (p reach i : ℕ) (was acts : List Taken) (kept own : ℕ) : 
   pub place : kept ≤ i
   pub size : length acts ≡ length was
 
-pub cut_begun : (p reach : ℕ) (was : List Taken) → IsCutTo p reach 0 was was 0 0
-cut_begun p reach was = record { stay = refl; rest = refl; own_is = omega arith; place = omega arith; size = refl }
+-- nothing is taken out of acts that are no more of p than may stay
+pub cut_nothing : (p reach : ℕ) (acts : List Taken) (n : ℕ) → length acts ≤ n → acts_of p acts ≤ reach → reverse (cut (λ (y : Taken). y.p) (reach_of p reach n) (reverse acts)) ≡ acts
+cut_nothing p reach acts n long few = ap reverse (cut_none (λ (y : Taken). y.p) (reach_of p reach n) (reverse acts) below) ∙ reverse-reverse acts
+  where
+    below : (q : ℕ) → acts_of q (reverse acts) ≤ reach_of p reach n q
+    below q = let turned = count_turned (λ (y : Taken). y.p) q acts in ⊎_elim
+        (λ (e : q ≡ p). omega (arith, turned, ap (λ r. acts_of r acts) e, reach_here p reach n q e, few))
+        (λ (ne : q ≢ p). let all = count_all (λ (y : Taken). y.p) q acts in omega (arith, turned, all, reach_other p reach n q ne, long))
+        (cases_eq q p)
+
+-- the acts before the place where a cut begins
+pub cut_begun : (p start : ℕ) (was : List Taken) → start ≤ length was → IsCutTo p (acts_of p (take start was)) start was was start (acts_of p (take start was))
+cut_begun p start was within = record {
+  stay = sym (cut_nothing p (acts_of p (take start was)) (take start was) (length was) (omega (arith, length-take start was)) (omega arith));
+  rest = refl;
+  own_is = omega arith;
+  place = omega arith;
+  size = refl;
+}
+
+-- the acts before one of p and behind it, from the end
+pub front_next : (p i : ℕ) (acts : List Taken) (d : Taken) → i < length acts → (get_or acts i d).p ≡ p → acts_of p (take (i + 1) acts) ≡ acts_of p (take i acts) + 1
+front_next p i acts d within e = own_here p 0 i acts (get_or acts i d) d within refl e
+
+pub front_same : (p i : ℕ) (acts : List Taken) (d : Taken) → i < length acts → (get_or acts i d).p ≢ p → acts_of p (take (i + 1) acts) ≡ acts_of p (take i acts)
+front_same p i acts d within ne = own_other p 0 i acts (get_or acts i d) d within refl ne
 
 pub cut_ended : (p reach i : ℕ) (was acts : List Taken) (kept own : ℕ) → IsCutTo p reach i was acts kept own → length acts ≤ i → take kept acts ≡ cut_acts p reach was
 cut_ended p reach i was acts kept own at past = at.stay
@@ -146,10 +167,6 @@ module _ (p reach i : ℕ) (was acts : List Taken) (kept own : ℕ) (x d : Taken
   on_other ne = moved (kept_other p reach i was x d in_was here ne) own
       (at.own_is ∙ ap (λ n. min n reach) (sym (own_other p reach i was x d in_was here ne)))
 
-  pub on_own : x.p ≡ p → own < reach → IsCutTo p reach (i + 1) was (slice_set acts kept x) (kept + 1) (own + 1)
-  on_own e low = let own_is = at.own_is in let more = own_here p reach i was x d in_was here e in
-      moved (kept_own p reach i was x d in_was here e (omega arith)) (own + 1) (omega arith)
-
   pub on_cut : x.p ≡ p → reach ≤ own → IsCutTo p reach (i + 1) was acts kept own
   on_cut e high = let own_is = at.own_is in let more = own_here p reach i was x d in_was here e in record {
     stay = at.stay ∙ sym (kept_not p reach i was x d in_was here e (omega arith));
@@ -169,10 +186,6 @@ module _ (p reach i : ℕ) (was acts now : List Taken) (kept own : ℕ) (d : Tak
 
   pub other_kept : (after : List Taken) → after ≡ slice_set acts kept (get_or now i d) → (get_or now i d).p ≢ p → IsCutTo p reach (i + 1) was after (kept + 1) own
   other_kept after e ne = rw e (on_other p reach i was acts kept own (get_or now i d) d at short is ne)
-
-  pub own_kept : (after : List Taken) → after ≡ slice_set acts kept (get_or now i d) → (get_or now i d).p ≡ p → own < reach
-      → IsCutTo p reach (i + 1) was after (kept + 1) (own + 1)
-  own_kept after e mine low = rw e (on_own p reach i was acts kept own (get_or now i d) d at short is mine low)
 
   pub own_left : (get_or now i d).p ≡ p → reach ≤ own → IsCutTo p reach (i + 1) was acts kept own
   own_left mine high = on_cut p reach i was acts kept own (get_or now i d) d at short is mine high

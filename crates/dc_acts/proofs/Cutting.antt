@@ -31,6 +31,18 @@ module _ {A : Type 0} (of : A → ℕ) where
   pub left_out : (reach : ℕ → ℕ) (x : A) (acts : List A) → reach (of x) ≤ count_of of (of x) acts → cut of reach (x ∷ acts) ≡ cut of reach acts
   left_out reach x acts high = rw (le-ltb (count_of of (of x) acts) (reach (of x)) high) refl
 
+  -- a cut takes out nothing of acts that are no more of any process than its reach
+  pub cut_none : (reach : ℕ → ℕ) (acts : List A) → ((q : ℕ) → count_of of q acts ≤ reach q) → cut of reach acts ≡ acts
+  cut_none reach [] few = refl
+  cut_none reach (x ∷ acts) few =
+      kept_here reach x acts (let here = count_here (of x) x acts refl in let less = few (of x) in omega (arith, here, less)) ∙ ap (λ xs. x ∷ xs) (cut_none reach acts (λ q. fewer q))
+    where
+      fewer : (q : ℕ) → count_of of q acts ≤ reach q
+      fewer q = let less = few q in ⊎_elim
+          (λ (e : of x ≡ q). omega (arith, count_here q x acts e, less))
+          (λ (ne : of x ≢ q). omega (arith, count_other q x acts ne, less))
+          (cases_eq (of x) q)
+
   pub count_turned : (q : ℕ) (acts : List A) → count_of of q (reverse acts) ≡ count_of of q acts
   count_turned q [] = refl
   count_turned q (x ∷ acts) = let rest = count_turned q acts in

@@ -1,4 +1,4 @@
-ghost use Rattle.std.specs.Prelude.{◌≡◌, ◌≢◌, ◌<◌, ◌≤◌, ◌+◌, ◌-◌, ◌^◌, ◌++◌, ℕ, [], ◌∷◌, OnErr, OnOk, length, min, slice_index, slice_index_or};
+ghost use Rattle.std.specs.Prelude.{◌≡◌, ◌≢◌, ◌<◌, ◌≤◌, ◌+◌, ◌-◌, ◌^◌, ◌++◌, ℕ, [], ◌∷◌, OnErr, OnOk, length, min, take, slice_index, slice_index_or};
 ghost use Rattle.dc_acts.specs.Counted.{acts_of, cut_acts};
 
 use crate::Reserved;
@@ -60,12 +60,17 @@ impl Acts {
         self.items.push(taken);
     }
 
-    /// Takes out all acts of a process after its first `reach`.
+    /// Takes out all acts of a process after its first `reach`. It looks at no act before the first that it takes out.
     pub fn cut(&mut self, p: u32, reach: u32)
         ensures items { self.new.items ≡ cut_acts p reach self.old.items }
         ensures room { self.new.room ≡ self.old.room }
     {
-        cut_items(&mut self.items, p, reach);
+        let count = self.count_of(p);
+        if count <= reach {
+            return;
+        }
+        let start = last_from(self.items.as_slice(), p, count - reach);
+        cut_items(&mut self.items, p, start);
         cut_count(&mut self.counts, p, reach);
     }
 
@@ -120,22 +125,36 @@ fn cut_count(counts: &mut [u32; PROCESSES], p: u32, reach: u32)
     }
 }
 
-/// Takes out all acts of a process after its first `reach`, those that stay moving up in order.
-fn cut_items(acts: &mut Reserved<Taken>, p: u32, reach: u32)
-    ensures items { acts.new.items ≡ cut_acts p reach acts.old.items }
+/// From where on a process has so many acts, its last ones.
+fn last_from(acts: &[Taken], p: u32, count: u32) -> usize
+    requires { count ≤ acts_of p acts.now }
+    ensures within { result ≤ length acts.now }
+    ensures count { acts_of p (take result acts.now) + count ≡ acts_of p acts.now }
+{
+    let mut left = count;
+    for i in (0..acts.len()).rev() {
+        if left == 0 {
+            return i + 1;
+        }
+        if acts[i].p == p {
+            left -= 1;
+        }
+    }
+    0
+}
+
+/// Takes out all acts of a process from the act `start` on, those that stay moving up in order.
+fn cut_items(acts: &mut Reserved<Taken>, p: u32, start: usize)
+    requires { start ≤ length acts.old.items }
+    ensures items { acts.new.items ≡ cut_acts p (acts_of p (take start acts.old.items)) acts.old.items }
     ensures room { acts.new.room ≡ acts.old.room }
 {
-    let mut kept = 0;
-    let mut own = 0;
-    for i in 0..acts.len() {
+    let mut kept = start;
+    for i in start..acts.len() {
         let taken = acts.as_slice()[i];
         if taken.p != p {
             acts.set(kept, taken);
             kept += 1;
-        } else if own < reach {
-            acts.set(kept, taken);
-            kept += 1;
-            own += 1;
         }
     }
     acts.truncate(kept);

@@ -1,25 +1,21 @@
-ghost use Rattle.std.specs.Prelude.{◌≡◌, ◌≤◌, length};
+ghost use Rattle.std.specs.Prelude.{◌≡◌, ◌≤◌, Some, length};
 ghost use Rattle.dc_acts.specs.Reading.{kind_text};
 
+use std::fmt;
 use thiserror::Error;
 
 /// What is wrong with a line of a report, in the order of testing.
 #[derive(Clone, Copy, Debug, PartialEq, Eq, Error)]
 pub enum ReportKind {
     /// It is not the text of the first line, of an act or of the last line.
-    #[error("form")]
     Form,
     /// There is no process of its number, or none of its sender's.
-    #[error("process")]
     Process,
     /// Its turn is not above the one before, or above 999,999.
-    #[error("turn")]
     Turn,
     /// The last line's counts are not those of a run with these acts.
-    #[error("count")]
     Count,
     /// The text ends where a line was to begin.
-    #[error("cut")]
     Cut,
 }
 
@@ -36,6 +32,14 @@ impl ReportKind {
             ReportKind::Count => "count",
             ReportKind::Cut => "cut",
         }
+    }
+}
+
+impl fmt::Display for ReportKind {
+    ghost output = { λ kind. Some (kind_text kind) };
+
+    fn fmt<W: fmt::Write>(&self, f: &mut fmt::Formatter<W>) -> fmt::Result {
+        f.write_str(self.text())
     }
 }
 

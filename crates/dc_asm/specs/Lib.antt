@@ -6,3 +6,4 @@ pub mod Table
 pub mod Program
 pub mod Elf
 pub mod Loading
+pub mod Faults

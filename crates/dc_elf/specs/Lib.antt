@@ -1,3 +1,4 @@
 pub mod Files
 pub mod Images
 pub mod Filling
+pub mod Faults

@@ -1,3 +1,7 @@
+ghost use Rattle.std.specs.Prelude.{◌≡◌, ◌≤◌, Some, length};
+ghost use Rattle.dc_kernel.specs.StoreFaults.{store_fault_record, store_fault_text, store_fault_words};
+
+use std::fmt;
 use thiserror::Error;
 
 /// The first thing that is wrong with words as a kernel's text, in the order of testing.
@@ -23,14 +27,46 @@ pub enum KernelFault {
 #[derive(Clone, Copy, Debug, PartialEq, Eq, Error)]
 pub enum StoreFault {
     /// Its header, or its size.
-    #[error("header")]
     Header,
     /// The record of that number: the undo records, from 0 on, and behind the most of them that there can be those of the log.
-    #[error("record {0}")]
     Record(u32),
     /// The text of its kernel, or the number of its commit.
-    #[error("kernel")]
     Kernel,
+}
+
+impl StoreFault {
+    /// The fault in words, as a message has it. Where it is of a record, they end in a blank, and the record's number stands behind them.
+    pub fn words(self) -> &'static str
+        ensures text { result.now ≡ store_fault_words self }
+        ensures length { length result.now ≤ 10 }
+    {
+        match self {
+            StoreFault::Header => "header",
+            StoreFault::Record(_) => "record ",
+            StoreFault::Kernel => "kernel",
+        }
+    }
+
+    /// The number of the record that it is of.
+    pub fn record(self) -> Option<u32>
+        ensures { result ≡ store_fault_record self }
+    {
+        match self {
+            StoreFault::Record(number) => Some(number),
+            _ => None,
+        }
+    }
+}
+
+impl fmt::Display for StoreFault {
+    ghost output = { λ fault. Some (store_fault_text fault) };
+
+    fn fmt<W: fmt::Write>(&self, f: &mut fmt::Formatter<W>) -> fmt::Result {
+        match self.record() {
+            Some(number) => write!(f, "{}{number}", self.words()),
+            None => f.write_str(self.words()),
+        }
+    }
 }
 
 /// Why a checkpoint was not read or written.

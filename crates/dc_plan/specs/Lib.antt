@@ -5,3 +5,4 @@ pub mod Stops
 pub mod Plans
 pub mod Parts
 pub mod Allowed
+pub mod Faults

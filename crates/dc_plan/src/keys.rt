@@ -1,4 +1,4 @@
-ghost use Rattle.std.specs.Prelude.{◌≡◌, Option, option_map};
+ghost use Rattle.std.specs.Prelude.{◌≡◌, Option, Some, option_map};
 ghost use Rattle.toml.specs.View.{view, table_view};
 ghost use Rattle.dc_plan.specs.Keys.{is_key, is_stop_key, key_text, stop_key_text};
 ghost use Rattle.dc_plan.specs.Plans.{at_key};
@@ -61,6 +61,8 @@ impl Key {
 }
 
 impl fmt::Display for Key {
+    ghost output = { λ key. Some (key_text key) };
+
     fn fmt<W: fmt::Write>(&self, f: &mut fmt::Formatter<W>) -> fmt::Result {
         f.write_str(self.text())
     }

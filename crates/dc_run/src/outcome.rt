@@ -1,16 +1,19 @@
 ghost use Rattle.std.specs.Prelude.{◌≡◌, ◌≤◌, ◌+◌, ◌++◌, None, length, codes, decimal};
 ghost use Rattle.dc_acts.specs.Reading.{kind_text as report_kind_text};
+ghost use Rattle.dc_asm.specs.Faults.{kind_text as asm_kind_text};
+ghost use Rattle.dc_elf.specs.Faults.{fault_text as elf_fault_text};
+ghost use Rattle.dc_kernel.specs.StoreFaults.{store_fault_text};
 ghost use Rattle.dc_media.specs.Causes.{HasCause};
 ghost use Rattle.dc_media.specs.Sinks.{TakesWhole};
 ghost use Rattle.dc_media.specs.Told.{TellsOn};
-ghost use Rattle.dc_plan.specs.Keys.{key_text};
+ghost use Rattle.dc_plan.specs.Faults.{fault_text as plan_fault_text};
 ghost use Rattle.dc_schedule.specs.Schedules.{kind_text as schedule_kind_text};
 ghost use Rattle.dc_run.specs.Headline.{Concludes, course};
-ghost use Rattle.dc_run.specs.Outcomes.{IsNothing, asm_kind_text, counts_text, device_fault_text, done_text, elf_fault_text, guest_fault_text, outcome_line, outlet_text, plan_fault_text, refused_text, status_of, store_fault_text, store_kind_text, verdict_text, which_text};
+ghost use Rattle.dc_run.specs.Outcomes.{IsNothing, counts_text, device_fault_text, done_text, outcome_line, outlet_text, refused_guest_text, refused_store_text, refused_text, status_of, verdict_text, which_text};
 
 use crate::{
-    AsmFault, AsmKind, Did, ElfFault, Key, Outlet, PlanFault, ReportFault, ScheduleFault,
-    StoreFault, Verdict, Which,
+    AsmFault, Did, ElfFault, Outlet, PlanFault, ReportFault, ScheduleFault, StoreFault, Verdict,
+    Which,
 };
 use dc_acts::{Acts, Line, Reserved};
 use dc_check::Difference;
@@ -215,7 +218,8 @@ fn push_asm_fault(line: &mut Line, fault: AsmFault)
     ensures text { line.new ≡ line.old ++ refused_text (codes "source") fault.line (asm_kind_text fault.kind) }
     ensures length { length line.new ≤ length line.old + 90 }
 {
-    push_refused(line, b"source", fault.line, asm_kind(fault.kind));
+    let kind = fault.kind.text().as_bytes();
+    push_refused(line, b"source", fault.line, kind);
 }
 
 /// A file's name in the command, after what befell it.
@@ -244,31 +248,24 @@ fn push_plan_fault(line: &mut Line, fault: PlanFault)
     ensures text { line.new ≡ line.old ++ (codes "plan refused: " ++ plan_fault_text fault) }
     ensures length { length line.new ≤ length line.old + 90 }
 {
-    match fault {
-        PlanFault::Text => push_both(line, b"plan refused: ", b"text"),
-        PlanFault::Unknown => push_both(line, b"plan refused: ", b"unknown"),
-        PlanFault::Missing(key) => push_key_fault(line, b"missing ", key),
-        PlanFault::Kind(key) => push_key_fault(line, b"kind ", key),
-        PlanFault::TooMany(key) => push_key_fault(line, b"too many ", key),
-        PlanFault::Range(key) => push_key_fault(line, b"range ", key),
-    }
+    line.push(b"plan refused: ");
+    push_plan_kind(line, fault);
 }
 
-/// What is wrong with a key of a plan.
-fn push_key_fault(line: &mut Line, what: &[u8], key: Key)
-    requires line { length line.old ≤ 4 }
-    requires what { length what.now ≤ 16 }
-    ensures text { line.new ≡ line.old ++ (codes "plan refused: " ++ (what.now ++ key_text key)) }
-    ensures length { length line.new ≤ length line.old + 90 }
+fn push_plan_kind(line: &mut Line, fault: PlanFault)
+    requires { length line.old ≤ 60 }
+    ensures text { line.new ≡ line.old ++ plan_fault_text fault }
+    ensures length { length line.new ≤ length line.old + 30 }
 {
-    line.push(b"plan refused: ");
-    line.push(what);
-    line.push(key.text().as_bytes());
+    line.push(fault.words().as_bytes());
+    if let Some(key) = fault.key() {
+        line.push(key.text().as_bytes());
+    }
 }
 
 fn push_guest_fault(line: &mut Line, p: u32, fault: ElfFault)
     requires { length line.old ≤ 4 }
-    ensures text { line.new ≡ line.old ++ guest_fault_text p fault }
+    ensures text { line.new ≡ line.old ++ refused_guest_text p fault }
     ensures length { length line.new ≤ length line.old + 90 }
 {
     line.push(b"guest ");
@@ -282,20 +279,9 @@ fn push_elf_fault(line: &mut Line, fault: ElfFault)
     ensures text { line.new ≡ line.old ++ elf_fault_text fault }
     ensures length { length line.new ≤ length line.old + 30 }
 {
-    match fault {
-        ElfFault::Short => line.push(b"short"),
-        ElfFault::Magic => line.push(b"magic"),
-        ElfFault::Class => line.push(b"class"),
-        ElfFault::Order => line.push(b"order"),
-        ElfFault::FileType => line.push(b"file type"),
-        ElfFault::Machine => line.push(b"machine"),
-        ElfFault::Flags => line.push(b"flags"),
-        ElfFault::Headers => line.push(b"headers"),
-        ElfFault::Segment(i) => {
-            line.push(b"segment ");
-            line.push_number(u64::from(i));
-        }
-        ElfFault::Entry => line.push(b"entry"),
+    line.push(fault.words().as_bytes());
+    if let Some(part) = fault.part() {
+        line.push_number(u64::from(part));
     }
 }
 
@@ -311,7 +297,7 @@ fn push_device_fault(line: &mut Line, p: u32)
 
 fn push_store_fault(line: &mut Line, p: u32, fault: StoreFault)
     requires { length line.old ≤ 4 }
-    ensures text { line.new ≡ line.old ++ store_fault_text p fault }
+    ensures text { line.new ≡ line.old ++ refused_store_text p fault }
     ensures length { length line.new ≤ length line.old + 90 }
 {
     line.push(b"store of ");
@@ -322,30 +308,12 @@ fn push_store_fault(line: &mut Line, p: u32, fault: StoreFault)
 
 fn push_store_kind(line: &mut Line, fault: StoreFault)
     requires { length line.old ≤ 60 }
-    ensures text { line.new ≡ line.old ++ store_kind_text fault }
+    ensures text { line.new ≡ line.old ++ store_fault_text fault }
     ensures length { length line.new ≤ length line.old + 30 }
 {
-    match fault {
-        StoreFault::Header => line.push(b"header"),
-        StoreFault::Record(i) => {
-            line.push(b"record ");
-            line.push_number(u64::from(i));
-        }
-        StoreFault::Kernel => line.push(b"kernel"),
-    }
-}
-
-fn asm_kind(kind: AsmKind) -> &'static [u8]
-    ensures text { result.now ≡ asm_kind_text kind }
-    ensures short { length result.now ≤ 16 }
-{
-    match kind {
-        AsmKind::Word => b"word",
-        AsmKind::Register => b"register",
-        AsmKind::Immediate => b"immediate",
-        AsmKind::Label => b"label",
-        AsmKind::Twice => b"twice",
-        AsmKind::TooLong => b"too long",
+    line.push(fault.words().as_bytes());
+    if let Some(number) = fault.record() {
+        line.push_number(u64::from(number));
     }
 }
 

@@ -72,8 +72,8 @@ pub fn dc<L: Library, K: Keeps, D: Disks, O: Sink, R: Sink>(
         IsReported K.Keeps setting result (loan keeps.old keeps.new) (course (O.held out.old) (O.held out.new) (O.faults out.old) (O.faults out.new))
         (course (R.held report.old) (R.held report.new) (R.faults report.old) (R.faults report.new))))) }
 
-    // The same where the files are not told: there is a setting of which it holds. A call that is asked to run a plan says that it ran where
-    // the run came to its end.
+    // The same where the files are not told: there is a setting of which it holds. A call that is asked to run a plan says that it ran
+    // where the run came to its end.
     ensures ran { result.did ≡ Did.Run → (setting : Settings) ×
         IsReported K.Keeps setting result (loan keeps.old keeps.new) (course (O.held out.old) (O.held out.new) (O.faults out.old) (O.faults out.new))
         (course (R.held report.old) (R.held report.new) (R.faults report.old) (R.faults report.new)) }
