@@ -39,16 +39,16 @@ module _ {C D : Type 0} (g : checkpoint.Ghosts C D) where
       (tells : (p : ℕ) → KeepsTelling g start.stage.dev mid.stage.dev p) (later : Later g mid.stage.dev new.stage.dev) (runs : RunsOn g schedule start mid) where
     -- an entry more
     pub runs_more : StepsOn g entry mid new → RunsOn g schedule start new
-    runs_more steps setting up first alone is told still begun =
+    runs_more steps setting up first alike is told still begun =
         let between = told_between start.stage mid.stage new.stage long same tells later told still in
-        steps setting up first alone (ap (λ s. slice_get s (length mid.marks)) is ∙ at) between still (runs setting up first alone is told between begun)
+        steps setting up first alike (ap (λ s. slice_get s (length mid.marks)) is ∙ at) between still (runs setting up first alike is told between begun)
 
     -- or the last
     pub runs_off : (fault : TurnFault) → StepsOff g entry fault mid new → RunsOff g schedule fault start new
-    runs_off fault steps setting up first alone is told still begun =
+    runs_off fault steps setting up first alike is told still begun =
         let between = told_between start.stage mid.stage new.stage long same tells later told still in
-        steps setting up first alone (ap (λ s. slice_get s (length mid.marks)) is ∙ at) between still (runs setting up first alone is told between begun)
+        steps setting up first alike (ap (λ s. slice_get s (length mid.marks)) is ∙ at) between still (runs setting up first alike is told between begun)
 
 -- the stops of two parts
-pub counted_twice : (setting : Setting) (p : ℕ) (first mid last : List Mark) (a b c : ℕ) → IsCountedOn setting p first mid a b → IsCountedOn setting p mid last b c → IsCountedOn setting p first last a c
+pub counted_twice : (setting : Setting) (p : ℕ) (first mid last : List Mark) (a b c : ℕ → ℕ) → IsCountedOn setting p first mid a b → IsCountedOn setting p mid last b c → IsCountedOn setting p first last a c
 counted_twice setting p first mid last a b c one two = omega (arith, one, two)

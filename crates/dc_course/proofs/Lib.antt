@@ -2,8 +2,10 @@ mod Arming
 mod Steps
 mod Promised
 mod Still
+mod Partaking
 mod Breaking
 mod Counting
 mod Between
+mod Ups
 mod Whole
 mod Segments

@@ -26,6 +26,7 @@ pub left_as : (setting : Setting) (run : Account) (ending : Ending) (out : Outpu
 left_as setting run ending out counts Left Left1 weaker course = record {
   last = course.last;
   up = course.up;
+  alike = course.alike;
   core = course.core;
   headline = course.headline;
   ending_is = course.ending_is;

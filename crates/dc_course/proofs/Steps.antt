@@ -1,6 +1,5 @@
 -- An entry leads a run on, or ends it.
-use Rattle.std.proofs.Common.{◌≡◌, ◌∙◌, ◌+◌, ◌++◌, ℕ, suc, Bool, false, List, [], ◌∷◌, Option, None, Some, IsSomeAnd, ap, append_assoc, arith, length, refl, reverse, slice_get, subst, sym, take}
-use Rattle.std.proofs.lemmas.Bool.{true≢false}
+use Rattle.std.proofs.Common.{◌≡◌, ◌∙◌, ◌+◌, ◌++◌, ℕ, suc, Bool, List, [], ◌∷◌, Option, None, Some, IsSomeAnd, ap, append_assoc, arith, length, refl, reverse, slice_get, subst, sym, take}
 use Rattle.std.proofs.lemmas.List.{append-nil, length-append, length-reverse, reverse-append}
 use Rattle.std.proofs.lemmas.List.Concat.{flat_map-append}
 use Rattle.dc_acts.specs.Lines.{text_of, visible_line}
@@ -12,7 +11,6 @@ use Rattle.dc_model.specs.declared.mark.Mark.{Mark}
 use Rattle.dc_model.specs.declared.mark.Mark.TheVariants as mark
 use Rattle.dc_model.specs.declared.visible.Visible.{Visible}
 use Rattle.dc_proc.specs.Carried.{system}
-use Rattle.dc_protocols.specs.Rules.{is_global}
 use Rattle.dc_recovery.proofs.Ends.{holds_opened, leads_follow}
 use Rattle.dc_recovery.proofs.Sound.{sound_system}
 use Rattle.dc_recovery.specs.Core.{Core, opened_core}
@@ -22,7 +20,7 @@ use Rattle.dc_recovery.specs.Turned.{LeadsTo, Turned}
 use Rattle.dc_world.specs.Stages.{IsTold, IsWorld, Stage}
 use Rattle.dc_world.specs.Turns.{GoesOn, HasNoRun, IsTurned, lines_of}
 use Rattle.dc_world.specs.Worlds.{IsCutOff}
-use Rattle.dc_course.specs.Headline.{Setting, Shows, system_in}
+use Rattle.dc_course.specs.Headline.{AreUpAlike, Setting, Shows, system_in}
 use Rattle.dc_course.specs.Headline.Last.{Whole, CutOff, Broken}
 use Rattle.dc_course.specs.Running.{IsEnded, IsRunning, Output, output}
 
@@ -51,11 +49,11 @@ lines_round shown lines = reverse-append (lines_of shown) lines ∙ ap (λ xs. r
 text_round : (shown : Option Visible) (lines : List Visible) → text_of (reverse (lines_of shown ++ lines)) ≡ text_of (reverse lines) ++ text_of (lines_of shown)
 text_round shown lines = ap text_of (lines_round shown lines) ∙ flat_map-append visible_line (reverse lines) (lines_of shown)
 
-module _ {C D : Type 0} (g : checkpoint.Ghosts C D) (setting : Setting) (alone : is_global setting.protocol ≡ false) (up : ℕ → Bool) where
+module _ {C D : Type 0} (g : checkpoint.Ghosts C D) (setting : Setting) (up : ℕ → Bool) (alike : AreUpAlike setting up) where
   -- the invariant holds where a run has come to
   holds : (marks : List Mark) (core : Core) → LeadsTo (system_in setting) setting.schedule 0 (opened_core up) (reverse marks) core → Holds (system_in setting) setting.schedule (length marks) core
   holds marks core led = subst (λ n. Holds (system_in setting) setting.schedule n core) (counted marks)
-      (leads_follow (system_in setting) (sound setting) setting.schedule 0 (opened_core up) (holds_opened (system_in setting) (sound setting) setting.schedule up (λ global. absurd (true≢false (sym global ∙ alone)))) (reverse marks) core led).now
+      (leads_follow (system_in setting) (sound setting) setting.schedule 0 (opened_core up) (holds_opened (system_in setting) (sound setting) setting.schedule up alike) (reverse marks) core led).now
 
   -- so it holds of the system that the world names
   pub now_holds : (x : Stage C D) (marks : List Mark) (out : Output) (r : IsRunning g setting up x marks out) → Holds (system setting.images x.inputs x.protocol) setting.schedule x.entries r.core
@@ -159,8 +157,8 @@ steps_whole g setting up x marks out r = record {
   stores = r.world.stands.stores;
 }
 
-module _ {C D : Type 0} (g : checkpoint.Ghosts C D) (setting : Setting) (alone : is_global setting.protocol ≡ false) (up : ℕ → Bool) (old new : Stage C D) (marks : List Mark) (told : IsTold g old) (still : IsTold g new) (out : Output)
+module _ {C D : Type 0} (g : checkpoint.Ghosts C D) (setting : Setting) (up : ℕ → Bool) (alike : AreUpAlike setting up) (old new : Stage C D) (marks : List Mark) (told : IsTold g old) (still : IsTold g new) (out : Output)
     (r : IsRunning g setting up old marks out) where
   -- no store is refused
   pub no_refusal : HasNoRun g old new → ⊥
-  no_refusal none = none setting.images setting.schedule r.core told still (now_holds g setting alone up old marks out r) (now_world g setting alone up old marks out r)
+  no_refusal none = none setting.images setting.schedule r.core told still (now_holds g setting up alike old marks out r) (now_world g setting up alike old marks out r)

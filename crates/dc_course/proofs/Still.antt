@@ -1,5 +1,5 @@
 -- A world over a device that nothing was done to.
-use Rattle.std.proofs.Common.{◌≡◌, ℕ, Bool, true, false, List, Option, None, Some, IsSomeAnd, arith, refl, subst, sym}
+use Rattle.std.proofs.Common.{◌≡◌, ℕ, Bool, true, false, List, Ok, Option, None, Some, IsSomeAnd, arith, refl, subst, sym}
 use Rattle.dc_checkpoint.specs.States.{Reading}
 use Rattle.dc_checkpoint.specs.declared.checkpoint.Checkpoint as checkpoint
 use Rattle.dc_guest.specs.Guest.{Guest}
@@ -12,10 +12,8 @@ use Rattle.dc_protocols.specs.Rules.{is_global}
 use Rattle.dc_recovery.specs.Core.{Core}
 use Rattle.dc_recovery.specs.Systems.{System}
 use Rattle.dc_twophase.proofs.Laws.{Laws, QuietLaws}
-use Rattle.dc_world.proofs.Handling.{handled_still}
 use Rattle.dc_world.specs.Slots.{held_in, slot_at}
-use Rattle.dc_world.specs.Stages.{IsReady, IsTold, IsWorld, Stage, decided_by, leaves_of, memory_of, numbers_of, seen_of, store_of, words_of}
-use Rattle.dc_world.specs.declared.processes.Processes.{Processes}
+use Rattle.dc_world.specs.Stages.{AreDecided, IsTold, IsWorld, Stage, decided_by, leaves_of, memory_of, numbers_of, seen_of, store_of, words_of}
 use Rattle.dc_course.specs.Headline.{Setting, system_in}
 use Rattle.dc_course.specs.Running.{IsRunning, Output}
 
@@ -24,20 +22,6 @@ abbrev pub over : {C D : Type 0} → D → Stage C D → Stage C D
 over dev x = record x { dev = dev }
 
 module _ {C D : Type 0} (g : checkpoint.Ghosts C D) (laws : Laws g) (quiet : QuietLaws g) (old new : D) (still : (q : ℕ) → g.untouched old new q) where
-  -- what the code keeps it keeps
-  pub ready_still : (stores : List C) (w : Processes) → IsReady g stores old w → IsReady g stores new w
-  ready_still stores w ready = record {
-    well = ready.well;
-    alone = ready.alone;
-    stores_long = ready.stores_long;
-    own = ready.own;
-    handled = λ p c at. handled_still g laws w.left c old new (slot_at w.slots.items p) (still (g.place c)) (ready.handled p c at);
-    room = ready.room;
-    few_acts = ready.few_acts;
-    few_lines = ready.few_lines;
-    few_entries = ready.few_entries;
-  }
-
   module _ (x : Stage C D) where
     -- a memory is what it was
     memory_still : (o : Option C) → memory_of g o old ≡ memory_of g o new
@@ -58,6 +42,20 @@ module _ {C D : Type 0} (g : checkpoint.Ghosts C D) (laws : Laws g) (quiet : Qui
     decided_still : (b : Bool) (d : ℕ) → decided_by b (numbers_of g (over new x)) d → decided_by b (numbers_of g (over old x)) d
     decided_still true d l = numbers_still (store_of x 0) d l
     decided_still false d l = l
+
+    -- it is as steady
+    steady_still : (o : Option C) → IsSomeAnd o (λ c. g.steady c old) → IsSomeAnd o (λ c. g.steady c new)
+    steady_still None is = absurd is
+    steady_still (Some c) is = laws.steady_still c old new (still (g.place c)) is
+
+    -- and decided as they are
+    are_decided : AreDecided g (over old x) → AreDecided g (over new x)
+    are_decided is = record {
+      steady = steady_still (store_of x 0) is.steady;
+      saved = λ d p s number inside l. is.saved d p s (numbers_still (store_of x 0) d number) inside (leaves_still (store_of x p) d (Ok s) l);
+      held = λ d p number inside on. is.held d p (numbers_still (store_of x 0) d number) inside on;
+      few = λ d p number inside off. is.few d p (numbers_still (store_of x 0) d number) inside off;
+    }
 
     -- the world stands for the same core
     pub world_still : (S : System Guest) (c : Core) → IsWorld g S c (over old x) → IsWorld g S c (over new x)
@@ -80,7 +78,8 @@ module _ {C D : Type 0} (g : checkpoint.Ghosts C D) (laws : Laws g) (quiet : Qui
       acts_are = world.acts_are;
       exposed_are = world.exposed_are;
       lines_are = world.lines_are;
-      numbered = λ p inside. numbered_less _ (leaves_of g (over old x) p 0) (leaves_of g (over new x) p 0) (λ r l. leaves_still (store_of x p) 0 r l) (world.numbered p inside);
+      numbered = λ alone p inside. numbered_less _ (leaves_of g (over old x) p 0) (leaves_of g (over new x) p 0) (λ r l. leaves_still (store_of x p) 0 r l) (world.numbered alone p inside);
+      decided = λ together. are_decided (world.decided together);
     }
 
     -- it is told

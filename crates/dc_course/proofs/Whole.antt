@@ -1,6 +1,6 @@
 -- A run from its opening to its end.
-use Rattle.std.proofs.Common.{◌≡◌, ◌∙◌, ◌≤◌, ◌<◌, ◌-◌, ◌^◌, ◌++◌, ℕ, Bool, true, false, List, [], Option, None, Some, arith, length, refl, subst, sym, ⊎_elim}
-use Rattle.std.proofs.lemmas.Bool.{cases_lt}
+use Rattle.std.proofs.Common.{◌≡◌, ◌∙◌, ◌≤◌, ◌<◌, ◌-◌, ◌^◌, ◌++◌, ℕ, Bool, true, false, List, [], Option, None, Some, arith, length, refl, slice_get, subst, sym, ⊎_elim}
+use Rattle.std.proofs.lemmas.Bool.{cases_Bool, cases_lt}
 use Rattle.std.proofs.lemmas.List.{append-nil}
 use Rattle.dc_acts.specs.Lines.{text_of}
 use Rattle.dc_checkpoint.specs.declared.checkpoint.Checkpoint as checkpoint
@@ -16,7 +16,8 @@ use Rattle.dc_recovery.specs.Systems.{System}
 use Rattle.dc_recovery.specs.Turned.{LeadsTo}
 use Rattle.dc_world.specs.Ended.{HaveEnded}
 use Rattle.dc_world.specs.Slots.{slot_at}
-use Rattle.dc_world.specs.Stages.{IsHandled, IsOwn, IsReady, IsTold, IsWorld, KeepsTelling, Stage, seen_of, stage_of}
+use Rattle.dc_world.specs.Joints.{IsDownAt, IsFitAt, IsOwn}
+use Rattle.dc_world.specs.Stages.{IsHandled, IsReady, IsTold, IsWorld, KeepsTelling, Stage, seen_of, stage_of}
 use Rattle.dc_world.specs.declared.faults.TurnFault.{TurnFault}
 use Rattle.dc_world.specs.declared.faults.TurnFault.TheVariants as fault
 use Rattle.dc_world.specs.declared.processes.Processes.{Processes}
@@ -26,7 +27,7 @@ use Rattle.dc_course.proofs.Between.{Later}
 use Rattle.dc_course.proofs.Promised.{promised}
 use Rattle.dc_course.proofs.Steps.{steps_whole}
 use Rattle.dc_course.specs.Courses.{IsCourse, Counts, StoresLeft, TellsThroughout, ending_by, ending_of}
-use Rattle.dc_course.specs.Headline.{IsEnding, Last, Setting, PlannedCome, StopsTold, marks_at, system_in}
+use Rattle.dc_course.specs.Headline.{AreUpAlike, IsEnding, Last, Setting, PlannedCome, StopsTold, marks_at, system_in}
 use Rattle.dc_course.specs.Headline.Last.{Whole, CutOff, Broken}
 use Rattle.dc_course.specs.declared.ending.Ending.{Ending}
 use Rattle.dc_course.specs.Running.{IsEnded, IsEndedBy, IsRunning, Moment, Output, output}
@@ -67,6 +68,7 @@ up_as g S x up up1 same world = record {
   exposed_are = world.exposed_are;
   lines_are = world.lines_are;
   numbered = world.numbered;
+  decided = world.decided;
 }
 
 -- a moment of a run whose devices tell throughout is told
@@ -86,10 +88,28 @@ told_at g n old new x long tells keeps later = record {
     below p less = let l = later p in let s = tells.stops p less in let f = tells.faults p less in (omega (arith, l.0, s), omega (arith, l.1, f))
 
 -- a store that its process may use is lent
-lent_of : {C D : Type 0} (g : checkpoint.Ghosts C D) (turns : ℕ) (c : C) (dev : D) (slot : Option Slot) → IsHandled g turns c dev slot → g.lent c dev
-lent_of g turns c dev None is = absurd is
-lent_of g turns c dev (Some (Up u)) is = is.0.lent
-lent_of g turns c dev (Some (Down d)) is = is.0
+module _ {C D : Type 0} (g : checkpoint.Ghosts C D) (c : C) (dev : D) where
+  handled_lent : (turns : ℕ) (slot : Option Slot) → IsHandled g turns c dev slot → g.lent c dev
+  handled_lent turns None is = absurd is
+  handled_lent turns (Some (Up u)) is = is.0.lent
+  handled_lent turns (Some (Down d)) is = is.0
+
+  fit_lent : (slot : Option Slot) → IsFitAt g c dev slot → g.lent c dev
+  fit_lent None is = absurd is
+  fit_lent (Some (Up u)) is = is.lent
+  fit_lent (Some (Down d)) is = absurd is
+
+  down_lent : (slot : Option Slot) → IsDownAt g c dev slot → g.lent c dev
+  down_lent None is = absurd is
+  down_lent (Some (Up u)) is = absurd is
+  down_lent (Some (Down d)) is = is.0
+
+-- so is each store of a world that may run
+lent_of : {C D : Type 0} (g : checkpoint.Ghosts C D) (stores : List C) (dev : D) (w : Processes) → IsReady g stores dev w → (p : ℕ) (c : C) → slice_get stores p ≡ Some c → g.lent c dev
+lent_of g stores dev w ready p c at = ⊎_elim
+    (λ (together : is_global w.protocol ≡ true). ⊎_elim (λ fit. fit_lent g c dev (slot_at w.slots.items p) (fit.0 p c at)) (λ down. down_lent g c dev (slot_at w.slots.items p) (down p c at)) (ready.together together).0)
+    (λ (alone : is_global w.protocol ≡ false). handled_lent g c dev w.left (slot_at w.slots.items p) (ready.handled alone p c at))
+    (cases_Bool (is_global w.protocol))
 
 -- how the last entry of a run went, and that it ended so
 pub record Came {C D : Type 0} (g : checkpoint.Ghosts C D) (setting : Setting) (up : ℕ → Bool) (ending : Ending) (m : Moment C D) (first : Option (List ℕ)) : Type 0 where
@@ -113,25 +133,25 @@ module _ {C D : Type 0} (g : checkpoint.Ghosts C D) (setting : Setting) (up : �
 
   -- by a fault
   pub ending_broken : (f : TurnFault) → IsEndedBy g f setting up m first → CameBroken g setting up (ending_by f) m first
-  ending_broken (fault.Device p) ended = record { last = Broken; ended = ended.0; is = (refl, ended.1); broken = λ e. absurd (cc) }
+  ending_broken (fault.Device p) ended = record { last = Broken; ended = ended.0; is = (refl, ended.1, ended.2); broken = λ e. absurd (cc) }
   ending_broken (fault.Store p why) ended = absurd ended
   ending_broken fault.Sink ended = record { last = CutOff ended.0; ended = ended.1; is = (ended.0, refl, ended.2); broken = λ e. absurd (cc) }
 
-module _ {C D : Type 0} (g : checkpoint.Ghosts C D) (setting : Setting) (alone : is_global setting.protocol ≡ false) (up : ℕ → Bool) (stores : List C) (dev : D) (w : Processes) (marks : List Mark) (last : Last) (out : Output)
-    (ended : IsEnded g setting up (stage_of stores dev w) marks last out) (ready : IsReady g stores dev w) (long : length w.slots.items ≡ length setting.images) (beyond : (p : ℕ) → length setting.images ≤ p → up p ≡ true) where
+module _ {C D : Type 0} (g : checkpoint.Ghosts C D) (setting : Setting) (up : ℕ → Bool) (alike : AreUpAlike setting up) (stores : List C) (dev : D) (w : Processes) (marks : List Mark) (last : Last) (out : Output)
+    (ended : IsEnded g setting up (stage_of stores dev w) marks last out) (ready : IsReady g stores dev w) (long : length w.slots.items ≡ length setting.images) (beyond : ((p : ℕ) → p < length setting.images → up p ≡ true) → (p : ℕ) → length setting.images ≤ p → up p ≡ true) where
   -- the stores that it leaves
   stores_left : StoresLeft g setting ended.core dev
   stores_left = record {
     stores = stores;
     all = ready.stores_long ∙ long;
     own = λ p c at. subst (λ n. IsOwn g n p c) long (ready.own p c at);
-    lent = λ p c at. lent_of g w.left c dev (slot_at w.slots.items p) (ready.handled p c at);
+    lent = lent_of g stores dev w ready;
     stand = ended.stores;
   }
 
-  -- nothing is down where no process of the run is
+  -- where no process of the run is down, nothing is
   all_up : ((p : ℕ) → p < length setting.images → up p ≡ true) → (p : ℕ) → up p ≡ true
-  all_up below p = ⊎_elim (λ (less : p < length setting.images). below p less) (λ (high : length setting.images ≤ p). beyond p high) (cases_lt p (length setting.images))
+  all_up below p = ⊎_elim (λ (less : p < length setting.images). below p less) (λ (high : length setting.images ≤ p). beyond below p high) (cases_lt p (length setting.images))
 
   -- so the marks lead there from where all are up
   led_up : ((p : ℕ) → p < length setting.images → up p ≡ true) → LeadsTo (system_in setting) setting.schedule 0 (opened_core (λ p. true)) (marks_at last marks) ended.core
@@ -144,8 +164,9 @@ module _ {C D : Type 0} (g : checkpoint.Ghosts C D) (setting : Setting) (alone :
   course_is counts ending is told come = record {
     last = last;
     up = up;
+    alike = alike;
     core = ended.core;
-    headline = promised g setting alone up (stage_of stores dev w) marks last out ended;
+    headline = promised g setting up alike (stage_of stores dev w) marks last out ended;
     ending_is = is;
     stops_told = told;
     planned_come = come;

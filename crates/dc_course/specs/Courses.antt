@@ -8,9 +8,10 @@ use Rattle.dc_proc.specs.Worlds.{StoresStand}
 use Rattle.dc_protocols.specs.Rules.{is_global}
 use Rattle.dc_recovery.specs.Core.{Core}
 use Rattle.dc_recovery.specs.Unstopped.{AreTurns, IsDetermined, Unstopped}
-use Rattle.dc_world.specs.Stages.{IsOwn, decided_by}
+use Rattle.dc_world.specs.Joints.{IsOwn}
+use Rattle.dc_world.specs.Stages.{decided_by}
 use Rattle.dc_world.specs.declared.opening.Setup.{Setup}
-use Rattle.dc_course.specs.Headline.{Account, IsEnding, IsHeadline, Last, PlannedCome, Setting, StopsTold, marks_at, system_in}
+use Rattle.dc_course.specs.Headline.{Account, AreUpAlike, IsEnding, IsHeadline, Last, PlannedCome, Setting, StopsTold, marks_at, system_in}
 use Rattle.dc_course.specs.Running.{Output}
 use Rattle.dc_course.specs.declared.course.Course.{Course}
 use Rattle.dc_course.specs.declared.ending.Ending.{Ending}
@@ -56,6 +57,7 @@ pub record IsCourse (setting : Setting) (run : Account) (ending : Ending) (out :
   pub last : Last
   -- which processes are up when the run begins
   pub up : ℕ → Bool
+  pub alike : AreUpAlike setting up
   pub core : Core
   pub headline : IsHeadline setting run last up core out.before out.now
   pub ending_is : IsEnding setting ending run.marks last core

@@ -1,5 +1,5 @@
 -- What users are promised of a run, wherever its processes are stopped.
-use Rattle.std.specs.Prelude.{◌≡◌, ◌<◌, ◌≤◌, ◌+◌, ◌==◌, ◌&&◌, not, ℕ, Bool, true, false, List, [], ◌∷◌, ◌++◌, if◌then◌else◌, length, reverse, slice_get, take, Option, Some, IfSome, is_some}
+use Rattle.std.specs.Prelude.{◌≡◌, ◌<◌, ◌≤◌, ◌+◌, ◌&&◌, ◌||◌, not, ℕ, zero, suc, Bool, true, false, List, [], ◌∷◌, ◌++◌, if◌then◌else◌, length, reverse, slice_get, take, Option, Some, IfSome, is_some}
 use Rattle.dc_acts.specs.Lines.{text_of, visible_line}
 use Rattle.dc_armed.specs.Stops.{first_stop}
 use Rattle.dc_armed.specs.declared.stop.PlannedStop.{PlannedStop}
@@ -20,6 +20,8 @@ use Rattle.dc_proc.specs.Carried.{system}
 use Rattle.dc_protocols.specs.Rules.{is_global}
 use Rattle.dc_protocols.specs.declared.protocol.Protocol.{Protocol}
 use Rattle.dc_recovery.specs.Core.{Core, opened_core}
+use Rattle.dc_recovery.specs.Parts.{is_with}
+use Rattle.dc_recovery.specs.Recoveries.{SavedBeforeShown}
 use Rattle.dc_recovery.specs.Systems.{System}
 use Rattle.dc_recovery.specs.Turned.{LeadsTo}
 use Rattle.dc_world.specs.Ended.{HaveEnded}
@@ -90,22 +92,28 @@ pub record IsHeadline (setting : Setting) (run : Account) (last : Last) (up : �
   pub lines_shown : LinesShown whole (torn_at last) run.lines world.visibles before after
   pub repeats_equal : RepeatsEqual (is_global setting.protocol) setting.schedule (marks_at last run.marks) (reverse (whole ++ torn_at last))
   pub core_led : CoreLed setting up (marks_at last run.marks) core run.acts (whole ++ torn_at last)
+  -- where all commit together, nothing that could have come otherwise stands unsaved before a line that was shown
+  pub saved : is_global setting.protocol ≡ true → SavedBeforeShown (system_in setting).guests core
 
--- an entry is a turn of this process
-abbrev pub is_turn_of : ℕ → Option Entry → Bool
-is_turn_of p (Some (entry.Turn turn)) = turn.p == p
-is_turn_of p _ = false
+-- where all commit together, all of these are up or none is
+abbrev pub AreUpAlike : Setting → (ℕ → Bool) → Type 0
+AreUpAlike setting up = is_global setting.protocol ≡ true → (p q : ℕ) → up p ≡ up q
+
+-- process p takes part in an entry: its turn is p's or, where all commit together, any's
+abbrev pub takes_part : Protocol → ℕ → Option Entry → Bool
+takes_part protocol p (Some (entry.Turn turn)) = is_with protocol turn.p p
+takes_part protocol p _ = false
 
 -- the schedule was used up
 abbrev pub IsUsedUp : List Entry → List Mark → Last → Type 0
 IsUsedUp schedule marks last = (length marks ≡ length schedule) × (last ≡ Whole)
 
 -- done where the schedule is used up and every process is up and has ended, unfinished where one is not; else a fault at the entry behind the
--- marked ones: of the device of the process whose turn it was, or of the output
+-- marked ones: of the device of a process that takes part in it, or of the output
 abbrev pub IsEnding : Setting → Ending → List Mark → Last → Core → Type 0
 IsEnding setting Done marks last core = IsUsedUp setting.schedule marks last × HaveEnded true (system_in setting).guests core
 IsEnding setting Unfinished marks last core = IsUsedUp setting.schedule marks last × HaveEnded false (system_in setting).guests core
-IsEnding setting (Device p) marks last core = (last ≡ Broken) × (is_turn_of p (slice_get setting.schedule (length marks)) ≡ true)
+IsEnding setting (Device p) marks last core = (last ≡ Broken) × (takes_part setting.protocol p (slice_get setting.schedule (length marks)) ≡ true) × (p < length setting.images)
 IsEnding setting (Store p fault) marks last core = ⊥
 IsEnding setting Sink marks last core = (torn : Visible) × (last ≡ CutOff torn) × (length marks < length setting.schedule)
 
@@ -113,31 +121,43 @@ IsEnding setting Sink marks last core = (torn : Visible) × (last ≡ CutOff tor
 abbrev pub is_planned : List PlannedStop → ℕ → ℕ → Bool
 is_planned stops turn p = is_some (first_stop stops turn p)
 
+-- or for one of the processes below a number that stops with it
+abbrev pub is_planned_with : Protocol → List PlannedStop → ℕ → ℕ → ℕ → Bool
+is_planned_with protocol stops turn p zero = is_planned stops turn p
+is_planned_with protocol stops turn p (suc n) = is_with protocol p n && is_planned stops turn n || is_planned_with protocol stops turn p n
+
 -- an entry was stopped
 abbrev pub is_stopped : Mark → Bool
 is_stopped mark.Stopped = true
 is_stopped _ = false
 
--- a stop of process p at this turn that no plan lists
+-- a stop of process p at this turn that no plan lists, neither for it nor for one that stops with it
 abbrev pub is_unplanned : Setting → ℕ → ℕ → Mark → Bool
-is_unplanned setting p turn m = is_stopped m && (is_turn_of p (slice_get setting.schedule turn) && not (is_planned setting.stops turn p))
+is_unplanned setting p turn m = is_stopped m && (takes_part setting.protocol p (slice_get setting.schedule turn) && not (is_planned_with setting.protocol setting.stops turn p (length setting.images)))
 
--- how many of process p's turns were stopped for which no stop of it was planned, by the marks, the last first
+-- how many of the turns in which process p takes part were stopped for which no such stop was planned, by the marks, the last first
 abbrev pub unplanned : Setting → ℕ → List Mark → ℕ
 unplanned setting p [] = 0
 unplanned setting p (m ∷ marks) = (if is_unplanned setting p (length marks) m then 1 else 0) + unplanned setting p marks
 
--- whether the making of a process's store was stopped, as a count
+-- whether the making of a process's store was stopped, or of that of one that stops with it, as a count
 abbrev pub late : Bool → ℕ
 late up = if up then 0 else 1
 
--- the stops of the device that was handed in are no fewer than those that no plan lists: of the opening, and of turns
-abbrev pub StopsTold : Setting → (ℕ → Bool) → List Mark → (ℕ → ℕ) → (ℕ → ℕ) → Type 0
-StopsTold setting up marks before after = (p : ℕ) → p < length setting.images → before p + late (up p) + unplanned setting p (reverse marks) ≤ after p
+-- of the processes below a number, those that stop with p: the sum of what a count says of each
+abbrev pub counted_with : Protocol → ℕ → (ℕ → ℕ) → ℕ → ℕ
+counted_with protocol p count zero = 0
+counted_with protocol p count (suc n) = (if is_with protocol p n then count n else 0) + counted_with protocol p count n
 
--- a turn of a process that was not stopped made fewer calls of its device than the one at which the first stop was planned for it
+-- the stops of the devices that were handed in are no fewer than those that no plan lists: of the opening, and of turns; those of processes that
+-- stop together are counted together
+abbrev pub StopsTold : Setting → (ℕ → Bool) → List Mark → (ℕ → ℕ) → (ℕ → ℕ) → Type 0
+StopsTold setting up marks before after = (p : ℕ) → p < length setting.images
+    → counted_with setting.protocol p before (length setting.images) + late (up p) + unplanned setting p (reverse marks) ≤ counted_with setting.protocol p after (length setting.images)
+
+-- a turn in which a process takes part, and that was not stopped, made fewer calls of its device than the one at which the first stop was planned for it
 abbrev pub IsUnstopped : Setting → ℕ → ℕ → Mark → ℕ → ℕ → Type 0
-IsUnstopped setting p turn m before after = is_stopped m ≡ false → is_turn_of p (slice_get setting.schedule turn) ≡ true → IfSome (first_stop setting.stops turn p) (λ stop. after < before + stop.call)
+IsUnstopped setting p turn m before after = is_stopped m ≡ false → takes_part setting.protocol p (slice_get setting.schedule turn) ≡ true → IfSome (first_stop setting.stops turn p) (λ stop. after < before + stop.call)
 
 -- the calls of a process's device in a run, entry by entry, by the marks, the last first: before the first entry those of the opening; no planned stop was left out
 abbrev pub StopsCome : Setting → ℕ → List Mark → ℕ → ℕ → Type 0
@@ -151,10 +171,11 @@ pub record PlannedCome (setting : Setting) (last : Last) (marks : List Mark) (p 
   pub later : made ≤ after
   pub whole : last ≡ Whole → made ≡ after
 
--- from some marks to more, the stops of a process's device that no plan lists are no fewer than those of its turns
-abbrev pub IsCountedOn : Setting → ℕ → List Mark → List Mark → ℕ → ℕ → Type 0
-IsCountedOn setting p old new before after = before + unplanned setting p (reverse new) ≤ after + unplanned setting p (reverse old)
+-- from some marks to more, the stops of those that stop with a process, which no plan lists, are no fewer than those of the turns in which it takes part
+abbrev pub IsCountedOn : Setting → ℕ → List Mark → List Mark → (ℕ → ℕ) → (ℕ → ℕ) → Type 0
+IsCountedOn setting p old new before after =
+    counted_with setting.protocol p before (length setting.images) + unplanned setting p (reverse new) ≤ counted_with setting.protocol p after (length setting.images) + unplanned setting p (reverse old)
 
--- and the calls of that device, between which no planned stop was left out
+-- and the calls of the process's device, between which no planned stop was left out
 abbrev pub IsCalledOn : Setting → ℕ → List Mark → List Mark → ℕ → ℕ → Type 0
 IsCalledOn setting p old new from after = (before : ℕ) → StopsCome setting p (reverse old) before from → StopsCome setting p (reverse new) before after

@@ -1,5 +1,5 @@
 -- How far a run has come, and how one ended.
-use Rattle.std.specs.Prelude.{◌≡◌, ◌<◌, ℕ, Bool, true, false, List, ◌++◌, length, reverse, slice_get, Option, Some}
+use Rattle.std.specs.Prelude.{◌≡◌, ◌<◌, ℕ, Bool, true, List, ◌++◌, length, reverse, slice_get, Option, Some}
 use Rattle.dc_acts.specs.Lines.{text_of}
 use Rattle.dc_checkpoint.specs.declared.checkpoint.Checkpoint as checkpoint
 use Rattle.dc_media.specs.Told.{Becomes}
@@ -16,7 +16,8 @@ use Rattle.dc_world.specs.Stages.{IsTold, IsWorld, Stage, decided_by, leaves_of,
 use Rattle.dc_world.specs.Worlds.{stage_in}
 use Rattle.dc_world.specs.declared.faults.TurnFault.{TurnFault}
 use Rattle.dc_world.specs.declared.faults.TurnFault.TheVariants as fault
-use Rattle.dc_course.specs.Headline.{Last, Setting, Shows, is_turn_of, marks_at, system_in, torn_at}
+use Rattle.dc_world.specs.declared.world.World.{World}
+use Rattle.dc_course.specs.Headline.{AreUpAlike, Last, Setting, Shows, marks_at, system_in, takes_part, torn_at}
 use Rattle.dc_course.specs.Headline.Last.{Broken, CutOff}
 use Rattle.dc_course.specs.declared.running.Running.{Running}
 
@@ -33,6 +34,11 @@ output before now = record { before = before; now = now }
 pub record IsOfSetting {C D : Type 0} (setting : Setting) (x : Stage C D) : Type 0 where
   pub protocol_is : x.protocol ≡ setting.protocol
   pub inputs_are : x.inputs ≡ setting.inputs
+
+-- a setting has the protocol of this world, and as many processes
+pub record IsSettingOf {C : Type 0} (w : World C) (setting : Setting) : Type 0 where
+  pub protocol_is : setting.protocol ≡ w.processes.protocol
+  pub images_long : length setting.images ≡ length w.processes.slots.items
 
 -- the marks lead from the opening, with these processes up, to a core that the world stands for, and whose lines stand on the output
 pub record IsRunning {C D : Type 0} (g : checkpoint.Ghosts C D) (setting : Setting) (up : ℕ → Bool) (x : Stage C D) (marks : List Mark) (out : Output) : Type 0 where
@@ -69,31 +75,31 @@ moment stage marks held = record { stage = stage; marks = marks; held = held }
 abbrev pub moment_of : {C D : Type 0} → Running C → D → Option (List ℕ) → Moment C D
 moment_of run dev held = moment (stage_in run.world dev) run.marks.items held
 
--- a run ended by a fault at the entry behind the marked ones: of the device of the process whose turn it is, or of the output; none is refused
+-- a run ended by a fault at the entry behind the marked ones: of the device of a process that takes part in it, or of the output; none is refused
 -- for what its store holds
 abbrev pub IsEndedBy : {C D : Type 0} → checkpoint.Ghosts C D → TurnFault → Setting → (ℕ → Bool) → Moment C D → Option (List ℕ) → Type 0
-IsEndedBy g (fault.Device p) setting up m first = IsEnded g setting up m.stage m.marks Broken (output first m.held) × (is_turn_of p (slice_get setting.schedule (length m.marks)) ≡ true)
+IsEndedBy g (fault.Device p) setting up m first = IsEnded g setting up m.stage m.marks Broken (output first m.held) × (takes_part setting.protocol p (slice_get setting.schedule (length m.marks)) ≡ true) × (p < length setting.images)
 IsEndedBy g (fault.Store p why) setting up m first = ⊥
 IsEndedBy g fault.Sink setting up m first = (torn : Visible) × IsEnded g setting up m.stage m.marks (CutOff torn) (output first m.held) × (length m.marks < length setting.schedule)
 
 -- wherever a run has come to, an entry leads it on, where its devices were told and still tell
 abbrev pub StepsOn : {C D : Type 0} → checkpoint.Ghosts C D → Entry → Moment C D → Moment C D → Type 0
-StepsOn g entry old new = (setting : Setting) (up : ℕ → Bool) (first : Option (List ℕ)) → is_global setting.protocol ≡ false → slice_get setting.schedule (length old.marks) ≡ Some entry
+StepsOn g entry old new = (setting : Setting) (up : ℕ → Bool) (first : Option (List ℕ)) → AreUpAlike setting up → slice_get setting.schedule (length old.marks) ≡ Some entry
     → IsTold g old.stage → IsTold g new.stage → IsRunning g setting up old.stage old.marks (output first old.held)
     → IsRunning g setting up new.stage new.marks (output first new.held)
 
 -- or it ends there by a fault
 abbrev pub StepsOff : {C D : Type 0} → checkpoint.Ghosts C D → Entry → TurnFault → Moment C D → Moment C D → Type 0
-StepsOff g entry fault old new = (setting : Setting) (up : ℕ → Bool) (first : Option (List ℕ)) → is_global setting.protocol ≡ false → slice_get setting.schedule (length old.marks) ≡ Some entry
+StepsOff g entry fault old new = (setting : Setting) (up : ℕ → Bool) (first : Option (List ℕ)) → AreUpAlike setting up → slice_get setting.schedule (length old.marks) ≡ Some entry
     → IsTold g old.stage → IsTold g new.stage → IsRunning g setting up old.stage old.marks (output first old.held) → IsEndedBy g fault setting up new first
 
 -- wherever a run began, the whole schedule leads it on
 abbrev pub RunsOn : {C D : Type 0} → checkpoint.Ghosts C D → List Entry → Moment C D → Moment C D → Type 0
-RunsOn g schedule old new = (setting : Setting) (up : ℕ → Bool) (first : Option (List ℕ)) → is_global setting.protocol ≡ false → setting.schedule ≡ schedule
+RunsOn g schedule old new = (setting : Setting) (up : ℕ → Bool) (first : Option (List ℕ)) → AreUpAlike setting up → setting.schedule ≡ schedule
     → IsTold g old.stage → IsTold g new.stage → IsRunning g setting up old.stage old.marks (output first old.held)
     → IsRunning g setting up new.stage new.marks (output first new.held)
 
 -- or it ends before by a fault
 abbrev pub RunsOff : {C D : Type 0} → checkpoint.Ghosts C D → List Entry → TurnFault → Moment C D → Moment C D → Type 0
-RunsOff g schedule fault old new = (setting : Setting) (up : ℕ → Bool) (first : Option (List ℕ)) → is_global setting.protocol ≡ false → setting.schedule ≡ schedule
+RunsOff g schedule fault old new = (setting : Setting) (up : ℕ → Bool) (first : Option (List ℕ)) → AreUpAlike setting up → setting.schedule ≡ schedule
     → IsTold g old.stage → IsTold g new.stage → IsRunning g setting up old.stage old.marks (output first old.held) → IsEndedBy g fault setting up new first

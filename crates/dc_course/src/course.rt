@@ -1,12 +1,11 @@
 //! A run, from its opening to its end.
 
-ghost use Rattle.std.specs.Prelude.{◌≡◌, ◌<◌, ◌≤◌, ◌+◌, ◌-◌, ◌^◌, ℕ, All, Err, IfOk, OnErr, [], false, length};
+ghost use Rattle.std.specs.Prelude.{◌≡◌, ◌<◌, ◌≤◌, ◌+◌, ◌-◌, ◌^◌, ℕ, All, Err, IfOk, OnErr, [], length};
 ghost use Rattle.dc_course.specs.Courses.{IsCourse, StoresLeft, TellsThroughout, account_of, counts_of, ending_by, ending_of, setting_of};
 ghost use Rattle.dc_course.specs.Running.{output};
 ghost use Rattle.dc_course.specs.declared.ending.Ending.TheVariants as endings;
 ghost use Rattle.dc_media.specs.Causes.{Rose};
 ghost use Rattle.dc_media.specs.Told.{TellsOn};
-ghost use Rattle.dc_protocols.specs.Rules.{is_global};
 ghost use Rattle.dc_world.specs.Opened.{CanOpen};
 ghost use Rattle.dc_world.specs.Stages.{KeepsTelling};
 ghost use Rattle.dc_world.specs.Worlds.{IsOfProcesses};
@@ -95,7 +94,6 @@ pub fn run<C: Planned + Drop, O: Sink>(
     requires some { 0 < length setup.images.items }
     requires few { length setup.images.items ≤ 8 }
     requires inputs { length setup.inputs.items ≡ length setup.images.items }
-    requires alone { is_global setup.protocol ≡ false }
     requires good { All CanOpen setup.images.items }
     requires entries { length schedule.now ≤ 1000000 }
     requires processes { All (IsOfProcesses (length setup.images.items)) schedule.now }

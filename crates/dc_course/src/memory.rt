@@ -1,6 +1,6 @@
 //! Runs over recoverable memory.
 
-ghost use Rattle.std.specs.Prelude.{◌≡◌, ◌<◌, ◌≤◌, ℕ, All, Err, IfOk, OnErr, false, length};
+ghost use Rattle.std.specs.Prelude.{◌≡◌, ◌<◌, ◌≤◌, ℕ, All, Err, IfOk, OnErr, length};
 ghost use Rattle.dc_course.specs.Courses.{IsCourse, account_of, counts_of, setting_of};
 ghost use Rattle.dc_course.specs.Running.{output};
 ghost use Rattle.dc_course.specs.Segments.{SegmentsLeft, capped_by, TellsStores};
@@ -8,7 +8,6 @@ ghost use Rattle.dc_course.specs.declared.ending.Ending.TheVariants as endings;
 ghost use Rattle.dc_media.specs.Causes.{Rose};
 ghost use Rattle.dc_media.specs.Devices.{of_words};
 ghost use Rattle.dc_media.specs.Told.{IsSameStore, TellsOn};
-ghost use Rattle.dc_protocols.specs.Rules.{is_global};
 ghost use Rattle.dc_world.specs.Opened.{CanOpen};
 ghost use Rattle.dc_world.specs.Worlds.{IsOfProcesses};
 ghost use Rattle.dc_world.specs.declared.faults.OpenFault.TheVariants as opening;
@@ -33,7 +32,6 @@ pub fn run_on_memory<K: Keeps, O: Sink>(
     requires some { 0 < length setup.images.items }
     requires few { length setup.images.items ≤ 8 }
     requires inputs { length setup.inputs.items ≡ length setup.images.items }
-    requires alone { is_global setup.protocol ≡ false }
     requires good { All CanOpen setup.images.items }
     requires entries { length schedule.now ≤ 1000000 }
     requires processes { All (IsOfProcesses (length setup.images.items)) schedule.now }

@@ -5,11 +5,11 @@ ghost use Rattle.dc_armed.specs.Armed.{IsUnrefused};
 ghost use Rattle.dc_armed.specs.Stops.{first_stop};
 ghost use Rattle.dc_course.specs.Headline.{IsCalledOn, IsCountedOn, is_planned};
 ghost use Rattle.dc_course.specs.Headline.{Setting as Settings};
-ghost use Rattle.dc_course.specs.Running.{RunsOff, RunsOn, StepsOff, StepsOn, moment_of};
+ghost use Rattle.dc_course.specs.Running.{IsSettingOf, RunsOff, RunsOn, StepsOff, StepsOn, moment_of};
 ghost use Rattle.dc_media.specs.Causes.{Rose};
 ghost use Rattle.dc_media.specs.Told.{TellsOn};
 ghost use Rattle.dc_world.specs.Stages.{KeepsTelling};
-ghost use Rattle.dc_world.specs.Worlds.{IsOfProcesses, IsTurnOf, MayRun};
+ghost use Rattle.dc_world.specs.Worlds.{IsOfProcesses, IsPartOf, MayRun};
 ghost use Rattle.dc_world.specs.declared.faults.TurnFault.TheVariants as faults;
 ghost use Rattle.dc_world.specs.declared.faults.TurnFault.{TurnFault as TurnFaults};
 
@@ -58,18 +58,19 @@ impl<C: Planned + Drop> Running<C> {
         requires few { length self.old.marks.items < 2 ^ 32 }
         ensures ready { MayRun C.Checkpoint self.new.world dev.new }
         ensures left { self.new.world.processes.left + 1 ≡ self.old.world.processes.left }
+        ensures protocol { self.new.world.processes.protocol ≡ self.old.world.processes.protocol }
         ensures long { length self.new.world.processes.slots.items ≡ length self.old.world.processes.slots.items }
         ensures room { self.old.marks.room ≤ self.new.marks.room }
         ensures marked { OnOk result (length self.new.marks.items ≡ length self.old.marks.items + 1) }
         ensures unmarked { OnErr result (self.new.marks.items ≡ self.old.marks.items) }
         ensures steps_on { OnOk result (StepsOn C.Checkpoint entry.now (moment_of self.old dev.old (O.held out.old)) (moment_of self.new dev.new (O.held out.new))) }
         ensures steps_off { (fault : TurnFaults) → IsErrOf result fault → StepsOff C.Checkpoint entry.now fault (moment_of self.old dev.old (O.held out.old)) (moment_of self.new dev.new (O.held out.new)) }
-        ensures device { (p : ℕ) → IsErrOf result (faults.Device p) → IsTurnOf p entry.now × Rose (C.faults dev.old p) (C.faults dev.new p) }
+        ensures device { (p : ℕ) → IsErrOf result (faults.Device p) → IsPartOf self.old.world p entry.now × Rose (C.faults dev.old p) (C.faults dev.new p) }
         ensures sink { IsErrOf result faults.Sink → Rose (O.faults out.old) (O.faults out.new) }
         ensures lasts { C.lasts dev.old dev.new }
-        ensures stops { (setting : Settings) (p : ℕ) → setting.stops ≡ C.planned dev.old → slice_get setting.schedule (length self.old.marks.items) ≡ Some entry.now → C.stops dev.new p < 2 ^ 64 - 1
-            → IsCountedOn setting p self.old.marks.items self.new.marks.items (C.unplanned dev.old p) (C.unplanned dev.new p) }
-        ensures comes { OnOk result ((setting : Settings) (p : ℕ) → setting.stops ≡ C.planned dev.old → slice_get setting.schedule (length self.old.marks.items) ≡ Some entry.now → C.stops dev.new p < 2 ^ 64 - 1 → C.faults dev.new p < 2 ^ 64 - 1
+        ensures stops { (setting : Settings) (p : ℕ) → IsSettingOf self.old.world setting → setting.stops ≡ C.planned dev.old → slice_get setting.schedule (length self.old.marks.items) ≡ Some entry.now → ((q : ℕ) → q < length setting.images → C.stops dev.new q < 2 ^ 64 - 1)
+            → IsCountedOn setting p self.old.marks.items self.new.marks.items (C.unplanned dev.old) (C.unplanned dev.new) }
+        ensures comes { OnOk result ((setting : Settings) (p : ℕ) → p < length setting.images → IsSettingOf self.old.world setting → setting.stops ≡ C.planned dev.old → slice_get setting.schedule (length self.old.marks.items) ≡ Some entry.now → C.stops dev.new p < 2 ^ 64 - 1 → C.faults dev.new p < 2 ^ 64 - 1
             → IsCalledOn setting p self.old.marks.items self.new.marks.items (C.calls dev.old p) (C.calls dev.new p)) }
         ensures once { (p : ℕ) → C.stops dev.new p + C.unplanned dev.old p ≤ C.unplanned dev.new p + C.stops dev.old p + 1 }
         ensures later { (p : ℕ) → (C.stops dev.old p ≤ C.stops dev.new p) × (C.faults dev.old p ≤ C.faults dev.new p) }
@@ -110,9 +111,9 @@ impl<C: Planned + Drop> Running<C> {
         ensures device { (p : ℕ) → IsErrOf result (faults.Device p) → Rose (C.faults dev.old p) (C.faults dev.new p) }
         ensures sink { IsErrOf result faults.Sink → Rose (O.faults out.old) (O.faults out.new) }
         ensures lasts { C.lasts dev.old dev.new }
-        ensures stops { (setting : Settings) (p : ℕ) → setting.stops ≡ C.planned dev.old → setting.schedule ≡ schedule.now → C.stops dev.new p < 2 ^ 64 - 1
-            → IsCountedOn setting p self.old.marks.items self.new.marks.items (C.unplanned dev.old p) (C.unplanned dev.new p) }
-        ensures come { (setting : Settings) (p : ℕ) → setting.stops ≡ C.planned dev.old → setting.schedule ≡ schedule.now → C.stops dev.new p < 2 ^ 64 - 1 → C.faults dev.new p < 2 ^ 64 - 1
+        ensures stops { (setting : Settings) (p : ℕ) → IsSettingOf self.old.world setting → setting.stops ≡ C.planned dev.old → setting.schedule ≡ schedule.now → ((q : ℕ) → q < length setting.images → C.stops dev.new q < 2 ^ 64 - 1)
+            → IsCountedOn setting p self.old.marks.items self.new.marks.items (C.unplanned dev.old) (C.unplanned dev.new) }
+        ensures come { (setting : Settings) (p : ℕ) → p < length setting.images → IsSettingOf self.old.world setting → setting.stops ≡ C.planned dev.old → setting.schedule ≡ schedule.now → C.stops dev.new p < 2 ^ 64 - 1 → C.faults dev.new p < 2 ^ 64 - 1
             → (made : ℕ) × IsCalledOn setting p self.old.marks.items self.new.marks.items (C.calls dev.old p) made × (made ≤ C.calls dev.new p) × (IsOk result → made ≡ C.calls dev.new p) }
         ensures planned { (p : ℕ) → C.stops dev.new p + C.unplanned dev.old p ≤ C.unplanned dev.new p + C.stops dev.old p + length schedule.now }
         ensures later { (p : ℕ) → (C.stops dev.old p ≤ C.stops dev.new p) × (C.faults dev.old p ≤ C.faults dev.new p) }

@@ -1,7 +1,6 @@
 //! Runs over stores in memory: each case of text comes to what it says.
 
-ghost use Rattle.std.specs.Prelude.{◌≡◌, ◌<◌, ◌≤◌, All, IfOk, false, length};
-ghost use Rattle.dc_protocols.specs.Rules.{is_global};
+ghost use Rattle.std.specs.Prelude.{◌≡◌, ◌<◌, ◌≤◌, All, IfOk, length};
 ghost use Rattle.dc_world.specs.Opened.{CanOpen};
 ghost use Rattle.dc_world.specs.Worlds.{IsOfProcesses};
 
@@ -42,7 +41,6 @@ fn setup_for(alloc: Global, case: &str, entries: &[Entry]) -> Result<Setup, Fail
     ensures some { IfOk result (λ setup. 0 < length setup.images.items) }
     ensures few { IfOk result (λ setup. length setup.images.items ≤ 8) }
     ensures inputs { IfOk result (λ setup. length setup.inputs.items ≡ length setup.images.items) }
-    ensures alone { IfOk result (λ setup. is_global setup.protocol ≡ false) }
     ensures good { IfOk result (λ setup. All CanOpen setup.images.items) }
     ensures entries { IfOk result (λ setup. length entries.now ≤ 1000000) }
     ensures processes { IfOk result (λ setup. All (IsOfProcesses (length setup.images.items)) entries.now) }

@@ -9,15 +9,15 @@ mod planned;
 
 use case::{Span, holds, is_read, number, numbers, says, span_of, text, told, value};
 use cases::{
-    ANSWERS, CALLS, CHECKS, COMMANDS, GUESTS, LONG, PLANS, RUNS, SCHEDULES, SOURCES, STOPS,
-    TOO_LONG,
+    ANSWERS, CALLS, CHECKS, COMMANDS, COMMITTED_TOGETHER, DECIDED_TOGETHER, GUESTS, LONG, PLANS,
+    RECOVERED_TOGETHER, RUNS, SCHEDULES, SOURCES, STOPS, TOGETHER, TOO_LONG,
 };
 use dc_memmedia::{MemKeeps, MemLibrary, MemSink};
 use dc_model::{Idle, Mark};
 use dc_run::{Did, Outcome, conclude};
 use devices::{called, called_aside, words};
 use guest_files::coded;
-use planned::{library, refused};
+use planned::{library, refused, stopped_calls};
 use std::alloc::Global;
 use std::test::Fail;
 
@@ -203,11 +203,24 @@ fn passes(
     )
 }
 
+/// So it does with its last stop at each of the calls that it names, if it names several.
+fn tried_at_each(alloc: Global, case: &str) -> Result<(), Fail> {
+    let Some(calls) = stopped_calls(alloc, case)? else {
+        return tried(alloc, case);
+    };
+    holds(calls.from <= calls.to, case, "no call to stop at")?;
+    for call in calls.from..calls.to.saturating_add(1) {
+        let call = format!(in alloc; "{call}")?;
+        tried(alloc, &case.replace(alloc, calls.word, &call)?)?;
+    }
+    Ok(())
+}
+
 /// Each of some cases does, of which each begins with `* `.
 fn all(alloc: Global, cases: &str) -> Result<(), Fail> {
     for case in cases.split("* ") {
         if !case.is_empty() {
-            tried(alloc, case)?;
+            tried_at_each(alloc, case)?;
         }
     }
     Ok(())
@@ -266,6 +279,26 @@ fn a_schedule_too_long(rt: HostRuntime) -> Result<(), Fail> {
 #[test]
 fn stops(rt: HostRuntime) -> Result<(), Fail> {
     all(rt.alloc(), STOPS)
+}
+
+#[test]
+fn together(rt: HostRuntime) -> Result<(), Fail> {
+    all(rt.alloc(), TOGETHER)
+}
+
+#[test]
+fn committed_together(rt: HostRuntime) -> Result<(), Fail> {
+    all(rt.alloc(), COMMITTED_TOGETHER)
+}
+
+#[test]
+fn decided_together(rt: HostRuntime) -> Result<(), Fail> {
+    all(rt.alloc(), DECIDED_TOGETHER)
+}
+
+#[test]
+fn recovered_together(rt: HostRuntime) -> Result<(), Fail> {
+    all(rt.alloc(), RECOVERED_TOGETHER)
 }
 
 #[test]

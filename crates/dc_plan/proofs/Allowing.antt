@@ -16,7 +16,7 @@ use Rattle.dc_plan.proofs.Passing.{between, gave, passed}
 use Rattle.dc_plan.proofs.Sources.{source_allowed}
 use Rattle.dc_plan.proofs.Stopping.{room_for, stops_allowed, tables_have_room}
 use Rattle.dc_plan.specs.Allowed.{IsAllowed}
-use Rattle.dc_plan.specs.Built.{is_built, is_medium_built}
+use Rattle.dc_plan.specs.Built.{is_medium_built}
 use Rattle.dc_plan.specs.Plans.{Plan, are_inputs_few, are_inputs_right, at_key, guests_row, has_known_keys, inputs_row, inputs_said, is_input_record, medium_named, medium_row, memory_row, needed, only_if, optional, plan_from, plan_of, protocol_named, protocol_row, input_record_of, record_in, rows, schedule_row, seed_row, stops_row, tested, turns_row}
 use Rattle.dc_words.specs.Results.{or_fault}
 use Rattle.dc_plan.specs.Values.{is_array_of, is_between, is_text, is_whole, items_in, natural_in, text_in, text_or_empty}
@@ -32,12 +32,6 @@ kept fault test (Some y) x e = ⊎_elim
     (λ good. let same : Ok y ≡ Ok x = sym (ap (λ b. or_fault fault (if b then Some y else None)) good) ∙ e in let is : y ≡ x = cc in ap test (sym is) ∙ good)
     (λ bad. let same : Err fault ≡ Ok x = sym (ap (λ b. or_fault fault (if b then Some y else None)) bad) ∙ e in absurd (let never : ⊥ = cc in never))
     (cases_Bool (test y))
-
-protocol_allowed : (ms : Members) (p : Protocol) → protocol_row ms ≡ Ok p → is_built p ≡ true
-protocol_allowed ms p e =
-    let value = gave (needed key.Protocol ms) _ p e in
-    let name = gave (tested key.Protocol (is_text value.value) true true (text_in value.value)) _ p value.after in
-    kept _ is_built (protocol_named name.value) p name.after
 
 medium_allowed : (ms : Members) (m : Medium) → medium_row ms ≡ Ok m → is_medium_built m ≡ true
 medium_allowed ms m e =
@@ -128,7 +122,6 @@ rows_allowed ms plan e =
     let stopped = stops_allowed medium.value (length guests.value) counted.0 ms stops.value stops.first in
     let is = said_is _ plan stops.after in
     rw (← is) (record {
-      protocol = protocol_allowed ms protocol.value protocol.first;
       medium = medium_allowed ms medium.value medium.first;
       memory_least = sized.0;
       memory_most = sized.1;

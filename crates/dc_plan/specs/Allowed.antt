@@ -1,7 +1,7 @@
 -- What holds of each plan that is read.
 use Rattle.std.specs.Prelude.{◌≡◌, ◌≤◌, ◌<◌, ◌^◌, ◌%◌, ℕ, true, All, Option, None, Some, length}
 use Rattle.dc_armed.specs.declared.stop.PlannedStop.{PlannedStop}
-use Rattle.dc_plan.specs.Built.{is_built, is_medium_built}
+use Rattle.dc_plan.specs.Built.{is_medium_built}
 use Rattle.dc_plan.specs.Plans.{Plan, Source, InFile, FromSeed}
 use Rattle.dc_plan.specs.declared.plan.Medium.{Medium}
 use Rattle.dc_plan.specs.declared.plan.Medium.TheVariants as medium
@@ -28,7 +28,6 @@ pub record IsStopAllowed (medium : Medium) (guests : ℕ) (stop : PlannedStop) :
 
 -- a plan that is within every bound
 pub record IsAllowed (plan : Plan) : Type 0 where
-  pub protocol : is_built plan.protocol ≡ true
   pub medium : is_medium_built plan.medium ≡ true
   pub memory_least : 65536 ≤ plan.memory
   pub memory_most : plan.memory ≤ 1048576

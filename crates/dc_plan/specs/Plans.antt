@@ -13,7 +13,7 @@ use Rattle.dc_protocols.specs.declared.protocol.Protocol.{Protocol}
 use Rattle.dc_protocols.specs.declared.protocol.Protocol.TheVariants as protocol
 use Rattle.dc_plan.specs.Keys.{key_text, is_key}
 use Rattle.dc_plan.specs.Values.{is_array_of, is_between, is_text, is_whole, items_in, names_in, natural_in, text_in, text_or_empty}
-use Rattle.dc_plan.specs.Built.{is_built, is_medium_built}
+use Rattle.dc_plan.specs.Built.{is_medium_built}
 use Rattle.dc_plan.specs.Stops.{has_stop_keys, has_stop_kinds, has_stop_ranges, is_complete, stop_of}
 use Rattle.dc_plan.specs.declared.fault.PlanError.{PlanError}
 use Rattle.dc_plan.specs.declared.fault.PlanError.TheVariants as error
@@ -82,7 +82,7 @@ only_if test (Some x) = if test x then Some x else None
 -- protocol: the name of a protocol
 abbrev pub protocol_row : Members → Result Protocol PlanFault
 protocol_row ms = needed key.Protocol ms >>= (λ d. tested key.Protocol (is_text d) true true (text_in d)
-    >>= (λ name. or_fault (Range key.Protocol) (only_if is_built (protocol_named name))))
+    >>= (λ name. or_fault (Range key.Protocol) (protocol_named name)))
 
 -- medium: the name of a medium
 abbrev pub medium_row : Members → Result Medium PlanFault

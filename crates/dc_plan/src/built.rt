@@ -1,16 +1,8 @@
 //! What is built of all that a plan may ask for. A plan that asks for more is refused at the key's own place.
 ghost use Rattle.std.specs.Prelude.{◌≡◌};
-ghost use Rattle.dc_plan.specs.Built.{is_built, is_medium_built};
+ghost use Rattle.dc_plan.specs.Built.{is_medium_built};
 
 use crate::plan::Medium;
-use dc_protocols::Protocol;
-
-/// Whether the protocol is built.
-pub fn is_built(protocol: Protocol) -> bool
-    ensures { result ≡ is_built protocol }
-{
-    !matches!(protocol, Protocol::Cpv2pc | Protocol::Cbndv2pc)
-}
 
 /// Whether the medium is built.
 pub fn is_medium_built(medium: Medium) -> bool

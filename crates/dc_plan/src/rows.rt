@@ -7,7 +7,7 @@ ghost use Rattle.dc_plan.specs.Plans.{guests_row, has, inputs_row, inputs_said, 
 ghost use Rattle.dc_plan.specs.Stops.{stop_of};
 ghost use Rattle.dc_words.specs.Results.{seen};
 
-use crate::built::{is_built, is_medium_built};
+use crate::built::is_medium_built;
 use crate::fault::PlanFault;
 use crate::inputs::{are_inputs_few, are_inputs_right, is_array_of_lists};
 use crate::keys::{Key, at_key};
@@ -86,8 +86,8 @@ pub fn protocol_in(table: &Table) -> Result<Protocol, PlanFault>
         return Err(PlanFault::Kind(Key::Protocol));
     }
     match protocol_named(text_in(value)) {
-        Some(protocol) if is_built(protocol) => Ok(protocol),
-        _ => Err(PlanFault::Range(Key::Protocol)),
+        Some(protocol) => Ok(protocol),
+        None => Err(PlanFault::Range(Key::Protocol)),
     }
 }
 

@@ -94,6 +94,8 @@ protocol|protocol = 'cpvs'|
 protocol|protocol = 'cbndvs'|
 protocol|protocol = 'cand-log'|
 protocol|protocol = 'cbndvs-log'|
+protocol|protocol = 'cpv-2pc'|
+protocol|protocol = 'cbndv-2pc'|
 memory|memory = 69632|
 memory|memory = 1048576|
 memory|memory = 65_536|
@@ -148,8 +150,6 @@ protocol|protocol = 1|kind protocol
 protocol|protocol = ['cand']|kind protocol
 protocol|protocol = 'CAND'|range protocol
 protocol|protocol = ''|range protocol
-protocol|protocol = 'cpv-2pc'|range protocol
-protocol|protocol = 'cbndv-2pc'|range protocol
 protocol medium|protocol = 'cpv'|range protocol
 medium||missing medium
 medium|medium = true|kind medium

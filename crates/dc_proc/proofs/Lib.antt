@@ -19,3 +19,4 @@ pub mod Counting
 pub mod Retired
 pub mod Learned
 pub mod Rising
+pub mod Jointly

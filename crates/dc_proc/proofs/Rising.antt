@@ -13,7 +13,7 @@ use Rattle.dc_model.specs.Guests.{Answer, Guests}
 use Rattle.dc_model.specs.Process.{Local, at_position, local, oldest}
 use Rattle.dc_proc.proofs.Texts.{number_is, state_in}
 use Rattle.dc_proc.specs.Downs.{IsRisen}
-use Rattle.dc_proc.specs.Processes.{Held, IsAt, IsKernelAt, IsNumbered, IsOver, IsProcess, IsStoredSave, Stands, Stored, logged_of, reading_of}
+use Rattle.dc_proc.specs.Processes.{Held, IsAt, IsKernelAt, IsNumbered, IsOver, IsProcess, IsSavedAs, IsStoredSave, Stands, Stored, logged_of, reading_of}
 use Rattle.dc_recovery.proofs.Spans.{oldest_length, oldest_twice}
 use Rattle.dc_recovery.specs.Core.{Status, Which, save_of}
 use Rattle.dc_recovery.specs.Core.Which.{Older, Newer}
@@ -136,16 +136,19 @@ module _ (S : System Guest) (room : S.log_room ≡ 64) (p : ℕ) (answers : List
       (λ x. risen_by Newer x.0 state (within Newer) x.2 x.1 (gives (Ok state) l))
       (stood (Ok state) (less (Ok state) l))
 
--- at what was read for it, whoever read it
-pub risen_at : (S : System Guest) (p : ℕ) (answers : List Answer) (others : ℕ → ℕ) (s : Save) (words : List ℕ) (saved : Saved) (h : Held) (m q : ℕ) → S.log_room ≡ 64
+-- at what was read for it, whoever read it, where that is a save
+pub risen_at : (S : System Guest) (p : ℕ) (answers : List Answer) (others : ℕ → ℕ) (s : Save) (memory : Option (List ℕ)) (saved : Saved) (h : Held) (m q : ℕ) → S.log_room ≡ 64
     → IsKernel m q saved.kernel → h.kernel ≡ saved.kernel → h.unread ≡ saved.log.items → h.own ≡ false → h.log_left + length saved.log.items ≡ 64
     → ((r : ℕ) → r < saved.kernel.n → slice_index h.based r ≡ slice_index saved.kernel.received r)
     → ((r : ℕ) → r < saved.kernel.n → slice_index h.others r ≡ number_of_first (link_to saved.kernel.links r))
-    → IsStoredSave S.guests p answers others s (record { words = words; kernel = saved.kernel; log = saved.log.items }) → reach S p answers s ≤ length answers
-    → IsAt S p (oldest (reach S p answers s) answers) (risen s) words h
-risen_at S p answers others s words saved h m q room ok kernel_is unread_is own_is left_is based_is others_are is within =
-    at_words S room p answers others (risen s) (Some words) saved h (λ r. ⊥) m q ok (λ r l. absurd l) kernel_is unread_is own_is left_is based_is others_are
-    s (record { words = words; kernel = saved.kernel; log = saved.log.items }) (record { memory = words; kernel = text_of saved.kernel; log = saved.log.items }) within is refl (record { memory_is = refl; kernel_is = refl; log_is = refl })
+    → (r : Reading) → Gives memory saved r → IsSavedAs S.guests p answers others s r → reach S p answers s ≤ length answers
+    → IsProcess S p (oldest (reach S p answers s) answers) (risen s) memory h × ((z : ℕ) → z < S.guests.count → slice_index h.others z ≤ others z)
+unfolding risen_by
+risen_at S p answers others s memory saved h m q room ok kernel_is unread_is own_is left_is based_is others_are (Err e) gives is within = absurd gives
+risen_at S p answers others s memory saved h m q room ok kernel_is unread_is own_is left_is based_is others_are (Ok state) gives is within =
+    let only : (r : Reading) → r ≡ Ok state → Gives memory saved r = λ r e. subst (Gives memory saved) (sym e) gives in
+    let back = risen_by S room p answers others (risen s) memory saved h (λ r. r ≡ Ok state) m q ok only kernel_is unread_is own_is left_is based_is others_are Older is.0 state within is.2 is.1 gives in
+    (back.0.over.process, back.1)
 
 -- nor of a later commit than the images that were there before
 pub risen_number : (memory : Option (List ℕ)) (saved : Saved) (kernel : Kernel) (before leaves : Reading → Type 0) (most : ℕ) → ((r : Reading) → leaves r → Gives memory saved r) → kernel ≡ saved.kernel

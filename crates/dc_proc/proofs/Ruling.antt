@@ -1,5 +1,5 @@
 -- The event that the code finds, and the rule there, are those of the theory.
-use Rattle.std.proofs.Common.{◌≡◌, ◌≢◌, ◌∙◌, ◌==◌, ◌<◌, ◌≤◌, ◌+◌, ◌-◌, ◌&&◌, ℕ, List, [], ◌∷◌, map, true, false, not, refl, sym, ap, subst, length, arith, nat_eq, nat_le, nat_lt, slice_index, drop, zero, suc, ⊎_elim}
+use Rattle.std.proofs.Common.{◌≡◌, ◌≢◌, ◌∙◌, ◌==◌, ◌<◌, ◌≤◌, ◌+◌, ◌-◌, ◌&&◌, ℕ, Bool, List, [], ◌∷◌, map, true, false, not, refl, sym, ap, subst, length, arith, nat_eq, nat_le, nat_lt, slice_index, drop, zero, suc, ⊎_elim}
 use Rattle.std.proofs.lemmas.Bool.{cases_lt, le-leb, lt-leb, le-ltb, lt-ltb, eq-eqb, ne_eqb}
 use Rattle.dc_calls.specs.declared.call.Call.TheVariants as calls
 use Rattle.dc_elf.specs.Images.{Image}
@@ -114,17 +114,22 @@ module _ (images : List Image) (inputs : List (List (List ℕ))) (pr : Protocol)
               ap (λ x. x + 1 == slice_index u.based.items s + 8) (is.kernel_is.received s less) ∙ ap (λ x. (at_position S.guests p st.position answers).received s + 1 == x + 8) (is.based_is s less)
           by_answer _ from = refl
 
-      -- what the code finds
-      abbrev found : Kind → Since
-      found kind = record { own = u.own; any = false; full = nat_eq u.log_left 0; eighth = makes_eight u.kernel.received u.based.items a; replay = at_inputs kind && not (is_none (held u).unread) }
+      -- what the code finds, where it was told whether any process had an unlogged nondeterministic event
+      abbrev pub found : Bool → Kind → Since
+      found any kind = record { own = u.own; any = any; full = nat_eq u.log_left 0; eighth = makes_eight u.kernel.received u.based.items a; replay = at_inputs kind && not (is_none (held u).unread) }
 
       pub replay_is : (at_inputs (kind_of (next_of (over u.guest words))) && not (is_none (held u).unread)) ≡ replays (event_alone S.guests p answers st a) st
       replay_is = ap (λ b. b && not (is_none (held u).unread)) (sym (request_is (next_of (over u.guest words)) (machine_over u.guest words)) ∙ ap is_request (sym (event_is a)))
           ∙ ap (λ b. is_request (event_alone S.guests p answers st a) && not b) (none_is (held u).unread ∙ ap is_empty_log is.unread_is)
 
-      since_is : found (kind_of (next_of (over u.guest words))) ≡ since 64 (event_alone S.guests p answers st a) st false (makes_most S p answers st a)
-      since_is = rw (is.own_is, full_is u.log_left (length st.older.log) is.left_is, eight_is, replay_is, sym going.one) refl
+      since_is : (any : Bool) → found any (kind_of (next_of (over u.guest words))) ≡ since 64 (event_alone S.guests p answers st a) st any (makes_most S p answers st a)
+      since_is any = rw (is.own_is, full_is u.log_left (length st.older.log) is.left_is, eight_is, replay_is, sym going.one) refl
 
-      pub rule_is : without_commits (is_global pr) (rule_of pr (kind_of (next_of (over u.guest words))) (found (kind_of (next_of (over u.guest words))))) ≡ rule_alone S p answers st a
-      rule_is = ap (λ s. without_commits (is_global pr) (rule_of pr (kind_of (next_of (over u.guest words))) s)) since_is
-          ∙ ap (λ k. without_commits (is_global pr) (rule_of pr k (since 64 (event_alone S.guests p answers st a) st false (makes_most S p answers st a)))) (sym (kind_is (next_of (over u.guest words)) (machine_over u.guest words)) ∙ ap kind_at (sym (event_is a)))
+      -- so what its protocol asks there is what the theory's asks
+      pub asked_is : (any : Bool) → rule_of pr (kind_of (next_of (over u.guest words))) (found any (kind_of (next_of (over u.guest words))))
+          ≡ rule_of pr (kind_at (event_alone S.guests p answers st a)) (since 64 (event_alone S.guests p answers st a) st any (makes_most S p answers st a))
+      asked_is any = ap (rule_of pr (kind_of (next_of (over u.guest words)))) (since_is any)
+          ∙ ap (λ k. rule_of pr k (since 64 (event_alone S.guests p answers st a) st any (makes_most S p answers st a))) (sym (kind_is (next_of (over u.guest words)) (machine_over u.guest words)) ∙ ap kind_at (sym (event_is a)))
+
+      pub rule_is : without_commits (is_global pr) (rule_of pr (kind_of (next_of (over u.guest words))) (found false (kind_of (next_of (over u.guest words))))) ≡ rule_alone S p answers st a
+      rule_is = ap (without_commits (is_global pr)) (asked_is false)

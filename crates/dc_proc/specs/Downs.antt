@@ -1,16 +1,15 @@
 -- What is left of a process that fell, and what one is that rose.
 use Rattle.std.specs.Prelude.{◌≡◌, ◌<◌, ◌≤◌, ℕ, List, Option, Result, Ok, Err, length, slice_index, vec_capacity}
-use Rattle.dc_checkpoint.specs.States.{Reading}
+use Rattle.dc_checkpoint.specs.States.{Gives, Reading}
 use Rattle.dc_elf.specs.Images.{Image}
 use Rattle.dc_guest.specs.Guest.{Guest}
 use Rattle.dc_kernel.specs.Layout.{kernel_words}
-use Rattle.dc_kernel.specs.Kernels.{Kernel}
 use Rattle.dc_kernel.specs.declared.faults.CheckFault.{CheckFault}
-use Rattle.dc_kernel.specs.declared.records.LogRecord.{LogRecord}
+use Rattle.dc_kernel.specs.declared.saved.Saved.{Saved}
 use Rattle.dc_model.specs.Guests.{Answer}
 use Rattle.dc_model.specs.Process.{oldest}
 use Rattle.dc_proc.specs.Carried.{system}
-use Rattle.dc_proc.specs.Processes.{Held, IsAt, IsOver, IsStoredSave, Stands}
+use Rattle.dc_proc.specs.Processes.{Held, IsOver, IsProcess, IsSavedAs, Stands}
 use Rattle.dc_proc.specs.declared.down.Down.{Down}
 use Rattle.dc_protocols.specs.declared.protocol.Protocol.{Protocol}
 use Rattle.dc_recovery.specs.Core.{Status, Which, save_of}
@@ -48,11 +47,12 @@ Rises before memory held leaves = (images : List Image) (inputs : List (List (Li
     → Stands (system images inputs protocol).guests p answers others st before → ((k : Which) → reach (system images inputs protocol) p answers (save_of k st) ≤ length answers)
     → IsRisen (system images inputs protocol) p answers st memory held leaves × ((q : ℕ) → q < (system images inputs protocol).guests.count → slice_index held.others q ≤ others q)
 
--- wherever it was in the theory, whatever its guest and its protocol: where what was read for it stands for a save that does not reach past its answers, it is up there
-abbrev pub RisesAt : Kernel → List LogRecord → Held → Type 0
-RisesAt kernel log held = (images : List Image) (inputs : List (List (List ℕ))) (protocol : Protocol) (p : ℕ) (answers : List Answer) (others : ℕ → ℕ) (s : Save) (words : List ℕ)
-    → IsStoredSave (system images inputs protocol).guests p answers others s (record { words = words; kernel = kernel; log = log }) → reach (system images inputs protocol) p answers s ≤ length answers
-    → IsAt (system images inputs protocol) p (oldest (reach (system images inputs protocol) p answers s) answers) (risen s) words held
+-- wherever it was in the theory, whatever its guest and its protocol: where what was read for it is a save that does not reach past its answers, it is up
+-- there, with its acts past the reach of that save gone; and it takes no more of its messages for committed than was known
+abbrev pub RisesAt : Saved → Held → Type 0
+RisesAt saved held = (images : List Image) (inputs : List (List (List ℕ))) (protocol : Protocol) (p : ℕ) (answers : List Answer) (others : ℕ → ℕ) (s : Save) (memory : Option (List ℕ)) (r : Reading)
+    → Gives memory saved r → IsSavedAs (system images inputs protocol).guests p answers others s r → reach (system images inputs protocol) p answers s ≤ length answers
+    → IsProcess (system images inputs protocol) p (oldest (reach (system images inputs protocol) p answers s) answers) (risen s) memory held × ((q : ℕ) → q < (system images inputs protocol).guests.count → slice_index held.others q ≤ others q)
 
 -- the fault alone
 abbrev pub fault_only : {A B : Type 0} → Result A (B × CheckFault) → Result (Unit {0}) CheckFault

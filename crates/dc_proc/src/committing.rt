@@ -1,8 +1,9 @@
 //! Commits of one process.
 
-ghost use Rattle.std.specs.Prelude.{◌≡◌, ◌<◌, ◌≤◌, ◌+◌, ◌-◌, ◌^◌, ℕ, List, [], false, true, OnErr, OnOk};
+ghost use Rattle.std.specs.Prelude.{◌≡◌, ◌<◌, ◌≤◌, ◌+◌, ◌-◌, ◌^◌, ℕ, List, [], false, true, OnErr, OnOk, length};
 ghost use Rattle.dc_checkpoint.specs.States.{IsText};
 ghost use Rattle.dc_kernel.specs.Kernels.{IsKernel};
+ghost use Rattle.dc_kernel.specs.Layout.{kernel_words};
 ghost use Rattle.dc_kernel.specs.Texts.{text_of};
 ghost use Rattle.dc_media.specs.Told.{Becomes};
 ghost use Rattle.dc_proc.specs.Calls.{IsCall, on};
@@ -19,6 +20,23 @@ use dc_kernel::CheckFault;
 const LOG_ROOM: u32 = 64;
 
 impl Up {
+    /// Writes the text of its kernel as of the commit of this number, for a commit of all processes together: it counts once that is
+    /// decided.
+    pub fn write_next(&mut self, number: u32, text: &mut [u32])
+        requires whole { IsWhole self.old }
+        requires long { length text.old ≡ kernel_words self.old.kernel.n }
+        ensures held { held self.new ≡ record (held self.old) { kernel = record (held self.old).kernel { commit = number } } }
+        ensures text { text.new ≡ text_of (record (held self.old).kernel { commit = number }) }
+        ensures faultless { IsText (form_of self.old.kernel) text.new }
+        ensures kernel { IsKernel self.old.kernel.n self.old.kernel.p (record (held self.old).kernel { commit = number }) }
+        ensures same { IsSameUp self.old self.new }
+        ensures whole { IsWhole self.new }
+    {
+        self.kernel.set_commit(number);
+        self.kernel.set_regs(*self.guest.regs());
+        self.kernel.encode(text);
+    }
+
     /// Writes the text of the next commit's kernel.
     fn write_text(&mut self)
         requires number { self.old.kernel.commit < 2 ^ 32 - 1 }
@@ -36,7 +54,7 @@ impl Up {
     }
 
     /// Notes that a commit was acknowledged: nothing is left to read, own is clear, the log is empty.
-    pub(crate) fn settle(&mut self)
+    pub fn settle(&mut self)
         requires whole { IsWhole self.old }
         ensures held { held self.new ≡ record (held self.old) { unread = []; own = false; log_left = 64; based = self.new.based.items } }
         ensures based { IsCopied self.old.kernel self.new.based.items }

@@ -164,7 +164,7 @@ impl Down {
         ensures left { (held result).log_left + length saved.old.log.items ≡ 64 }
         ensures based { IsCopied saved.old.kernel (held result).based }
         ensures others { (q : ℕ) → q < saved.old.kernel.n → slice_index (held result).others q ≡ number_of_first (link_to saved.old.kernel.links q) }
-        ensures risen { RisesAt saved.old.kernel saved.old.log.items (held result) }
+        ensures risen { RisesAt saved.old (held result) }
         ensures whole { IsWhole result }
         ensures protocol { (result.protocol ≡ self.protocol) × (result.size ≡ self.size) }
         ensures room { 64 ≤ vec_capacity saved.new.log }

@@ -98,6 +98,7 @@ impl Up {
         ensures memory { OnOk result (Becomes (C.contents store.old dev.old) (C.contents store.new dev.new) (λ before after. after ≡ before)) }
         ensures held { OnOk result (due ≡ true → held self.new ≡ record (held self.old) { log_left = self.old.log_left - 1 }) }
         ensures kept { OnOk result (due ≡ false → self.new ≡ self.old) }
+        ensures untouched { due ≡ false → (store.new ≡ store.old) × (dev.new ≡ dev.old) }
         ensures based { self.new.based.items ≡ self.old.based.items }
         ensures numbered { (d most : ℕ) → C.floor store.old ≤ d → IsNumbered most (C.leaves store.old dev.old d) → IsNumbered most (C.leaves store.new dev.new d) }
         ensures steady { C.steady store.old dev.old → C.steady store.new dev.new × AreAmong (C.numbers store.old dev.old) (C.numbers store.new dev.new) }

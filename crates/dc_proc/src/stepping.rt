@@ -17,7 +17,7 @@ use crate::up::Up;
 use dc_calls::Call;
 use dc_checkpoint::Checkpoint;
 use dc_events::{Kind, Next};
-use dc_guest::{Answer, Effect};
+use dc_guest::{Answer, Effect, Guest};
 use dc_kernel::CheckFault;
 
 impl Up {
@@ -118,6 +118,29 @@ impl Up {
             size: self.size,
         };
         self.guest.next_call(&bus)
+    }
+
+    /// The kind of its next event. Nothing is run.
+    pub fn next_kind<C: Checkpoint>(&self, store: &C, dev: &C::Device) -> Kind
+        requires lent { C.lent store.now dev.now }
+        requires ready { C.ready store.now dev.now }
+        requires sized { self.now.size ≡ 4 * C.size store.now }
+        requires number { self.now.guest.number ≡ self.now.kernel.p }
+        requires count { self.now.guest.count ≡ self.now.kernel.n }
+        requires runs { self.now.guest.ended ≡ false }
+        ensures { IfSome (C.contents store.now dev.now) (λ words. result ≡ kind_of (next_of (over self.now.guest words))) }
+    {
+        // What comes is found by a guest that steps over a memory that stores nothing.
+        let mut guest = Guest::at(self.kernel.p(), self.kernel.n(), *self.guest.regs(), false);
+        let mut bus = Looked {
+            store,
+            dev,
+            size: self.size,
+        };
+        match guest.next(&mut bus) {
+            Ok(next) => next.kind(),
+            Err(_) => Kind::Internal,
+        }
     }
 
     /// Whether its next event is a send for whose receiver as many messages are kept as there may be. Nothing is run.

@@ -1,7 +1,7 @@
 //! A turn of one process: the commit before, the act, the log record, the event, the commit after.
 
 ghost use Rattle.std.specs.Prelude.{◌≡◌, ◌<◌, ◌≤◌, ◌+◌, ◌*◌, ◌-◌, ◌^◌, ◌&&◌, not, ℕ, List, false, true, IfOk, IfSome, IfErr, OnErr, OnOk, length, nat_eq, slice_index};
-ghost use Rattle.dc_checkpoint.specs.Calls.{AreAmong};
+ghost use Rattle.dc_checkpoint.specs.Calls.{AreAmong, Narrows};
 ghost use Rattle.dc_events.specs.Kinds.{kind_of};
 ghost use Rattle.dc_guest.specs.Answers.{answer_of, effect_of, may_answer};
 ghost use Rattle.dc_guest.specs.Guest.{event_of, machine_over, next_of, over};
@@ -57,6 +57,29 @@ impl Up {
         asks(kind) && self.read < self.log.len()
     }
 
+    /// What its protocol asks at an event of this kind that is answered so; `any` says whether any process had an unlogged
+    /// nondeterministic event since the last commit of all.
+    pub fn asked(&self, kind: Kind, answer: &Answer, any: bool) -> Rule
+        requires sender { IsSender self.now.kernel (answer_of answer.now) }
+        requires whole { IsWhole self.now }
+        ensures { result ≡ rule_of self.now.protocol kind (record {
+          own = self.now.own;
+          any = any;
+          full = nat_eq self.now.log_left 0;
+          eighth = makes_eight self.now.kernel.received self.now.based.items (answer_of answer.now);
+          replay = at_inputs kind && not (is_none (held self.now).unread);
+        }) }
+    {
+        let since = Since {
+            own: self.own,
+            any,
+            full: self.log_left == 0,
+            eighth: makes_eight(&self.kernel, &self.based, answer),
+            replay: self.replays(kind),
+        };
+        rule(self.protocol, kind, &since)
+    }
+
     /// What its protocol asks of the process itself: where all commit together, no commit.
     fn rule(&self, kind: Kind, answer: &Answer) -> Rule
         requires sender { IsSender self.now.kernel (answer_of answer.now) }
@@ -69,14 +92,7 @@ impl Up {
           replay = at_inputs kind && not (is_none (held self.now).unread);
         })) }
     {
-        let since = Since {
-            own: self.own,
-            any: false,
-            full: self.log_left == 0,
-            eighth: makes_eight(&self.kernel, &self.based, answer),
-            replay: self.replays(kind),
-        };
-        let asked = rule(self.protocol, kind, &since);
+        let asked = self.asked(kind, answer, false);
         if is_global(self.protocol) {
             return Rule {
                 before: false,
@@ -150,6 +166,8 @@ impl Up {
         ensures paired { OnOk result (IsPaired (held self.new) (C.form store.new) (C.number store.new) (C.logged store.new)) }
         ensures whole { IsWhole self.new }
         ensures steady { is_global self.old.protocol ≡ true → C.steady store.old dev.old → C.steady store.new dev.new × AreAmong (C.numbers store.old dev.old) (C.numbers store.new dev.new) }
+        ensures uncommitted { is_global self.old.protocol ≡ true → OnOk result ((held self.new).kernel.commit ≡ (held self.old).kernel.commit) }
+        ensures narrows { is_global self.old.protocol ≡ true → Narrows (C.floor store.old) (C.leaves store.old dev.old) (C.leaves store.new dev.new) }
         ensures quiet { OnOk result ((held self.new).kernel.commit ≡ (held self.old).kernel.commit → (held self.new).based ≡ (held self.old).based) }
         ensures counts { OnOk result ((turns : ℕ) → HasCountsFor (turns + 1) self.old.kernel → HasCountsFor turns self.new.kernel) }
         ensures numbered { (d most : ℕ) → C.floor store.old ≤ d → self.old.kernel.commit ≤ most → IsNumbered most (C.leaves store.old dev.old d) → IsNumbered (most + 2) (C.leaves store.new dev.new d) }
@@ -210,6 +228,8 @@ impl Up {
         ensures paired { OnOk result (IsPaired (held self.new) (C.form store.new) (C.number store.new) (C.logged store.new)) }
         ensures whole { IsWhole self.new }
         ensures steady { is_global self.old.protocol ≡ true → C.steady store.old dev.old → C.steady store.new dev.new × AreAmong (C.numbers store.old dev.old) (C.numbers store.new dev.new) }
+        ensures uncommitted { is_global self.old.protocol ≡ true → OnOk result ((held self.new).kernel.commit ≡ (held self.old).kernel.commit) }
+        ensures narrows { is_global self.old.protocol ≡ true → Narrows (C.floor store.old) (C.leaves store.old dev.old) (C.leaves store.new dev.new) }
         ensures quiet { OnOk result ((held self.new).kernel.commit ≡ (held self.old).kernel.commit → (held self.new).based ≡ (held self.old).based) }
         ensures counts { OnOk result ((turns : ℕ) → HasCountsFor (turns + 1) self.old.kernel → HasCountsFor turns self.new.kernel) }
         ensures numbered { (d most : ℕ) → C.floor store.old ≤ d → self.old.kernel.commit ≤ most → IsNumbered most (C.leaves store.old dev.old d) → IsNumbered (most + 2) (C.leaves store.new dev.new d) }

@@ -1,5 +1,4 @@
-ghost use Rattle.std.specs.Prelude.{◌≡◌, ◌≤◌, ◌<◌, All, false, length};
-ghost use Rattle.dc_protocols.specs.Rules.{is_global};
+ghost use Rattle.std.specs.Prelude.{◌≡◌, ◌≤◌, ◌<◌, All, length};
 ghost use Rattle.dc_schedule.specs.Entries.{IsSchedule};
 ghost use Rattle.dc_world.specs.Opened.{CanOpen};
 ghost use Rattle.dc_run.specs.Single.{IsSchedule-prop, all_can_open-prop};
@@ -19,7 +18,6 @@ pub struct Setting {
     pub inputs: Vec<Vec<Message>>,
     pub schedule: Vec<Entry>,
     pub stops: Vec<PlannedStop>,
-    ghost local: { is_global protocol ≡ false },
     ghost some: { 0 < length images.items },
     ghost few: { length images.items ≤ 8 },
     ghost good: { All CanOpen images.items } by { all_can_open-prop images.items },

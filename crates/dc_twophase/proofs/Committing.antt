@@ -13,8 +13,7 @@ use Rattle.dc_twophase.proofs.Preparing.{same_then}
 pub record IsOutcome {C D : Type 0} (store : checkpoint.Ghosts C D) (text : ℕ → List ℕ) (g : ℕ) (old new : Moment C D) : Type 0 where
   pub same : EachPair old.stores new.stores (λ i. IsSameStore store.place store.size store.form)
   pub lent : EachPair old.stores new.stores (λ i b c. store.lent b old.dev → store.lent c new.dev)
-  pub between : HasRoom store g old → At 0 new.stores (λ c. (d : ℕ) → store.numbers c new.dev d → AllOld store old new d ⊎ AllNew store text old new d)
-  pub numbers : HasRoom store g old → AtPair 0 old.stores new.stores (λ b c. (e : ℕ) → store.numbers c new.dev e → store.numbers b old.dev e ⊎ (e ≡ g))
+  pub between : HasRoom store g old → AtPair 0 old.stores new.stores (λ b c. (d : ℕ) → store.numbers c new.dev d → (store.numbers b old.dev d × AllOld store old new d) ⊎ ((d ≡ g) × AllNew store text old new d))
   pub steady : HasRoom store g old → At 0 new.stores (λ c. store.steady c new.dev)
 
 -- the calls that prepare were made
@@ -50,11 +49,9 @@ module _ {C D : Type 0} {store : checkpoint.Ghosts C D} {text : ℕ → List ℕ
   after_preparing {old} {mid} first = record {
     same = λ i b c before now. (first.undecided i b c before now).same;
     lent = λ i b c before now. (first.undecided i b c before now).lent;
-    between = λ room z now d has.
-        let b = before_it old.stores mid.stores 0 z first.long now in
-        let was = (first.undecided 0 b.0 z b.1 now).numbers (room.stays b.0 b.1) (room.below b.0 b.1) d has in
-        inl (λ i x y before here reading. (first.undecided i x y before here).old_state d reading (room.over b.0 b.1 d was i x before) (room.below b.0 b.1 d was));
-    numbers = λ room b z before now e has. inl ((first.undecided 0 b z before now).numbers (room.stays b before) (room.below b before) e has);
+    between = λ room b z first_was now d has.
+        let was = (first.undecided 0 b z first_was now).numbers (room.stays b first_was) (room.below b first_was) d has in
+        inl (was, λ i x y before here reading. (first.undecided i x y before here).old_state d reading (room.over b first_was d was i x before) (room.below b first_was d was));
     steady = λ room z now.
         let b = before_it old.stores mid.stores 0 z first.long now in
         (first.undecided 0 b.0 z b.1 now).steady (room.stays b.0 b.1) (room.below b.0 b.1);
@@ -78,24 +75,20 @@ module _ {C D : Type 0} {store : checkpoint.Ghosts C D} {text : ℕ → List ℕ
   after_deciding {old} {mid} {late} second = record {
     same = pair_then old.stores mid.stores late.stores second.first.long (λ i b y z was now. same_then was.same now.same) second.first.undecided second.beside;
     lent = pair_then old.stores mid.stores late.stores second.first.long (λ i b y z was now is. now.lent (was.lent is)) second.first.undecided second.beside;
-    between = λ room z now d has.
+    between = λ room b z first_was now d has.
         let y = before_it mid.stores late.stores 0 z second.long now in
-        let b = before_it old.stores mid.stores 0 y.0 second.first.long y.1 in
         ⊎_elim
-        (λ was. let was₀ = (second.first.undecided 0 b.0 y.0 b.1 y.1).numbers (room.stays b.0 b.1) (room.below b.0 b.1) d was in
-        inl (λ i x w before here reading left.
-        let v = before_it mid.stores late.stores i w second.long here in
-        let held = second.first.undecided i x v.0 before v.1 in
-        let low = room.over b.0 b.1 d was₀ i x before in
-        held.old_state d reading low (room.below b.0 b.1 d was₀) ((second.beside i v.0 w v.1 here).stands d reading (omega (arith, low, held.floor)) left)))
-        (λ same. inr (rw same (new_late second room)))
+        (λ was. let was₀ = (second.first.undecided 0 b y.0 first_was y.1).numbers (room.stays b first_was) (room.below b first_was) d was in
+        inl (
+          was₀,
+          λ i x w before here reading left.
+              let v = before_it mid.stores late.stores i w second.long here in
+              let held = second.first.undecided i x v.0 before v.1 in
+              let low = room.over b first_was d was₀ i x before in
+              held.old_state d reading low (room.below b first_was d was₀) ((second.beside i v.0 w v.1 here).stands d reading (omega (arith, low, held.floor)) left),
+        ))
+        (λ same. inr (same, rw same (new_late second room)))
         ((second.deciding y.0 z y.1 now).between d has);
-    numbers = λ room b z before now e has.
-        let y = before_it mid.stores late.stores 0 z second.long now in
-        ⊎_elim
-        (λ was. inl ((second.first.undecided 0 b y.0 before y.1).numbers (room.stays b before) (room.below b before) e was))
-        (λ same. inr same)
-        ((second.deciding y.0 z y.1 now).between e has);
     steady = steady_late second;
   }
 
@@ -116,8 +109,7 @@ module _ {C D : Type 0} {store : checkpoint.Ghosts C D} {text : ℕ → List ℕ
   after_finishing {old} {mid} {late} {new} third = let earlier = after_deciding third.second in let long = third.second.long ∙ third.second.first.long in record {
     same = pair_then old.stores late.stores new.stores long (λ i b y z was now. same_then was now.same) earlier.same third.finished;
     lent = pair_then old.stores late.stores new.stores long (λ i b y z was now is. now.lent (was is)) earlier.lent third.finished;
-    between = λ room z now d has. inr (all_new third room z now d has);
-    numbers = λ room b z before now e has. inr (all_decided third room z now e has);
+    between = λ room b z first_was now d has. inr (all_decided third room z now d has, all_new third room z now d has);
     steady = λ room z now. let x = before_it late.stores new.stores 0 z third.long now in (third.finished 0 x.0 z x.1 now).steady (steady_late third.second room x.0 x.1);
   }
 

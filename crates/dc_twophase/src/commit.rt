@@ -162,10 +162,9 @@ pub fn commit_all<C: Checkpoint>(
     ensures decided { OnOk result (HasRoom C.Checkpoint g (on stores.old dev.old) → At 0 stores.new (λ c. AreAll g (C.numbers c dev.new))) }
     ensures stands { OnOk result (HasRoom C.Checkpoint g (on stores.old dev.old) → At 0 stores.new (λ c. (d : ℕ) → C.numbers c dev.new d
         → AllNew C.Checkpoint (text_at (length words.now / length stores.old) words.now) (on stores.old dev.old) (on stores.new dev.new) d)) }
-    ensures between { HasRoom C.Checkpoint g (on stores.old dev.old) → At 0 stores.new (λ c. (d : ℕ) → C.numbers c dev.new d
-        → AllOld C.Checkpoint (on stores.old dev.old) (on stores.new dev.new) d
-        ⊎ AllNew C.Checkpoint (text_at (length words.now / length stores.old) words.now) (on stores.old dev.old) (on stores.new dev.new) d) }
-    ensures numbers { HasRoom C.Checkpoint g (on stores.old dev.old) → AtPair 0 stores.old stores.new (λ b c. (e : ℕ) → C.numbers c dev.new e → C.numbers b dev.old e ⊎ (e ≡ g)) }
+    ensures between { HasRoom C.Checkpoint g (on stores.old dev.old) → AtPair 0 stores.old stores.new (λ b c. (d : ℕ) → C.numbers c dev.new d
+        → (C.numbers b dev.old d × AllOld C.Checkpoint (on stores.old dev.old) (on stores.new dev.new) d)
+        ⊎ ((d ≡ g) × AllNew C.Checkpoint (text_at (length words.now / length stores.old) words.now) (on stores.old dev.old) (on stores.new dev.new) d)) }
     ensures steady { HasRoom C.Checkpoint g (on stores.old dev.old) → At 0 stores.new (λ c. C.steady c dev.new) }
     ensures joint { IsJoint C.Checkpoint stores.old dev.old dev.new result }
     ensures unrefused { IsUnrefused result }

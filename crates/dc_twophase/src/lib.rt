@@ -11,5 +11,5 @@ mod recover;
 mod tests;
 
 pub use commit::commit_all;
-pub use faults::JointFault;
+pub use faults::{JointFault, joint_fault};
 pub use recover::recover_all;

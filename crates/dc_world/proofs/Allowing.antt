@@ -12,11 +12,13 @@ use Rattle.dc_guest.specs.Nexts.{called_by}
 use Rattle.dc_kernel.specs.Kernels.{Kernel}
 use Rattle.dc_model.specs.Guests.{Answer}
 use Rattle.dc_model.specs.Guests.Answer.{Plain, Clock, Random, InputNone, InputNext, InputEnd, ReceiveNone, ReceiveFrom}
-use Rattle.dc_proc.specs.Events.{HasNextRoom, IsSender}
+use Rattle.dc_proc.specs.Events.{HasCountsFor, HasNextRoom, IsSender}
 use Rattle.dc_world.proofs.Telling.{kind_called, told_at}
 use Rattle.dc_world.specs.Answers.{HasCallRoom, IsSentTo, kind_by}
-use Rattle.dc_world.specs.Taking.{HasNext, MayTurn}
+use Rattle.dc_proc.specs.declared.up.Up.{Up as Process}
+use Rattle.dc_world.specs.Taking.{MakesCall, MayTake, MayTurn}
 use Rattle.dc_world.specs.declared.slot.Slot.{Slot}
+use Rattle.dc_world.specs.declared.slot.Slot.TheVariants.{Down, Up}
 
 -- its next event has room where its call has
 room_next : (k : Kernel) (n : Next) → HasCallRoom k (called_by n) → HasNextRoom k n
@@ -34,7 +36,7 @@ room_next k (next.Call calls.BadArgument) room = tt
 room_next k (next.Call calls.Unknown) room = tt
 
 -- a message comes from another process
-sender_is : (k : Kernel) (n p : ℕ) → k.n ≡ n → k.p ≡ p → (a : Answer) → IsSentTo n p a → IsSender k a
+pub sender_is : (k : Kernel) (n p : ℕ) → k.n ≡ n → k.p ≡ p → (a : Answer) → IsSentTo n p a → IsSender k a
 sender_is k n p n_is p_is Plain sent = tt
 sender_is k n p n_is p_is (Clock v) sent = tt
 sender_is k n p n_is p_is (Random v) sent = tt
@@ -45,19 +47,19 @@ sender_is k n p n_is p_is ReceiveNone sent = tt
 sender_is k n p n_is p_is (ReceiveFrom s message) sent = (subst (λ m. s < m) (sym n_is) sent.0, λ e. sent.1 (e ∙ p_is))
 
 -- what holds of each memory that is told
-where_told : (P : List ℕ → Type 0) (memory : Option (List ℕ)) → ((words : List ℕ) → memory ≡ Some words → P words) → IfSome memory P
+pub where_told : (P : List ℕ → Type 0) (memory : Option (List ℕ)) → ((words : List ℕ) → memory ≡ Some words → P words) → IfSome memory P
 where_told P None says = tt
 where_told P (Some words) says = says words refl
 
 -- so it may take it
-pub may_turn : {C D : Type 0} (g : checkpoint.Ghosts C D) (turns : ℕ) (c : C) (dev : D) (slot : Option Slot) (call : Option Call) (a : Answer) (n p : ℕ) (goes : HasNext g turns c dev slot call) → 0 < turns → goes.up.kernel.n ≡ n → goes.up.kernel.p ≡ p
+pub may_turn : {C D : Type 0} (g : checkpoint.Ghosts C D) (turns : ℕ) (c : C) (dev : D) (slot : Option Slot) (call : Option Call) (a : Answer) (n p : ℕ) (goes : MakesCall g c dev slot call) → HasCountsFor turns goes.up.kernel → 0 < turns → goes.up.kernel.n ≡ n → goes.up.kernel.p ≡ p
     → may_answer a (kind_by call) ≡ true → (call ≡ None → a ≡ Plain) → IsSentTo n p a → MayTurn g c dev a goes.up
-may_turn g turns c dev slot call a n p goes some n_is p_is kind plain sent =
+may_turn g turns c dev slot call a n p goes counts some n_is p_is kind plain sent =
     let u = goes.up in
-    let position = goes.counts.position in
-    let visible = goes.counts.visible in
-    let place = goes.counts.place in
-    let commit = goes.counts.commit in
+    let position = counts.position in
+    let visible = counts.visible in
+    let place = counts.place in
+    let commit = counts.commit in
     let called : (words : List ℕ) → g.contents c dev ≡ Some words → call ≡ called_by (next_of (over u.guest words)) = λ words told. told_at (λ ws. call ≡ called_by (next_of (over u.guest ws))) (g.contents c dev) words told goes.found in record {
       fit = goes.fit;
       runs = goes.runs;
@@ -69,8 +71,19 @@ may_turn g turns c dev slot call a n p goes some n_is p_is kind plain sent =
         position = omega (arith, some, position);
         visible = omega (arith, some, visible);
         place = omega (arith, some, place);
-        received = λ s less. let one = goes.counts.received s less in omega (arith, some, one);
-        sent = λ q less. let one = goes.counts.sent q less in omega (arith, some, one);
+        received = λ s less. let one = counts.received s less in omega (arith, some, one);
+        sent = λ q less. let one = counts.sent q less in omega (arith, some, one);
       };
       number = omega (arith, some, commit);
     }
+
+-- the process at a place, which may take its next event
+pub record MayAt {C D : Type 0} (g : checkpoint.Ghosts C D) (c : C) (dev : D) (a : Answer) (slot : Option Slot) : Type 0 where
+  pub up : Process
+  pub there : slot ≡ Some (Up up)
+  pub may : MayTurn g c dev a up
+
+pub may_there : {C D : Type 0} (g : checkpoint.Ghosts C D) (c : C) (dev : D) (a : Answer) (slot : Option Slot) → MayTake g c dev a slot → MayAt g c dev a slot
+may_there g c dev a None is = absurd is
+may_there g c dev a (Some (Up u)) is = record { up = u; there = refl; may = is }
+may_there g c dev a (Some (Down d)) is = absurd is

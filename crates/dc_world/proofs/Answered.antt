@@ -1,5 +1,5 @@
 -- A turn of a process that is up is one of the theory, wherever the run had come to.
-use Rattle.std.proofs.Common.{◌≡◌, ◌∙◌, ◌++◌, ◌<◌, ◌≤◌, ◌-◌, ◌*◌, ◌^◌, ℕ, List, [], true, false, Option, None, Some, IfSome, IsSome, refl, sym, ap, subst, arith, length, slice_get, unwrap_or}
+use Rattle.std.proofs.Common.{◌≡◌, ◌≢◌, ◌∙◌, ◌++◌, ◌<◌, ◌≤◌, ◌-◌, ◌*◌, ◌^◌, ℕ, List, [], true, false, Option, None, Some, IfSome, IsSome, refl, sym, ap, subst, arith, length, slice_get, unwrap_or}
 use Rattle.dc_calls.specs.declared.call.Call.{Call}
 use Rattle.dc_checkpoint.specs.declared.checkpoint.Checkpoint as checkpoint
 use Rattle.dc_elf.specs.Images.{Image}
@@ -24,15 +24,16 @@ use Rattle.dc_proc.specs.declared.shown.Shown.{Shown}
 use Rattle.dc_proc.specs.declared.up.Up.{Up as Process}
 use Rattle.dc_protocols.specs.Rules.{at_inputs, is_global}
 use Rattle.dc_recovery.proofs.Given.{IsGiven}
-use Rattle.dc_recovery.specs.Answers.{answer}
+use Rattle.dc_recovery.specs.Answers.{answer, rule_at}
 use Rattle.dc_recovery.specs.Core.{Core}
 use Rattle.dc_recovery.specs.Invariant.{Holds}
+use Rattle.dc_recovery.specs.Parts.{Place, may_stop}
 use Rattle.dc_recovery.specs.Parts.Place.{Nowhere}
 use Rattle.dc_recovery.specs.Systems.{System}
 use Rattle.dc_recovery.specs.Turned.{after_turn}
 use Rattle.dc_world.proofs.Beside.{some_there}
 use Rattle.dc_world.proofs.Replying.{answer_is, given_is}
-use Rattle.dc_world.proofs.Running.{turned_ended, turned_full, turned_stopped, turned_whole}
+use Rattle.dc_world.proofs.Running.{turned_at, turned_ended, turned_full, turned_stopped, turned_whole}
 use Rattle.dc_world.proofs.Standing.{at_now}
 use Rattle.dc_world.proofs.Telling.{lines_kept, shown_is, told_at}
 use Rattle.dc_world.specs.Answers.{HasCallRoom, IsTold as IsLogged, drawn_for, kind_by}
@@ -54,7 +55,8 @@ world_later g S c old new same less world = subst (IsWorld g S c) (sym same) (re
   acts_are = world.acts_are;
   exposed_are = world.exposed_are;
   lines_are = world.lines_are;
-  numbered = λ p inside. numbered_more (2 ^ 32 - 1 - 2 * old.left) (2 ^ 32 - 1 - 2 * new.left) (leaves_of g old p 0) (omega (arith, less)) (world.numbered p inside);
+  numbered = λ alone p inside. numbered_more (2 ^ 32 - 1 - 2 * old.left) (2 ^ 32 - 1 - 2 * new.left) (leaves_of g old p 0) (omega (arith, less)) (world.numbered alone p inside);
+  decided = λ is. let was = world.decided is in record { steady = was.steady; saved = was.saved; held = was.held; few = λ d p counts inside off. let most = was.few d p counts inside off in omega (arith, most, less) };
 })
 
 -- two that hold the same, but for what entries are left
@@ -79,7 +81,7 @@ next_told u None = (None, tt)
 next_told u (Some words) = (called_by (next_of (over u.guest words)), refl)
 
 module _ {C D : Type 0} (g : checkpoint.Ghosts C D) (told_contents : (c : C) (dev : D) → g.ready c dev → g.told dev (g.place c) → IsSome (g.contents c dev)) (images : List Image) (schedule : List Entry) (core : Core)
-    (old new : Stage C D) (alone : is_global old.protocol ≡ false) (told_old : IsTold g old) (now : Holds (system images old.inputs old.protocol) schedule old.entries core) (world : IsWorld g (system images old.inputs old.protocol) core old)
+    (old new : Stage C D) (told_old : IsTold g old) (now : Holds (system images old.inputs old.protocol) schedule old.entries core) (world : IsWorld g (system images old.inputs old.protocol) core old)
     (turn : Turn) (there : turn.p < length old.slots) (c0 : C) (at0 : store_of old turn.p ≡ Some c0) (place0 : g.place c0 ≡ turn.p) (u0 : Process) (slot0 : slot_at old.slots turn.p ≡ Some (Up u0)) (fit : IsFit g u0 c0 old.dev) where
   abbrev S : System Guest
   S = system images old.inputs old.protocol
@@ -112,7 +114,7 @@ module _ {C D : Type 0} (g : checkpoint.Ghosts C D) (told_contents : (c : C) (de
     answered_ended : u0.guest.ended ≡ true → new ≡ record old { entries = new.entries; left = new.left } → new.left ≤ old.left → IsTurned g images core old new (entry.Turn turn) (marked (mark.Idle Ended) None)
     answered_ended ended same less = record {
       after = core;
-      turned = (inside, turned_ended g images old.inputs old.protocol alone schedule old.entries core now old world turn inside c0 at0 u0 slot0 fit.whole words told call called ended);
+      turned = (inside, turned_ended g images old.inputs old.protocol schedule old.entries core now old world turn inside c0 at0 u0 slot0 fit.whole words told call called ended);
       lines_are = refl;
       stands = idle same less;
     }
@@ -121,7 +123,7 @@ module _ {C D : Type 0} (g : checkpoint.Ghosts C D) (told_contents : (c : C) (de
       answered_full : (HasCallRoom u0.kernel call → ⊥) → new ≡ record old { entries = new.entries; left = new.left } → new.left ≤ old.left → IsTurned g images core old new (entry.Turn turn) (marked (mark.Idle LinkFull) None)
       answered_full full same less = record {
         after = core;
-        turned = (inside, turned_full g images old.inputs old.protocol alone schedule old.entries core now old world turn inside c0 at0 u0 slot0 fit.whole words told call called runs full);
+        turned = (inside, turned_full g images old.inputs old.protocol schedule old.entries core now old world turn inside c0 at0 u0 slot0 fit.whole words told call called runs full);
         lines_are = refl;
         stands = idle same less;
       }
@@ -130,33 +132,49 @@ module _ {C D : Type 0} (g : checkpoint.Ghosts C D) (told_contents : (c : C) (de
           (says : (rec : LogRecord) → slice_get (held u0).unread 0 ≡ Some rec → IsLogged (length old.slots) turn.p call rec → a ≡ answer_logged rec)
           (draws : (held u0).unread ≡ [] → a ≡ drawn_for old.slots ins u0.kernel turn call) (asks : at_inputs (kind_by call) ≡ false → a ≡ drawn_for old.slots ins u0.kernel turn call) where
         a_is : a ≡ answer S.guests core turn.p turn.word turn.clock
-        a_is = answer_is g images old.inputs old.protocol alone schedule old.entries core now old world turn inside c0 at0 u0 slot0 fit.whole words told call called runs ins ins_are a says draws asks
+        a_is = answer_is g images old.inputs old.protocol schedule old.entries core now old world turn inside c0 at0 u0 slot0 fit.whole words told call called runs ins ins_are a says draws asks
 
-        given : IsGiven S.guests core turn.p a
-        given = subst (IsGiven S.guests core turn.p) (sym a_is) (given_is g images old.inputs old.protocol alone schedule old.entries core now old world turn inside c0 at0 u0 slot0 fit.whole words told call called runs)
+        pub given : IsGiven S.guests core turn.p a
+        given = subst (IsGiven S.guests core turn.p) (sym a_is) (given_is g images old.inputs old.protocol schedule old.entries core now old world turn inside c0 at0 u0 slot0 fit.whole words told call called runs)
 
-        -- it went whole
-        pub answered_whole : (shown : Option Shown) → IfSome (g.contents c0 old.dev) (λ ws. shown ≡ shown_of (effect_of (event_of (next_of (over u0.guest ws)) (machine_over u0.guest ws))) u0.kernel.visible)
-            → (c1 : C) → store_of new turn.p ≡ Some c1 → g.ready c1 new.dev → g.told new.dev (g.place c1) → Went g old new turn.p a → IsTurned g images core old new (entry.Turn turn) (marked (taken_mark shown) (visible_shown turn.p shown))
-        answered_whole shown shows c1 at1 ready1 told1 went =
+        -- it went whole, and the world stands for the core after it
+        pub answered_as : (shown : Option Shown) → IfSome (g.contents c0 old.dev) (λ ws. shown ≡ shown_of (effect_of (event_of (next_of (over u0.guest ws)) (machine_over u0.guest ws))) u0.kernel.visible)
+            → IsWorld g S (after_turn S old.entries core turn.p a Nowhere) new → IsTurned g images core old new (entry.Turn turn) (marked (taken_mark shown) (visible_shown turn.p shown))
+        answered_as shown shows stands =
             let showed = told_at (λ ws. shown ≡ shown_of (effect_of (event_of (next_of (over u0.guest ws)) (machine_over u0.guest ws))) u0.kernel.visible) (g.contents c0 old.dev) words told shows in
-            let later = some_there (g.contents c1 new.dev) (told_contents c1 new.dev ready1 told1) in
-            let here = at_now g S alone schedule old.entries core now old world turn.p c0 at0 u0 slot0 inside words told in record {
+            let here = at_now g S schedule old.entries core now old world turn.p c0 at0 u0 slot0 inside words told in record {
               after = after_turn S old.entries core turn.p a Nowhere;
-              turned = (inside, turned_whole g images old.inputs old.protocol alone schedule old.entries core now old world turn inside c0 at0 u0 slot0 fit.whole words told call called runs room a a_is shown showed);
+              turned = (inside, turned_whole g images old.inputs old.protocol schedule old.entries core now old world turn inside c0 at0 u0 slot0 fit.whole words told call called runs room a a_is shown showed);
               lines_are = ap (λ xs. xs ++ core.lines) (shown_is images old.inputs old.protocol turn.p (own turn.p core.acts) (core.procs turn.p) words u0 fit.whole here runs a call shown called showed);
-              stands = went images schedule core words later.0 alone memory_old (ap (λ o. memory_of g o new.dev) at1 ∙ later.1) now world inside given;
+              stands = stands;
             }
 
-        -- it was stopped in one of its places
-        pub answered_stopped : Fell g old new turn.p a → IsTurned g images core old new (entry.Turn turn) (marked mark.Stopped None)
-        answered_stopped fell =
-            let x = fell images schedule core words alone memory_old now world inside given in record {
-              after = after_turn S old.entries core turn.p a x.0;
-              turned = (inside, turned_stopped g images old.inputs old.protocol alone schedule old.entries core now old world turn inside c0 at0 u0 slot0 fit.whole words told call called runs room a a_is x.0 x.1 x.2);
-              lines_are = lines_kept x.0 x.1 _ core.lines;
-              stands = x.3;
-            }
+        -- it was stopped there, and the world stands for the core that a stop there leaves
+        pub stopped_as : (w : Place) → w ≢ Nowhere → ((ws : List ℕ) → g.contents c0 old.dev ≡ Some ws → may_stop (rule_at S core turn.p a) (event_of (next_of (over u0.guest ws)) (machine_over u0.guest ws)) a w ≡ true)
+            → IsWorld g S (after_turn S old.entries core turn.p a w) new → IsTurned g images core old new (entry.Turn turn) (marked mark.Stopped None)
+        stopped_as w ne may stands = record {
+          after = after_turn S old.entries core turn.p a w;
+          turned = (inside, turned_at g images old.inputs old.protocol schedule old.entries core now old world turn inside c0 at0 u0 slot0 fit.whole words told call called runs room a a_is w ne (may words told));
+          lines_are = lines_kept w ne _ core.lines;
+          stands = stands;
+        }
+
+        -- where each commits by itself
+        module _ (alone : is_global old.protocol ≡ false) where
+          pub answered_whole : (shown : Option Shown) → IfSome (g.contents c0 old.dev) (λ ws. shown ≡ shown_of (effect_of (event_of (next_of (over u0.guest ws)) (machine_over u0.guest ws))) u0.kernel.visible)
+              → (c1 : C) → store_of new turn.p ≡ Some c1 → g.ready c1 new.dev → g.told new.dev (g.place c1) → Went g old new turn.p a → IsTurned g images core old new (entry.Turn turn) (marked (taken_mark shown) (visible_shown turn.p shown))
+          answered_whole shown shows c1 at1 ready1 told1 went =
+              let later = some_there (g.contents c1 new.dev) (told_contents c1 new.dev ready1 told1) in
+              answered_as shown shows (went images schedule core words later.0 alone memory_old (ap (λ o. memory_of g o new.dev) at1 ∙ later.1) now world inside given)
+
+          pub answered_stopped : Fell g old new turn.p a → IsTurned g images core old new (entry.Turn turn) (marked mark.Stopped None)
+          answered_stopped fell =
+              let x = fell images schedule core words alone memory_old now world inside given in record {
+                after = after_turn S old.entries core turn.p a x.0;
+                turned = (inside, turned_stopped g images old.inputs old.protocol schedule old.entries core now old world turn inside c0 at0 u0 slot0 fit.whole words told call called runs room a a_is alone x.0 x.1 x.2);
+                lines_are = lines_kept x.0 x.1 _ core.lines;
+                stands = x.3;
+              }
 
   -- it did nothing, and why
   pub answered_idle : (i : Idle) → IsIdle g c0 old.dev u0 i → new ≡ record old { entries = new.entries; left = new.left } → new.left ≤ old.left → IsTurned g images core old new (entry.Turn turn) (marked (mark.Idle i) None)

@@ -1,6 +1,7 @@
 -- A process at its beginning, with its store.
 use Rattle.std.proofs.Common.{◌≡◌, ◌∙◌, ◌*◌, ◌<◌, ◌≤◌, ℕ, List, [], false, Ok, Some, IfSome, ap, arith, length, refl, slice_index, subst, sym}
 use Rattle.std.proofs.lemmas.List.{get_or-replicate}
+use Rattle.dc_checkpoint.specs.Calls.{AreAll}
 use Rattle.dc_checkpoint.specs.States.{Reading, form_in, number_in, unlogged}
 use Rattle.dc_checkpoint.specs.declared.checkpoint.Checkpoint as checkpoint
 use Rattle.dc_elf.specs.declared.image.Image.{Image}
@@ -29,7 +30,7 @@ pub none_sent : (n p : ℕ) (image : Image) (q : ℕ) → q < n → link_to (fir
 none_sent n p image q less = get_or-replicate n q unused unused less
 
 -- counts have room for any turns of a run
-first_counts : (turns n p : ℕ) (image : Image) → turns ≤ 1000000 → HasCountsFor turns (first_kernel n p image)
+first_counts : (turns n p : ℕ) (image : Image) → turns ≤ 2000000 → HasCountsFor turns (first_kernel n p image)
 first_counts turns n p image few = record {
   position = omega (arith, few);
   visible = omega (arith, few);
@@ -46,7 +47,7 @@ module _ {C D : Type 0} (g : checkpoint.Ghosts C D) (protocol : Protocol) (n p :
     (others : (q : ℕ) → q < kernel.n → slice_index (held u).others q ≡ number_of_first (link_to kernel.links q)) (whole : IsWhole u)
     (of : (u.protocol ≡ protocol) × (u.size ≡ length image.memory.items)) (valid : IsKernel kernel.n kernel.p kernel)
     (same : (g.place c ≡ p) × (g.size c ≡ length words) × (g.form c ≡ form_in text)) (lent : g.lent c dev) (floor : g.floor c ≡ 0)
-    (stands : (d : ℕ) (r : Reading) → g.leaves c dev d r → r ≡ Ok (unlogged words text)) where
+    (stands : (d : ℕ) (r : Reading) → g.leaves c dev d r → r ≡ Ok (unlogged words text)) (decided : AreAll 0 (g.numbers c dev)) (steady : g.steady c dev) where
   abbrev k : Kernel
   k = first_kernel n p image
 
@@ -74,7 +75,7 @@ module _ {C D : Type 0} (g : checkpoint.Ghosts C D) (protocol : Protocol) (n p :
   others_none : (q : ℕ) → q < n → slice_index (held u).others q ≡ 0
   others_none q less = subst (λ (x : Kernel). (r : ℕ) → r < x.n → slice_index (held u).others r ≡ number_of_first (link_to x.links r)) first others q less ∙ ap number_of_first (none_sent n p image q less)
 
-  counts : (turns : ℕ) → turns ≤ 1000000 → HasCountsFor turns u.kernel
+  counts : (turns : ℕ) → turns ≤ 2000000 → HasCountsFor turns u.kernel
   counts turns few = counts_same turns (held u).kernel u.kernel
       (record { n_same = refl; position_same = refl; visible_same = refl; place_same = refl; received_same = refl; commit_same = refl; sent_same = λ q less. refl })
       (subst (HasCountsFor turns) (sym held_first) (first_counts turns n p image few))
@@ -102,6 +103,8 @@ module _ {C D : Type 0} (g : checkpoint.Ghosts C D) (protocol : Protocol) (n p :
     based = based_none;
     held = λ on. record { kernel_is = held_first; unread_is = fresh.0; own_is = fresh.1; left_is = fresh.2; others_are = others_none };
     memory = λ on. memory;
+    decided = decided;
+    steady = steady;
   }
 
   -- its making was stopped
@@ -121,4 +124,6 @@ module _ {C D : Type 0} (g : checkpoint.Ghosts C D) (protocol : Protocol) (n p :
     based = λ s less. ap (λ xs. slice_index xs s) based_same ∙ based_none s less;
     held = λ on. absurd cc;
     memory = λ on. absurd cc;
+    decided = λ e l. decided e (falls.numbers dev e l);
+    steady = falls.steady dev steady;
   }

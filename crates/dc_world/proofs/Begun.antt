@@ -23,12 +23,12 @@ slot_end : (slots : List (Option Slot)) (s : Option Slot) → slot_at (slots ++ 
 slot_end slots s = get_or-append_seam slots s [] None
 
 -- what was added, and what was there before
-get_front : {A : Type 0} (xs ys : List A) (i : ℕ) → i < length xs → slice_get (xs ++ ys) i ≡ slice_get xs i
+pub get_front : {A : Type 0} (xs ys : List A) (i : ℕ) → i < length xs → slice_get (xs ++ ys) i ≡ slice_get xs i
 get_front [] ys i within = absurd (omega (arith, within))
 get_front (x ∷ xs) ys zero within = refl
 get_front (x ∷ xs) ys (suc i) within = get_front xs ys i (omega (arith, within))
 
-get_end : {A : Type 0} (xs : List A) (x : A) → slice_get (xs ++ x ∷ []) (length xs) ≡ Some x
+pub get_end : {A : Type 0} (xs : List A) (x : A) → slice_get (xs ++ x ∷ []) (length xs) ≡ Some x
 get_end [] x = refl
 get_end (y ∷ xs) x = get_end xs x
 
@@ -56,6 +56,8 @@ module _ {C D : Type 0} (g : checkpoint.Ghosts C D) (laws : Laws g) (quiet : Qui
     based = is.based;
     held = is.held;
     memory = λ on. subst (λ (o : Option (List ℕ)). IfSome o (λ told. told ≡ is.words)) (sym (laws.contents_still c old new still)) (is.memory on);
+    decided = λ e l. is.decided e (laws.numbers_still c new old e (laws.untouched_back old new (g.place c) still) l);
+    steady = laws.steady_still c old new still is.steady;
   }
 
   -- a device that is as it was, before or after

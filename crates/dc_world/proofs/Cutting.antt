@@ -13,7 +13,7 @@ use Rattle.dc_recovery.specs.Saves.{cut}
 abbrev taken_of : Given → Taken
 taken_of x = record { t = x.t; p = x.p; act = act_of x.answer }
 
-abbrev count_given : ℕ → List Given → ℕ
+abbrev pub count_given : ℕ → List Given → ℕ
 count_given q acts = cuts.count_of (λ x. x.p) q acts
 
 reported_map : (acts : List Given) → reverse (reported acts) ≡ map taken_of acts
@@ -36,7 +36,7 @@ cut_map r (x ∷ acts) = ap (λ n. if nat_lt n (r x.p) then taken_of x ∷ cuts.
     by_bool rest true = ap (λ xs. taken_of x ∷ xs) rest
     by_bool rest false = rest
 
-own_count : (q : ℕ) (acts : List Given) → count_given q acts ≡ length (own q acts)
+pub own_count : (q : ℕ) (acts : List Given) → count_given q acts ≡ length (own q acts)
 own_count q [] = refl
 own_count q (x ∷ acts) = ap (λ n. if x.p == q then suc n else n) (own_count q acts) ∙ by_bool (x.p == q)
   where
@@ -54,7 +54,7 @@ agree_less r s x acts agree q = ⊎_elim (λ e. inl e) (λ h. inr (let a = h.0 i
     less : count_given q acts ≤ count_given q (x ∷ acts)
     less = ⊎_elim (λ (e : x.p ≡ q). rw (eq-eqb x.p q e) (omega arith)) (λ (ne : x.p ≢ q). rw (ne_eqb x.p q ne) (omega arith)) (cases_eq x.p q)
 
-cut_agree : (r s : ℕ → ℕ) (acts : List Given) → Agree r s acts → cut r acts ≡ cut s acts
+pub cut_agree : (r s : ℕ → ℕ) (acts : List Given) → Agree r s acts → cut r acts ≡ cut s acts
 cut_agree r s [] agree = refl
 cut_agree r s (x ∷ acts) agree = ap (λ b. if b then x ∷ cut r acts else cut r acts) same_test ∙ by_bool (cut_agree r s acts (agree_less r s x acts agree)) (nat_lt (count_given x.p acts) (s x.p))
   where

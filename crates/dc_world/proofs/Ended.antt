@@ -1,7 +1,6 @@
 -- What the code finds ended has ended in the theory.
-use Rattle.std.proofs.Common.{◌≡◌, ◌∙◌, ◌<◌, ◌&&◌, ℕ, zero, suc, Bool, true, false, List, [], ◌∷◌, Option, None, Some, if◌then◌else◌, ap, arith, inl, inr, length, refl, slice_index_or, subst, sym}
-use Rattle.std.specs.List.{list_all}
-use Rattle.std.proofs.lemmas.Bool.{and_parts, true≢false}
+use Rattle.std.proofs.Common.{◌≡◌, ◌∙◌, ◌<◌, ℕ, Bool, true, false, List, Option, None, Some, if◌then◌else◌, ap, inl, inr, length, refl, subst, sym}
+use Rattle.std.proofs.lemmas.Bool.{true≢false}
 use Rattle.dc_checkpoint.specs.declared.checkpoint.Checkpoint as checkpoint
 use Rattle.dc_elf.specs.Images.{Image}
 use Rattle.dc_guest.proofs.Coming.{live_coming, not_ended}
@@ -16,34 +15,12 @@ use Rattle.dc_proc.specs.declared.up.Up.{Up as Process}
 use Rattle.dc_protocols.specs.declared.protocol.Protocol.{Protocol}
 use Rattle.dc_recovery.specs.Core.{Core, stands}
 use Rattle.dc_recovery.specs.Systems.{System}
+use Rattle.dc_world.proofs.Slots.{all_at, one_left}
 use Rattle.dc_world.specs.Ended.{HasEnded, HaveEnded, IsLeft}
 use Rattle.dc_world.specs.Slots.{AreOf, has_ended, have_ended, held_in, is_up, slot_at}
 use Rattle.dc_world.specs.Stages.{IsWorld, Stage, memory_of, store_of, words_of}
 use Rattle.dc_world.specs.declared.slot.Slot.{Slot}
 use Rattle.dc_world.specs.declared.slot.Slot.TheVariants.{Up, Down}
-
--- where all have ended each has
-all_at : (slots : List (Option Slot)) (p : ℕ) → list_all has_ended slots ≡ true → p < length slots → has_ended (slice_index_or slots p None) ≡ true
-all_at [] p all less = absurd (omega (arith, less))
-all_at (slot ∷ slots) zero all less = (and_parts (has_ended slot) (list_all has_ended slots) all).0
-all_at (slot ∷ slots) (suc p) all less = all_at slots p (and_parts (has_ended slot) (list_all has_ended slots) all).1 (omega (arith, less))
-
--- else one has not
-pub record Left (slots : List (Option Slot)) : Type 0 where
-  pub p : ℕ
-  pub less : p < length slots
-  pub runs : has_ended (slice_index_or slots p None) ≡ false
-
-one_left : (slots : List (Option Slot)) → list_all has_ended slots ≡ false → Left slots
-one_left [] none = absurd (true≢false none)
-one_left (slot ∷ slots) some = by (λ rest. one_left slots rest) (has_ended slot) refl
-  where
-    -- this one, or a later one
-    by : (list_all has_ended slots ≡ false → Left slots) → (b : Bool) → has_ended slot ≡ b → Left (slot ∷ slots)
-    by later false is = record { p = 0; less = omega arith; runs = is }
-    by later true is =
-        let left : Left slots = later (sym (ap (λ b. b && list_all has_ended slots) is) ∙ some) in
-        record { p = suc left.p; less = (let less = left.less in omega (arith, less)); runs = left.runs }
 
 module _ {C D : Type 0} (g : checkpoint.Ghosts C D) (images : List Image) (inputs : List (List (List ℕ))) (pr : Protocol) (c : Core) (x : Stage C D) (world : IsWorld g (system images inputs pr) c x)
     (each : AreOf pr x.slots (length x.slots)) where
@@ -96,8 +73,8 @@ module _ {C D : Type 0} (g : checkpoint.Ghosts C D) (images : List Image) (input
 
   -- all of them
   pub tells_end : (b : Bool) → have_ended x.slots ≡ b → HaveEnded b S.guests c
-  tells_end true all = λ p inside. ended_at p inside (slot_at x.slots p) refl (all_at x.slots p all (subst (λ n. p < n) world.count_is inside))
+  tells_end true all = λ p inside. ended_at p inside (slot_at x.slots p) refl (all_at has_ended x.slots p all (subst (λ n. p < n) world.count_is inside))
   tells_end false some =
-      let left = one_left x.slots some in
+      let left = one_left has_ended x.slots some in
       let inside : left.p < S.guests.count = subst (λ n. left.p < n) (sym world.count_is) left.less in
-      (left.p, inside, left_at left.p inside (slot_at x.slots left.p) refl left.runs)
+      (left.p, inside, left_at left.p inside (slot_at x.slots left.p) refl left.fails)

@@ -74,8 +74,9 @@ module _ {C D : Type 0} (g : checkpoint.Ghosts C D) (S : System Guest) (alone : 
     acts_are = world.acts_are ∙ sym acts;
     exposed_are = λ q less. ap (λ xs. slice_index xs q) exposed ∙ world.exposed_are q less;
     lines_are = world.lines_are ∙ sym lines;
-    numbered = λ q less. numbered_more (2 ^ 32 - 1 - 2 * old.left) (2 ^ 32 - 1 - 2 * new.left) (leaves_of g new q 0) (omega (arith, left))
-        (numbered_less (2 ^ 32 - 1 - 2 * old.left) (leaves_of g old q 0) (leaves_of g new q 0) (narrow q) (world.numbered q less));
+    numbered = λ _ q less. numbered_more (2 ^ 32 - 1 - 2 * old.left) (2 ^ 32 - 1 - 2 * new.left) (leaves_of g new q 0) (omega (arith, left))
+        (numbered_less (2 ^ 32 - 1 - 2 * old.left) (leaves_of g old q 0) (leaves_of g new q 0) (narrow q) (world.numbered alone q less));
+    decided = λ is. absurd (true≢false (sym is ∙ alone));
   }
 
 -- all of them
@@ -95,8 +96,9 @@ module _ {C D : Type 0} (g : checkpoint.Ghosts C D) (S : System Guest) (alone : 
     acts_are = world.acts_are ∙ sym acts;
     exposed_are = λ q less. ap (λ xs. slice_index xs q) exposed ∙ world.exposed_are q less;
     lines_are = world.lines_are ∙ sym lines;
-    numbered = λ q less. numbered_more (2 ^ 32 - 1 - 2 * old.left) (2 ^ 32 - 1 - 2 * new.left) (leaves_of g new q 0) (omega (arith, left))
-        (numbered_less (2 ^ 32 - 1 - 2 * old.left) (leaves_of g old q 0) (leaves_of g new q 0) (narrow q) (world.numbered q less));
+    numbered = λ _ q less. numbered_more (2 ^ 32 - 1 - 2 * old.left) (2 ^ 32 - 1 - 2 * new.left) (leaves_of g new q 0) (omega (arith, left))
+        (numbered_less (2 ^ 32 - 1 - 2 * old.left) (leaves_of g old q 0) (leaves_of g new q 0) (narrow q) (world.numbered alone q less));
+    decided = λ is. absurd (true≢false (sym is ∙ alone));
   }
 
 -- one that was down stays down
@@ -138,6 +140,7 @@ module _ {C D : Type 0} (g : checkpoint.Ghosts C D) (S : System Guest) (alone : 
     acts_are = world.acts_are ∙ sym acts;
     exposed_are = λ q less. ap (λ xs. slice_index xs q) exposed ∙ world.exposed_are q less;
     lines_are = world.lines_are ∙ sym lines;
-    numbered = λ q less. numbered_more (2 ^ 32 - 1 - 2 * old.left) (2 ^ 32 - 1 - 2 * new.left) (leaves_of g new q 0) (omega (arith, left))
-        (numbered_less (2 ^ 32 - 1 - 2 * old.left) (leaves_of g old q 0) (leaves_of g new q 0) (narrow q) (world.numbered q less));
+    numbered = λ _ q less. numbered_more (2 ^ 32 - 1 - 2 * old.left) (2 ^ 32 - 1 - 2 * new.left) (leaves_of g new q 0) (omega (arith, left))
+        (numbered_less (2 ^ 32 - 1 - 2 * old.left) (leaves_of g old q 0) (leaves_of g new q 0) (narrow q) (world.numbered alone q less));
+    decided = λ is. absurd (true≢false (sym is ∙ alone));
   }

@@ -1,5 +1,5 @@
 -- A turn that went whole leads the world to the next core.
-use Rattle.std.proofs.Common.{◌≡◌, ◌≢◌, ◌⊎◌, ◌∙◌, ◌+◌, ◌-◌, ◌*◌, ◌^◌, ◌<◌, ◌≤◌, ◌&&◌, ℕ, List, Bool, true, false, Option, None, Some, if◌then◌else◌, nat_lt, refl, sym, ap, subst, arith, inl, inr, length, set, slice_get, slice_index, slice_set, ⊎_elim}
+use Rattle.std.proofs.Common.{◌≡◌, ◌≢◌, ◌⊎◌, ◌∙◌, ◌+◌, ◌-◌, ◌*◌, ◌^◌, ◌<◌, ◌≤◌, ◌&&◌, ℕ, List, Bool, true, false, Option, None, Some, if◌then◌else◌, nat_lt, sym, ap, subst, arith, inl, inr, length, set, slice_get, slice_index, slice_set, ⊎_elim}
 use Rattle.std.proofs.lemmas.Bool.{cases_eq}
 use Rattle.std.proofs.lemmas.Option.{slice_get_within}
 use Rattle.std.proofs.lemmas.List.{get_or-set_other, get_or-set_same, length-set}
@@ -36,7 +36,7 @@ use Rattle.dc_twophase.proofs.Pairs.{at_same, known}
 use Rattle.dc_world.proofs.Acts.{acts_turned, own_counted}
 use Rattle.dc_world.proofs.After.{Hears, Knows, world_after}
 use Rattle.dc_world.proofs.Beside.{leaves_self, leaves_stay, memory_stays}
-use Rattle.dc_world.proofs.Exposing.{last_after}
+use Rattle.dc_world.proofs.Noting.{noted, set_beside}
 use Rattle.dc_world.proofs.Standing.{alone_given, at_now, going_now, is_on, over_now}
 use Rattle.dc_world.proofs.Whole.{world_is}
 use Rattle.dc_world.specs.Processes.{Learns}
@@ -73,7 +73,7 @@ module _ {C D : Type 0} (g : checkpoint.Ghosts C D) (laws : Laws g) (images : Li
   sound = sound_system S.guests pr 8 64 (omega arith)
 
   on : (c.procs p).up ≡ true
-  on = is_on g S alone schedule t c now old world p c0 at0 u0 slot0 inside words told0
+  on = is_on g S schedule t c now old world p c0 at0 u0 slot0 inside words told0
 
   p_there : p < length old.slots
   p_there = subst (λ m. p < m) world.count_is inside
@@ -86,8 +86,8 @@ module _ {C D : Type 0} (g : checkpoint.Ghosts C D) (laws : Laws g) (images : Li
 
   module _ (floor0 : g.floor c0 ≤ 0) (goes : TakesTurn g pr a (process c0 old.dev (held u0)) (process c1 new.dev (held u1))) where
     over_next : IsIn g S p answers st 0 (process c1 new.dev (held u1))
-    over_next = goes images inputs p (own p c.acts) (c.procs p) 0 words floor0 told0 (over_now g S alone schedule t c now old world p c0 at0 u0 slot0 inside words told0)
-        (alone_given g S alone schedule t c now old world p c0 at0 u0 slot0 inside words told0 a given)
+    over_next = goes images inputs p (own p c.acts) (c.procs p) 0 words floor0 told0 (over_now g S schedule t c now old world p c0 at0 u0 slot0 inside words told0 alone)
+        (alone_given g S schedule t c now old world p c0 at0 u0 slot0 inside words told0 a given)
 
     at_next : IsAt S p answers st words1 (held u1)
     at_next = subst (λ o. IsProcess S p answers st o (held u1)) told1 over_next.process
@@ -153,10 +153,10 @@ module _ {C D : Type 0} (g : checkpoint.Ghosts C D) (laws : Laws g) (images : Li
           (exposed_are : new.exposed ≡ (if ex && nat_lt (acts_of p old.acts) (acts_of p new.acts) then slice_set old.exposed p (acts_of p new.acts) else old.exposed))
           (lines_are : new.lines ≡ length d.lines) (left_is : new.left + 1 ≡ old.left) (numbers_are : IsNumbered (2 ^ 32 - 1 - 2 * new.left) (g.leaves c1 new.dev 0)) where
         within : (c.procs p).position ≤ length (own p c.acts)
-        within = (going_now g S alone schedule t c now old world p c0 at0 u0 slot0 inside words told0).within
+        within = (going_now g S schedule t c now old world p c0 at0 u0 slot0 inside words told0).within
 
         was : IsAt S p (own p c.acts) (c.procs p) words (held u0)
-        was = at_now g S alone schedule t c now old world p c0 at0 u0 slot0 inside words told0
+        was = at_now g S schedule t c now old world p c0 at0 u0 slot0 inside words told0
 
         acts_next : new.acts ≡ reported d.acts
         acts_next = acts_are ∙ sym (acts_turned t c p a old.acts u0.kernel was.kernel_is.position was.kernel_is.p_is world.acts_are within)
@@ -168,28 +168,18 @@ module _ {C D : Type 0} (g : checkpoint.Ghosts C D) (laws : Laws g) (images : Li
         counted_new = ap (acts_of p) acts_next ∙ own_counted p d.acts ∙ ap (λ xs. length xs) (acts_alone S t c p a Nowhere)
 
         exposed_self : slice_index new.exposed p ≡ last_at S.exposes S.guests p (own p d.acts)
-        exposed_self = ap (λ xs. slice_index xs p) exposed_are ∙ by_bool (ex && nat_lt (acts_of p old.acts) (acts_of p new.acts))
-            ∙ ap (λ n. if ex && nat_lt n (acts_of p new.acts) then acts_of p new.acts else last_at S.exposes S.guests p (own p c.acts)) counted_old
-            ∙ ap (λ n. if ex && nat_lt (length (own p c.acts)) n then n else last_at S.exposes S.guests p (own p c.acts)) counted_new
-            ∙ sym (last_after S p (own p c.acts) (c.procs p) a ex within ex_is) ∙ ap (last_at S.exposes S.guests p) (sym (acts_alone S t c p a Nowhere))
-          where
-            by_bool : (b : Bool) → slice_index (if b then slice_set old.exposed p (acts_of p new.acts) else old.exposed) p ≡ (if b then acts_of p new.acts else last_at S.exposes S.guests p (own p c.acts))
-            by_bool true = get_or-set_same old.exposed p (acts_of p new.acts) 0 (subst (λ m. p < m) (sym exposed_long) p_there)
-            by_bool false = world.exposed_are p inside
+        exposed_self = noted S p (own p c.acts) (c.procs p) a old.exposed new.exposed (acts_of p old.acts) (acts_of p new.acts) ex (subst (λ m. p < m) (sym exposed_long) p_there) (world.exposed_are p inside) within counted_old counted_new ex_is exposed_are
+            ∙ ap (last_at S.exposes S.guests p) (sym (acts_alone S t c p a Nowhere))
 
         exposed_other : (q : ℕ) → q < S.guests.count → p ≢ q → slice_index new.exposed q ≡ slice_index old.exposed q
-        exposed_other q less ne = ap (λ xs. slice_index xs q) exposed_are ∙ by_bool (ex && nat_lt (acts_of p old.acts) (acts_of p new.acts))
-          where
-            by_bool : (b : Bool) → slice_index (if b then slice_set old.exposed p (acts_of p new.acts) else old.exposed) q ≡ slice_index old.exposed q
-            by_bool true = get_or-set_other old.exposed p q (acts_of p new.acts) 0 (λ e. ne (sym e))
-            by_bool false = refl
+        exposed_other q less ne = ap (λ xs. slice_index xs q) exposed_are ∙ set_beside (ex && nat_lt (acts_of p old.acts) (acts_of p new.acts)) old.exposed p q (acts_of p new.acts) ne
 
         numbered_next : (q : ℕ) → q < S.guests.count → IsNumbered (2 ^ 32 - 1 - 2 * new.left) (leaves_of g new q 0)
         numbered_next q less = ⊎_elim
             (λ (same : p ≡ q). subst (λ r. IsNumbered (2 ^ 32 - 1 - 2 * new.left) (leaves_of g new r 0)) same
             (numbered_less (2 ^ 32 - 1 - 2 * new.left) (g.leaves c1 new.dev 0) (leaves_of g new p 0) (λ r l. leaves_self g laws old new p c0 c1 stores_are place_own at0 others 0 r l) numbers_are))
             (λ (ne : p ≢ q). numbered_more (2 ^ 32 - 1 - 2 * old.left) (2 ^ 32 - 1 - 2 * new.left) (leaves_of g new q 0) (omega (arith, left_is))
-            (numbered_less (2 ^ 32 - 1 - 2 * old.left) (leaves_of g old q 0) (leaves_of g new q 0) (λ r l. leaves_stay g laws old new p c0 c1 stores_are place_own at0 others q ne 0 r l) (world.numbered q less)))
+            (numbered_less (2 ^ 32 - 1 - 2 * old.left) (leaves_of g old q 0) (leaves_of g new q 0) (λ r l. leaves_stay g laws old new p c0 c1 stores_are place_own at0 others q ne 0 r l) (world.numbered alone q less)))
             (cases_eq p q)
 
         -- the world stands for the core after the turn

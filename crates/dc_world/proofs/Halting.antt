@@ -65,7 +65,7 @@ module _ {C D : Type 0} (g : checkpoint.Ghosts C D) (laws : Laws g) (images : Li
   sound = sound_system S.guests pr 8 64 (omega arith)
 
   on : (c.procs p).up ≡ true
-  on = is_on g S alone schedule t c now old world p c0 at0 u0 slot0 inside words told0
+  on = is_on g S schedule t c now old world p c0 at0 u0 slot0 inside words told0
 
   abbrev st : Status
   st = status_alone S p (own p c.acts) (c.procs p) a w
@@ -98,10 +98,10 @@ module _ {C D : Type 0} (g : checkpoint.Ghosts C D) (laws : Laws g) (images : Li
       acts_next = is.written ∙ by_act (has_act w)
         where
           was : IsAt S p (own p c.acts) (c.procs p) words (held u0)
-          was = at_now g S alone schedule t c now old world p c0 at0 u0 slot0 inside words told0
+          was = at_now g S schedule t c now old world p c0 at0 u0 slot0 inside words told0
 
           by_act : (b : Bool) → (if b then acts_with old.acts u0.kernel t a else old.acts) ≡ reported (if b then with_act t c p a else c.acts)
-          by_act true = sym (acts_turned t c p a old.acts u0.kernel was.kernel_is.position was.kernel_is.p_is world.acts_are (going_now g S alone schedule t c now old world p c0 at0 u0 slot0 inside words told0).within)
+          by_act true = sym (acts_turned t c p a old.acts u0.kernel was.kernel_is.position was.kernel_is.p_is world.acts_are (going_now g S schedule t c now old world p c0 at0 u0 slot0 inside words told0).within)
           by_act false = sym world.acts_are
 
       numbered_next : (q : ℕ) → q < S.guests.count → IsNumbered (2 ^ 32 - 1 - 2 * new.left) (leaves_of g new q 0)
@@ -109,7 +109,7 @@ module _ {C D : Type 0} (g : checkpoint.Ghosts C D) (laws : Laws g) (images : Li
           (λ (same : p ≡ q). subst (λ r. IsNumbered (2 ^ 32 - 1 - 2 * new.left) (leaves_of g new r 0)) same
           (numbered_less (2 ^ 32 - 1 - 2 * new.left) (g.leaves c1 new.dev 0) (leaves_of g new p 0) (λ r l. leaves_self g laws old new p c0 c1 stores_are place_own at0 others 0 r l) numbers_are))
           (λ (ne : p ≢ q). numbered_more (2 ^ 32 - 1 - 2 * old.left) (2 ^ 32 - 1 - 2 * new.left) (leaves_of g new q 0) (omega (arith, left_is))
-          (numbered_less (2 ^ 32 - 1 - 2 * old.left) (leaves_of g old q 0) (leaves_of g new q 0) (λ r l. leaves_stay g laws old new p c0 c1 stores_are place_own at0 others q ne 0 r l) (world.numbered q less)))
+          (numbered_less (2 ^ 32 - 1 - 2 * old.left) (leaves_of g old q 0) (leaves_of g new q 0) (λ r l. leaves_stay g laws old new p c0 c1 stores_are place_own at0 others q ne 0 r l) (world.numbered alone q less)))
           (cases_eq p q)
 
       -- the world stands for the core after the stop

@@ -60,6 +60,18 @@ counts_held u turns is = counts_same turns (held u).kernel u.kernel (record {
 }) is
 
 -- who learns keeps its counts
+-- and back
+pub counts_up : (u : Process) (turns : ℕ) → HasCountsFor turns u.kernel → HasCountsFor turns (held u).kernel
+counts_up u turns is = counts_same turns u.kernel (held u).kernel (record {
+  n_same = refl;
+  position_same = refl;
+  visible_same = refl;
+  place_same = refl;
+  received_same = refl;
+  commit_same = refl;
+  sent_same = λ q less. refl;
+}) is
+
 pub learned_counts : (q upto : ℕ) (h : Held) → q < length h.kernel.links → IsCountedAs h.kernel (learned_held q upto h).kernel
 learned_counts q upto h inside = record {
   n_same = refl;

@@ -1,5 +1,5 @@
 -- What a turn that was taken tells, by what it showed.
-use Rattle.std.proofs.Common.{◌≡◌, ℕ, Option, None, Some, IfSome, IfOk, OnOk, Result, Ok, Err, refl}
+use Rattle.std.proofs.Common.{◌≡◌, ◌⊎◌, ℕ, Option, None, Some, IfSome, IfOk, OnErr, OnOk, Result, Ok, Err, inl, inr, refl}
 use Rattle.dc_model.specs.declared.mark.Mark.TheVariants as mark
 use Rattle.dc_proc.specs.declared.shown.Shown.{Shown}
 use Rattle.dc_world.specs.Turns.{taken_mark, visible_shown}
@@ -18,3 +18,8 @@ taken_shows (Some shown) p = refl
 pub if_ok_three : {T E : Type 0} (A B : Type 0) (P R : T → Type 0) (r : Result T E) → OnOk r A → OnOk r B → IfOk r P → ((x : T) → A → B → P x → R x) → IfOk r R
 if_ok_three A B P R (Ok x) a b p says = says x a b p
 if_ok_three A B P R (Err e) a b p says = tt
+
+-- what holds where it was done, or where it was refused
+pub either_way : {T E P Q : Type 0} (r : Result T E) → OnOk r P → OnErr r Q → P ⊎ Q
+either_way (Ok x) p q = inl p
+either_way (Err e) p q = inr q

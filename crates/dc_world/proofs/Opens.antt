@@ -1,33 +1,43 @@
 -- A world that was opened: it is ready, and where its devices are told it stands for the opened core.
-use Rattle.std.proofs.Common.{◌≡◌, ◌∙◌, ◌-◌, ◌*◌, ◌^◌, ◌<◌, ◌≤◌, ℕ, List, [], Bool, Option, None, Some, IfSome, IsSome, Ok, false, true, ap, arith, inl, length, map, refl, slice_get, slice_index, subst, sym, unwrap_or}
+use Rattle.std.proofs.Common.{◌≡◌, ◌∙◌, ◌-◌, ◌*◌, ◌^◌, ◌<◌, ◌≤◌, ℕ, List, [], Bool, Option, None, Some, IfSome, IsSome, Ok, false, true, ap, arith, inl, inr, length, map, refl, slice_get, slice_index, subst, sym, unwrap_or, ⊎_elim}
 use Rattle.std.proofs.Math.Seq.{drop-nil}
 use Rattle.std.specs.Option.{option_map}
 use Rattle.std.proofs.lemmas.Bool.{true≢false}
 use Rattle.std.proofs.lemmas.List.{get_or-replicate, length-map, length-replicate}
-use Rattle.std.proofs.lemmas.Option.{slice_get-map}
+use Rattle.std.proofs.lemmas.Option.{slice_get-map, slice_get_within}
 use Rattle.dc_checkpoint.specs.States.{Reading, State, number_in}
 use Rattle.dc_checkpoint.specs.declared.checkpoint.Checkpoint as checkpoint
 use Rattle.dc_elf.specs.declared.image.Image.{Image}
 use Rattle.dc_guest.specs.Guest.{Guest, started}
 use Rattle.dc_kernel.specs.Kernels.{IsKernel, Kernel}
+use Rattle.dc_kernel.specs.Layout.{kernel_words}
 use Rattle.dc_links.specs.Links.{Link, link_to, number_of_first}
 use Rattle.dc_model.specs.Process.{begun}
 use Rattle.dc_plain.specs.Playing.{lists_of, seen_image}
 use Rattle.dc_proc.proofs.Texts.{number_is, state_in}
 use Rattle.dc_proc.specs.Carried.{system}
+use Rattle.dc_proc.specs.Events.{HasCountsFor}
 use Rattle.dc_proc.specs.Processes.{Held, IsAt, IsKernelAt, IsLinkOf, IsNumbered, IsSavedAs, kernel_status, reading_of}
+use Rattle.dc_proc.specs.Ups.{held}
 use Rattle.dc_proc.specs.Worlds.{IsUp, others_of}
 use Rattle.dc_protocols.specs.Rules.{is_global}
 use Rattle.dc_recovery.specs.Core.{Core, at_start, first_save, opened_core}
 use Rattle.dc_recovery.specs.Systems.{System}
 use Rattle.dc_rv32.specs.Machine.{machine_of}
 use Rattle.dc_twophase.proofs.Pairs.{known}
+use Rattle.dc_twophase.specs.Recoveries.{IsFit}
 use Rattle.dc_words.specs.Words.{bytes_in}
 use Rattle.dc_world.proofs.Beginning.{none_received, none_sent}
-use Rattle.dc_world.proofs.Beside.{some_and}
-use Rattle.dc_world.specs.Opened.{AreBegun, IsBegun, IsHeldFirst, IsOpened, first_kernel, whose}
+use Rattle.dc_world.proofs.Beside.{and_some, some_and}
+use Rattle.dc_world.proofs.Fitting.{own_form}
+use Rattle.dc_world.proofs.Handling.{counts_same}
+use Rattle.dc_world.proofs.Joined.{alike, begun_together, opened_still}
+use Rattle.dc_world.specs.Opened.{AreAlike, AreBegun, AreMadeFor, FallTogether, IsBegun, IsHeldFirst, IsOpened, first_kernel, whose}
+use Rattle.dc_world.specs.Processes.{IsWell}
 use Rattle.dc_world.specs.Slots.{IsOf, based_in, held_in, is_up, slot_at}
-use Rattle.dc_world.specs.Stages.{IsHandled, IsOwn, IsReady, IsTold, IsWorld, Stage, leaves_of, memory_of, seen_of, stage_of, store_of, words_of}
+use Rattle.dc_world.specs.Joints.{AreReady, AreUp, IsDownAt, IsFitAt, IsOwn, IsRoomFor}
+use Rattle.dc_world.specs.Stages.{AreDecided, IsHandled, IsReady, IsTold, IsWorld, Stage, leaves_of, memory_of, numbers_of, seen_of, stage_of, store_of, words_of}
+use Rattle.dc_world.specs.declared.joint.Joint.{Joint}
 use Rattle.dc_world.specs.declared.opening.Setup.{Setup}
 use Rattle.dc_world.specs.declared.processes.Processes.{Processes}
 use Rattle.dc_world.specs.declared.slot.Slot.{Slot}
@@ -96,9 +106,12 @@ module _ (setup : Setup) (p : ℕ) (image : Image) (there : slice_get setup.imag
   )
 
 -- its number is 1
+number_first : (n p : ℕ) (image : Image) (words : List ℕ) (state : State) → Ok state ≡ reading_of (record { words = words; kernel = first_kernel n p image; log = [] }) → number_in state.kernel ≡ 1
+number_first n p image words state e = ap (λ (r : Reading). number_in (state_in state r).kernel) e ∙ number_is (first_kernel n p image)
+
 numbered_first : (n p : ℕ) (image : Image) (words : List ℕ) (most : ℕ) (state : State) → 1 ≤ most → Ok state ≡ reading_of (record { words = words; kernel = first_kernel n p image; log = [] }) → number_in state.kernel ≤ most
 numbered_first n p image words most state some e =
-    let is = ap (λ (r : Reading). number_in (state_in state r).kernel) e ∙ number_is (first_kernel n p image) in omega (arith, is, some)
+    let is = number_first n p image words state e in omega (arith, is, some)
 
 -- what was received by the last commit, of one that is up
 based_up : (s : Option Slot) → is_up s ≡ true → (held_in s).based ≡ based_in s
@@ -112,6 +125,21 @@ ready_up g turns c dev None on is = absurd is
 ready_up g turns c dev (Some (Up u)) on is = is.0.ready
 ready_up g turns c dev (Some (Down d)) on is = absurd (true≢false (sym on))
 
+-- one that is up is fit, with its counts; one that is not may recover
+fit_up : {C D : Type 0} (g : checkpoint.Ghosts C D) (turns : ℕ) (c : C) (dev : D) (s : Option Slot) → is_up s ≡ true → IsHandled g turns c dev s → IsFitAt g c dev s × HasCountsFor turns (held_in s).kernel × (g.floor c ≤ 0)
+fit_up g turns c dev None on is = absurd is
+fit_up g turns c dev (Some (Down d)) on is = absurd (true≢false (sym on))
+fit_up g turns c dev (Some (Up u)) on is = (
+  is.0,
+  counts_same turns u.kernel (held u).kernel (record { n_same = refl; position_same = refl; visible_same = refl; place_same = refl; received_same = refl; commit_same = refl; sent_same = λ q less. refl }) is.1,
+  is.2,
+)
+
+down_off : {C D : Type 0} (g : checkpoint.Ghosts C D) (turns : ℕ) (c : C) (dev : D) (s : Option Slot) → is_up s ≡ false → IsHandled g turns c dev s → IsDownAt g c dev s
+down_off g turns c dev None off is = absurd is
+down_off g turns c dev (Some (Up u)) off is = absurd (true≢false off)
+down_off g turns c dev (Some (Down d)) off is = is
+
 -- a memory that is told
 told_words : (memory : Option (List ℕ)) (words : List ℕ) → IsSome memory → IfSome memory (λ told. told ≡ words) → memory ≡ Some words
 told_words None words there is = absurd (true≢false (sym there))
@@ -119,7 +147,7 @@ told_words (Some told) words there is = ap Some is
 
 -- the world as a whole
 module _ {C D : Type 0} (g : checkpoint.Ghosts C D) (setup : Setup) (entries : ℕ) (stores : List C) (dev : D) (w : Processes) (begins : IsOpened setup entries w)
-    (each : AreBegun g setup.protocol setup.images.items w.slots.items stores dev) (stores_long : length stores ≡ length setup.images.items) (alone : is_global setup.protocol ≡ false) (few : entries ≤ 1000000) where
+    (each : AreBegun g setup.protocol setup.images.items w.slots.items stores dev) (stores_long : length stores ≡ length setup.images.items) (few : entries ≤ 1000000) (some : 0 < length setup.images.items) where
   abbrev images : List Image
   images = setup.images.items
 
@@ -130,25 +158,50 @@ module _ {C D : Type 0} (g : checkpoint.Ghosts C D) (setup : Setup) (entries : �
   one : (p : ℕ) → p < length images → (c : C) × (slice_get stores p ≡ Some c) × (image : Image) × (slice_get images p ≡ Some image) × IsBegun g setup.protocol (whose (length images) p) image c dev (at p)
   one p less = let store = known stores p (subst (λ m. p < m) (sym stores_long) less) in let begun = each p store.0 store.1 in (store.0, store.1, begun.0, begun.1, begun.2)
 
-  pub ready : 0 < length images → length images ≤ 8 → length setup.inputs.items ≡ length images → entries ≤ w.acts.room → IsReady g stores dev w
-  ready some small inputs room = record {
-    well = record {
-      some = subst (λ m. 0 < m) (sym begins.slots_long) some;
-      few = subst (λ m. m ≤ 8) (sym begins.slots_long) small;
-      exposed_long = ap length begins.exposed_are ∙ length-replicate (length images) 0 ∙ sym begins.slots_long;
-      inputs_long = sym (length-map w.inputs.items (λ v. v.items)) ∙ ap length begins.inputs_are ∙ length-map setup.inputs.items (λ v. v.items) ∙ inputs ∙ sym begins.slots_long;
-      each = λ p s less there. subst (λ pr. IsOf pr (length w.slots.items) p s) (sym begins.protocol_is) (subst (λ m. IsOf setup.protocol m p s) (sym begins.slots_long)
-          ((one p (subst (λ m. p < m) begins.slots_long less)).4.of s there));
-    };
-    alone = ap is_global begins.protocol_is ∙ alone;
-    stores_long = stores_long ∙ sym begins.slots_long;
-    own = λ p c there. subst (λ m. IsOwn g m p c) (sym begins.slots_long) (each p c there).2.own;
-    handled = λ p c there. subst (λ turns. IsHandled g turns c dev (at p)) (sym begins.left_is) ((each p c there).2.handled entries few);
-    room = let a = ap length begins.acts_are in let b = begins.left_is in omega (arith, a, b, room);
-    few_acts = let a = ap length begins.acts_are in omega (arith, a);
-    few_lines = let a = begins.lines_are in omega (arith, a);
-    few_entries = let a = begins.entries_are in let b = begins.left_is in omega (arith, a, b, few);
+  pub well : length images ≤ 8 → length setup.inputs.items ≡ length images → IsWell w
+  well small inputs = record {
+    some = subst (λ m. 0 < m) (sym begins.slots_long) some;
+    few = subst (λ m. m ≤ 8) (sym begins.slots_long) small;
+    exposed_long = ap length begins.exposed_are ∙ length-replicate (length images) 0 ∙ sym begins.slots_long;
+    inputs_long = sym (length-map w.inputs.items (λ v. v.items)) ∙ ap length begins.inputs_are ∙ length-map setup.inputs.items (λ v. v.items) ∙ inputs ∙ sym begins.slots_long;
+    each = λ p s less there. subst (λ pr. IsOf pr (length w.slots.items) p s) (sym begins.protocol_is) (subst (λ m. IsOf setup.protocol m p s) (sym begins.slots_long)
+        ((one p (subst (λ m. p < m) begins.slots_long less)).4.of s there));
   }
+
+  -- where all commit together
+  are_ready : AreAlike w.slots.items → AreReady g w.left stores dev w.slots.items
+  are_ready alike = subst (λ turns. AreReady g turns stores dev w.slots.items) (sym begins.left_is) (⊎_elim
+      (λ (up : AreUp w.slots.items). inl (
+        λ p c there. (fit_up g 0 c dev (at p) (up p (inside p c there)) ((each p c there).2.handled 0 (omega arith))).0,
+        λ p less. let one = one p (subst (λ m. p < m) begins.slots_long less) in (fit_up g (2 * entries) one.0 dev (at p) (up p less) (one.4.handled (2 * entries) (omega (arith, few)))).1,
+      ))
+      (λ (off : (p : ℕ) → p < length w.slots.items → is_up (at p) ≡ false). inr (λ p c there. down_off g 0 c dev (at p) (off p (inside p c there)) ((each p c there).2.handled 0 (omega arith))))
+      alike)
+    where
+      inside : (p : ℕ) (c : C) → slice_get stores p ≡ Some c → p < length w.slots.items
+      inside p c there = let less = slice_get_within stores p c there in let e = begins.slots_long in omega (arith, less, e, stores_long)
+
+  module _ (alike : is_global setup.protocol ≡ true → AreAlike w.slots.items) (texts : is_global setup.protocol ≡ true → length w.joint.texts.items ≡ kernel_words (length images) * length images)
+      (saved_long : is_global setup.protocol ≡ true → length w.joint.saved.items ≡ length images) (saved_fit : AreMadeFor (length images) w.joint.saved.items) where
+    is_room : is_global setup.protocol ≡ true → IsRoomFor g stores (length w.slots.items) w.joint
+    is_room together = subst (λ n. IsRoomFor g stores n w.joint) (sym begins.slots_long) (record {
+      texts = texts together;
+      saved_long = saved_long together;
+      saved_fit = λ p c v there filled. subst (λ f. IsFit f v) (sym (own_form g (length images) p c (each p c there).2.own)) (saved_fit p v filled);
+    })
+
+    pub ready : length images ≤ 8 → length setup.inputs.items ≡ length images → entries ≤ w.acts.room → IsReady g stores dev w
+    ready small inputs room = record {
+      well = well small inputs;
+      stores_long = stores_long ∙ sym begins.slots_long;
+      own = λ p c there. subst (λ m. IsOwn g m p c) (sym begins.slots_long) (each p c there).2.own;
+      handled = λ _ p c there. subst (λ turns. IsHandled g turns c dev (at p)) (sym begins.left_is) ((each p c there).2.handled entries (omega (arith, few)));
+      together = λ is. let together = ap is_global (sym begins.protocol_is) ∙ is in (are_ready (alike together), is_room together);
+      room = let a = ap length begins.acts_are in let b = begins.left_is in omega (arith, a, b, room);
+      few_acts = let a = ap length begins.acts_are in omega (arith, a);
+      few_lines = let a = begins.lines_are in omega (arith, a);
+      few_entries = let a = begins.entries_are in let b = begins.left_is in omega (arith, a, b, few);
+    }
 
   module _ (told_contents : (c : C) (d : D) → g.ready c d → g.told d (g.place c) → IsSome (g.contents c d)) (told : IsTold g (stage_of stores dev w)) where
     abbrev x : Stage C D
@@ -191,6 +244,30 @@ module _ {C D : Type 0} (g : checkpoint.Ghosts C D) (setup : Setup) (entries : �
     based_is : (p s : ℕ) → p < T.guests.count → s < T.guests.count → slice_index (based_in (at p)) s ≡ 0
     based_is p s less few = let (c, store_is, image, image_is, is) = one p (within p less) in is.based s (within s few)
 
+    -- 0 is the decided number, and that of the first commit is 1
+    zero : (d : ℕ) → numbers_of g x d → d ≡ 0
+    zero d counts = let (c, store_is, image, image_is, is) = one 0 some in is.decided d (some_and (λ z. g.numbers z dev d) (slice_get stores 0) c store_is counts)
+
+    among : (p : ℕ) → p < length x.slots → p < length images
+    among p less = subst (λ m. p < m) begins.slots_long less
+
+    decided_first : AreDecided g x
+    decided_first = record {
+      steady = let (c, store_is, image, image_is, is) = one 0 some in and_some (λ z. g.steady z dev) (slice_get stores 0) c store_is is.steady;
+      saved = λ d p s counts less left.
+          let (c, store_is, image, image_is, is) = one p (among p less) in
+          let none = zero d counts in
+          let first = number_first (length images) p image is.words s (is.leaves d (Ok s) (some_and (λ z. g.leaves z dev d (Ok s)) (slice_get stores p) c store_is left)) in
+          omega (arith, none, first);
+      held = λ d p counts less on.
+          let (c, store_is, image, image_is, is) = one p (among p less) in
+          let none = zero d counts in
+          let first = ap (λ (k : Kernel). k.commit) (is.held on).kernel_is in
+          let floor = (fit_up g 0 c dev (at p) on (is.handled 0 (omega arith))).2 in
+          (omega (arith, none, first), and_some (λ z. g.floor z ≤ d) (slice_get stores p) c store_is (omega (arith, floor)));
+      few = λ d p counts less off. let none = zero d counts in omega (arith, none);
+    }
+
     pub opened : IsWorld g T core x
     opened = record {
       count_is = length-map images seen_image ∙ sym begins.slots_long;
@@ -198,12 +275,45 @@ module _ {C D : Type 0} (g : checkpoint.Ghosts C D) (setup : Setup) (entries : �
       inputs_are = λ p. ap (λ xs. unwrap_or (slice_get xs p) []) (sym begins.inputs_are);
       stands = record {
         each = up_is;
-        stores = record { one = λ p less d decided r left. inl (reads p less d r left); all = λ on. absurd (true≢false (sym on ∙ alone)) };
+        stores = record { one = λ p less d decided r left. inl (reads p less d r left); all = λ _ d decided r all. inl (λ p less. reads p less d (r p) (all p less)) };
       };
       up_are = λ p less. refl;
       based_are = based_is;
       acts_are = sym begins.acts_are;
       exposed_are = λ p less. ap (λ xs. slice_index xs p) begins.exposed_are ∙ get_or-replicate (length images) p 0 0 (within p less);
       lines_are = sym begins.lines_are;
-      numbered = number_of;
+      numbered = λ _. number_of;
+      decided = λ _. decided_first;
     }
+
+-- once all fell, where all commit together and the making of one store was stopped
+module _ {C D : Type 0} (g : checkpoint.Ghosts C D) (setup : Setup) (entries : ℕ) (stores stores1 : List C) (dev : D) (w w1 : Processes) (begins : IsOpened setup entries w)
+    (begun : AreBegun g setup.protocol setup.images.items w.slots.items stores dev) (stores_long : length stores ≡ length setup.images.items) (few : entries ≤ 1000000) (some : 0 < length setup.images.items)
+    (rest : w1 ≡ record w { slots = w1.slots }) (long : length w1.slots.items ≡ length w.slots.items) (well1 : IsWell w1) (as_many : length stores1 ≡ length stores)
+    (together : FallTogether g w.protocol w.slots.items w1.slots.items stores stores1) where
+  -- of so many processes
+  abbrev count : ℕ
+  count = length setup.images.items
+
+  fell : FallTogether g setup.protocol w.slots.items w1.slots.items stores stores1
+  fell = subst (λ pr. FallTogether g pr w.slots.items w1.slots.items stores stores1) begins.protocol_is together
+
+  begins1 : IsOpened setup entries w1
+  begins1 = opened_still setup entries w w1 rest long begins
+
+  begun1 : AreBegun g setup.protocol setup.images.items w1.slots.items stores1 dev
+  begun1 = begun_together g setup.protocol w.slots.items w1.slots.items stores stores1 long as_many fell setup.images.items dev (stores_long ∙ sym begins.slots_long)
+      (λ p s less there. subst (λ pr. IsOf pr count p s) begins1.protocol_is (subst (λ m. IsOf w1.protocol m p s) begins1.slots_long (well1.each p s (subst (λ m. p < m) (sym long) less) there))) begun
+
+  pub ready_joined : count ≤ 8 → length setup.inputs.items ≡ count → entries ≤ w.acts.room → (is_global setup.protocol ≡ true → length w.joint.texts.items ≡ kernel_words count * count) → (is_global setup.protocol ≡ true → length w.joint.saved.items ≡ count)
+      → AreMadeFor count w.joint.saved.items → IsReady g stores1 dev w1
+  ready_joined small inputs room texts saved_long saved_fit =
+      let joint_is : w.joint ≡ w1.joint = sym (ap (λ (x : Processes). x.joint) rest) in
+      ready g setup entries stores1 dev w1 begins1 begun1 (as_many ∙ stores_long) few some (alike g setup.protocol w.slots.items w1.slots.items stores stores1 long as_many fell)
+      (subst (λ (j : Joint). is_global setup.protocol ≡ true → length j.texts.items ≡ kernel_words count * count) joint_is texts)
+      (subst (λ (j : Joint). is_global setup.protocol ≡ true → length j.saved.items ≡ count) joint_is saved_long)
+      (subst (λ (j : Joint). AreMadeFor count j.saved.items) joint_is saved_fit) small inputs (subst (λ (x : Processes). entries ≤ x.acts.room) (sym rest) room)
+
+  pub opened_joined : ((c : C) (d : D) → g.ready c d → g.told d (g.place c) → IsSome (g.contents c d)) → IsTold g (stage_of stores1 dev w1)
+      → IsWorld g (system (map seen_image setup.images.items) (lists_of setup.inputs.items) setup.protocol) (opened_core (λ p. is_up (slot_at w1.slots.items p))) (stage_of stores1 dev w1)
+  opened_joined told_contents told = opened g setup entries stores1 dev w1 begins1 begun1 (as_many ∙ stores_long) few some told_contents told

@@ -29,7 +29,7 @@ use Rattle.dc_proc.specs.Carried.{system}
 use Rattle.dc_proc.specs.Processes.{IsAt, answer_logged, logged_of}
 use Rattle.dc_proc.specs.Ups.{IsWhole, held}
 use Rattle.dc_proc.specs.declared.up.Up.{Up as Process}
-use Rattle.dc_protocols.specs.Rules.{at_inputs, is_global}
+use Rattle.dc_protocols.specs.Rules.{at_inputs}
 use Rattle.dc_protocols.specs.declared.protocol.Protocol.{Protocol}
 use Rattle.dc_recovery.proofs.Finding.{found_drawn, found_read}
 use Rattle.dc_recovery.proofs.Given.{IsGiven, IsMailUp, answer_told}
@@ -163,7 +163,7 @@ none_unread : (log : List LogRecord) → is_empty_log (map logged_of log) ≡ tr
 none_unread [] e = refl
 none_unread (x ∷ log) e = absurd (true≢false (sym e))
 
-module _ {C D : Type 0} (g : checkpoint.Ghosts C D) (images : List Image) (inputs : List (List (List ℕ))) (pr : Protocol) (alone : is_global pr ≡ false) (schedule : List Entry) (t : ℕ) (c : Core)
+module _ {C D : Type 0} (g : checkpoint.Ghosts C D) (images : List Image) (inputs : List (List (List ℕ))) (pr : Protocol) (schedule : List Entry) (t : ℕ) (c : Core)
     (now : Holds (system images inputs pr) schedule t c) (old : Stage C D) (world : IsWorld g (system images inputs pr) c old) (turn : Turn) (inside : turn.p < (system images inputs pr).guests.count)
     (c0 : C) (at0 : store_of old turn.p ≡ Some c0) (u0 : Process) (slot0 : slot_at old.slots turn.p ≡ Some (Up u0)) (whole : IsWhole u0) (words : List ℕ) (told : g.contents c0 old.dev ≡ Some words)
     (call : Option Call) (called : call ≡ called_by (next_of (over u0.guest words))) where
@@ -189,11 +189,11 @@ module _ {C D : Type 0} (g : checkpoint.Ghosts C D) (images : List Image) (input
 
   -- it is up in the theory
   on : (c.procs turn.p).up ≡ true
-  on = is_on g S alone schedule t c now old world turn.p c0 at0 u0 slot0 inside words told
+  on = is_on g S schedule t c now old world turn.p c0 at0 u0 slot0 inside words told
 
   -- it stands where the theory says
   here : IsAt S turn.p (own turn.p c.acts) (c.procs turn.p) words (held u0)
-  here = at_now g S alone schedule t c now old world turn.p c0 at0 u0 slot0 inside words told
+  here = at_now g S schedule t c now old world turn.p c0 at0 u0 slot0 inside words told
 
   -- a process that runs
   module _ (runs : u0.guest.ended ≡ false) where
@@ -207,7 +207,7 @@ module _ {C D : Type 0} (g : checkpoint.Ghosts C D) (images : List Image) (input
 
     -- the theory's answer may be given
     pub given_is : IsGiven S.guests c turn.p (answer S.guests c turn.p turn.word turn.clock)
-    given_is = answer_told S.guests c turn.p turn.word turn.clock (going_now g S alone schedule t c now old world turn.p c0 at0 u0 slot0 inside words told).within live
+    given_is = answer_told S.guests c turn.p turn.word turn.clock (going_now g S schedule t c now old world turn.p c0 at0 u0 slot0 inside words told).within live
 
     -- it is of the event's kind
     theory_fits : may_answer theory (kind_of n) ≡ true
@@ -230,7 +230,7 @@ module _ {C D : Type 0} (g : checkpoint.Ghosts C D) (images : List Image) (input
 
       -- what is known to be committed was received
       later : (s : ℕ) → learned S.guests c turn.p s ≤ (stands S.guests c turn.p).received s
-      later s = received_later S.guests turn.p (c.procs turn.p).older.position (c.procs turn.p).position s (own turn.p c.acts) (going_now g S alone schedule t c now old world turn.p c0 at0 u0 slot0 inside words told).from
+      later s = received_later S.guests turn.p (c.procs turn.p).older.position (c.procs turn.p).position s (own turn.p c.acts) (going_now g S schedule t c now old world turn.p c0 at0 u0 slot0 inside words told).from
 
       -- so the next message of another process is kept
       found : (s : ℕ) → s < S.guests.count → s ≢ turn.p → (c.procs s).up ≡ true

@@ -113,7 +113,7 @@ module _ {C D : Type 0} (g : checkpoint.Ghosts C D) (laws : Laws g) (told_conten
 
   committed : u1.kernel.commit ≤ 2 ^ 32 - 1 - 2 * old.left
   committed = told_at (λ words. (most : ℕ) → IsNumbered most (g.leaves c0 old.dev 0) → u1.kernel.commit ≤ most) (g.contents c1 new.dev) memory.0 memory.1 number (2 ^ 32 - 1 - 2 * old.left)
-      (numbered_less (2 ^ 32 - 1 - 2 * old.left) (leaves_of g old p 0) (g.leaves c0 old.dev 0) (λ r l. and_some (λ c. g.leaves c old.dev 0 r) (store_of old p) c0 at0 l) (world.numbered p inside))
+      (numbered_less (2 ^ 32 - 1 - 2 * old.left) (leaves_of g old p 0) (g.leaves c0 old.dev 0) (λ r l. and_some (λ c. g.leaves c old.dev 0 r) (store_of old p) c0 at0 l) (world.numbered alone p inside))
 
   -- its counts have room for the turns that are left
   pub returned_counts : HasCountsFor old.left (held u1).kernel
@@ -181,7 +181,7 @@ module _ {C D : Type 0} (g : checkpoint.Ghosts C D) (laws : Laws g) (told_conten
 
       numbered : (q : ℕ) → q < S.guests.count → IsNumbered (2 ^ 32 - 1 - 2 * new.left) (leaves_of g new q 0)
       numbered q less = numbered_more (2 ^ 32 - 1 - 2 * old.left) (2 ^ 32 - 1 - 2 * new.left) (leaves_of g new q 0) (omega (arith, left))
-          (numbered_less (2 ^ 32 - 1 - 2 * old.left) (leaves_of g old q 0) (leaves_of g new q 0) (narrow q) (world.numbered q less))
+          (numbered_less (2 ^ 32 - 1 - 2 * old.left) (leaves_of g old q 0) (leaves_of g new q 0) (narrow q) (world.numbered alone q less))
         where
           narrow : (z : ℕ) (r : Reading) → leaves_of g new z 0 r → leaves_of g old z 0 r
           narrow z r l = ⊎_elim

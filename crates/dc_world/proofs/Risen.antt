@@ -1,6 +1,6 @@
 -- After a recovery the world stands for the core in which its process is up again, and the acts past its reach are gone.
 use Rattle.std.proofs.Common.{◌≡◌, ◌≢◌, ◌∙◌, ◌-◌, ◌*◌, ◌^◌, ◌<◌, ◌≤◌, ℕ, List, [], ◌∷◌, Bool, true, false, if◌then◌else◌, refl, sym, ap, subst, arith, length, max, slice_index, ⊎_elim}
-use Rattle.std.proofs.lemmas.Bool.{cases_eq, cases_lt, le-ltb, lt-ltb}
+use Rattle.std.proofs.lemmas.Bool.{cases_eq, cases_lt, le-ltb, lt-ltb, true≢false}
 use Rattle.dc_acts.specs.Counted.{cut_acts}
 use Rattle.dc_checkpoint.specs.declared.checkpoint.Checkpoint as checkpoint
 use Rattle.dc_guest.specs.Guest.{Guest}
@@ -29,7 +29,7 @@ use Rattle.dc_world.specs.Slots.{based_in, is_up, slot_at}
 use Rattle.dc_world.specs.Stages.{IsWorld, Stage, leaves_of, seen_of}
 
 -- nothing is lost behind the last one
-last_oldest : (e : Event → Bool) (G : Guests Guest) (p r : ℕ) (ds : List Answer) → last_at e G p ds ≤ r → last_at e G p (oldest r ds) ≡ last_at e G p ds
+pub last_oldest : (e : Event → Bool) (G : Guests Guest) (p r : ℕ) (ds : List Answer) → last_at e G p ds ≤ r → last_at e G p (oldest r ds) ≡ last_at e G p ds
 last_oldest e G p r [] h = refl
 last_oldest e G p r (a ∷ ds) h = ⊎_elim
     (λ (low : length ds < r). ap (λ b. last_at e G p (if b then a ∷ ds else oldest r ds)) (lt-ltb (length ds) r low))
@@ -94,5 +94,6 @@ module _ {C D : Type 0} (g : checkpoint.Ghosts C D) (S : System Guest) (sound : 
         (λ (ne : p ≢ q). ap (last_at S.exposes S.guests q) (sym (own_other q ne)))
         (cases_eq p q);
     lines_are = world.lines_are ∙ sym lines;
-    numbered = numbered;
+    numbered = λ _. numbered;
+    decided = λ is. absurd (true≢false (sym is ∙ alone));
   }

@@ -129,7 +129,7 @@ stopped_mark InLog ne e k = refl
 stopped_mark InEvent ne e k = refl
 stopped_mark InAfter ne e k = refl
 
-module _ {C D : Type 0} (g : checkpoint.Ghosts C D) (images : List Image) (inputs : List (List (List ℕ))) (pr : Protocol) (alone : is_global pr ≡ false) (schedule : List Entry) (t : ℕ) (c : Core)
+module _ {C D : Type 0} (g : checkpoint.Ghosts C D) (images : List Image) (inputs : List (List (List ℕ))) (pr : Protocol) (schedule : List Entry) (t : ℕ) (c : Core)
     (now : Holds (system images inputs pr) schedule t c) (old : Stage C D) (world : IsWorld g (system images inputs pr) c old) (turn : Turn) (inside : turn.p < (system images inputs pr).guests.count)
     (c0 : C) (at0 : store_of old turn.p ≡ Some c0) (u0 : Process) (slot0 : slot_at old.slots turn.p ≡ Some (Up u0)) (whole : IsWhole u0) (words : List ℕ) (told : g.contents c0 old.dev ≡ Some words)
     (call : Option Call) (called : call ≡ called_by (next_of (over u0.guest words))) where
@@ -147,11 +147,11 @@ module _ {C D : Type 0} (g : checkpoint.Ghosts C D) (images : List Image) (input
 
   -- it is up in the theory
   on : (c.procs turn.p).up ≡ true
-  on = is_on g S alone schedule t c now old world turn.p c0 at0 u0 slot0 inside words told
+  on = is_on g S schedule t c now old world turn.p c0 at0 u0 slot0 inside words told
 
   -- it stands where the theory says
   here : IsAt S turn.p (own turn.p c.acts) (c.procs turn.p) words (held u0)
-  here = at_now g S alone schedule t c now old world turn.p c0 at0 u0 slot0 inside words told
+  here = at_now g S schedule t c now old world turn.p c0 at0 u0 slot0 inside words told
 
   -- the act of its turn
   abbrev x : Given
@@ -176,7 +176,7 @@ module _ {C D : Type 0} (g : checkpoint.Ghosts C D) (images : List Image) (input
     -- a send is blocked where eight messages to its receiver are kept
     blocked_send : (q : ℕ) → q < S.guests.count → (message : List ℕ) → is_blocked S c turn.p (AtSend q message) ≡ nat_le 8 (length (link_to u0.kernel.links q).kept)
     blocked_send q less message =
-        let known = known_now g S alone schedule t c now old world turn.p c0 at0 u0 slot0 inside words told q less in
+        let known = known_now g S schedule t c now old world turn.p c0 at0 u0 slot0 inside words told q less in
         sym (full_link ((stands S.guests c turn.p).sent q) (link_to u0.kernel.links q) (slice_index (held u0).others q) (here.kernel_is.links q less) (here.kept q less) 8 (omega arith)
         ∙ ap (λ k. nat_le (k + 8) (length ((stands S.guests c turn.p).sent q))) known)
 
@@ -242,12 +242,16 @@ module _ {C D : Type 0} (g : checkpoint.Ghosts C D) (images : List Image) (input
       )
 
       -- or it is stopped in one of its places
-      pub turned_stopped : (w : Place) → w ≢ Nowhere → MayStopAlone S turn.p (own turn.p c.acts) (c.procs turn.p) a w
+      pub turned_at : (w : Place) → w ≢ Nowhere → may_stop (rule_at S c turn.p a) (event_of (next_of (over u0.guest words)) (machine_over u0.guest words)) a w ≡ true
           → RunsOr (c.procs turn.p).up S c (record { t = t; p = turn.p; answer = answer S.guests c turn.p turn.word turn.clock }) mark.Stopped (after_turn S t c turn.p a w)
-      turned_stopped w ne may = takes_up S c x mark.Stopped (after_turn S t c turn.p a w) (c.procs turn.p).up on (event_of n m) (next_is x.answer) (not_ended n m) false free (
+      turned_at w ne may = takes_up S c x mark.Stopped (after_turn S t c turn.p a w) (c.procs turn.p).up on (event_of n m) (next_is x.answer) (not_ended n m) false free (
         w,
-        subst (λ (e : Event). may_stop (rule_at S c turn.p x.answer) e x.answer w ≡ true) (next_is x.answer)
-            (stops_alone S t c turn.p x.answer alone w ∙ subst (λ b. MayStopAlone S turn.p (own turn.p c.acts) (c.procs turn.p) b w) a_is may),
+        subst (λ b. may_stop (rule_at S c turn.p b) (event_of n m) b w ≡ true) a_is may,
         stopped_mark w ne (event_of n m) (stands S.guests c turn.p).visible,
         ap (λ b. after_turn S t c turn.p b w) a_is,
       )
+
+      -- where each commits by itself, in one that is its own
+      pub turned_stopped : is_global pr ≡ false → (w : Place) → w ≢ Nowhere → MayStopAlone S turn.p (own turn.p c.acts) (c.procs turn.p) a w
+          → RunsOr (c.procs turn.p).up S c (record { t = t; p = turn.p; answer = answer S.guests c turn.p turn.word turn.clock }) mark.Stopped (after_turn S t c turn.p a w)
+      turned_stopped alone w ne may = turned_at w ne (subst (λ (e : Event). may_stop (rule_at S c turn.p a) e a w ≡ true) (next_is a) (stops_alone S t c turn.p a alone w ∙ may))

@@ -1,6 +1,7 @@
 -- A process at a place of a list.
-use Rattle.std.proofs.Common.{get_or, ◌≡◌, ◌≢◌, ◌∙◌, ◌<◌, ◌≤◌, ℕ, List, Bool, true, false, Option, None, Some, if◌then◌else◌, refl, sym, ap, subst, length, slice_set, ⊎_elim}
-use Rattle.std.proofs.lemmas.Bool.{cases_eq, true≢false}
+use Rattle.std.proofs.Common.{get_or, ◌≡◌, ◌≢◌, ◌∙◌, ◌<◌, ◌≤◌, ◌&&◌, ℕ, zero, suc, List, [], ◌∷◌, Bool, true, false, Option, None, Some, if◌then◌else◌, refl, sym, ap, arith, subst, length, slice_set, ⊎_elim}
+use Rattle.std.specs.List.{list_all}
+use Rattle.std.proofs.lemmas.Bool.{and_parts, cases_eq, true≢false}
 use Rattle.std.proofs.lemmas.List.{get_or-set_same, get_or-set_other, get_or_past, length-set, set-get_or, set-set}
 use Rattle.std.proofs.lemmas.Option.{get_or_from_slice_get, slice_get_read}
 use Rattle.dc_proc.specs.declared.up.Up.{Up as Process}
@@ -112,3 +113,26 @@ well_put w w2 p s well inside is put protocol inputs exposed =
 pub noted_long : (b : Bool) (xs : List ℕ) (p n : ℕ) → length (if b then slice_set xs p n else xs) ≡ length xs
 noted_long true xs p n = length-set xs p n
 noted_long false xs p n = refl
+
+-- where all pass a test each does
+pub all_at : (f : Option Slot → Bool) (slots : List (Option Slot)) (p : ℕ) → list_all f slots ≡ true → p < length slots → f (slot_at slots p) ≡ true
+all_at f [] p all less = absurd (omega (arith, less))
+all_at f (slot ∷ slots) zero all less = (and_parts (f slot) (list_all f slots) all).0
+all_at f (slot ∷ slots) (suc p) all less = all_at f slots p (and_parts (f slot) (list_all f slots) all).1 (omega (arith, less))
+
+-- else one does not
+pub record Left (f : Option Slot → Bool) (slots : List (Option Slot)) : Type 0 where
+  pub p : ℕ
+  pub less : p < length slots
+  pub fails : f (slot_at slots p) ≡ false
+
+pub one_left : (f : Option Slot → Bool) (slots : List (Option Slot)) → list_all f slots ≡ false → Left f slots
+one_left f [] none = absurd (true≢false none)
+one_left f (slot ∷ slots) some = by (λ rest. one_left f slots rest) (f slot) refl
+  where
+    -- this one, or a later one
+    by : (list_all f slots ≡ false → Left f slots) → (b : Bool) → f slot ≡ b → Left f (slot ∷ slots)
+    by later false is = record { p = 0; less = omega arith; fails = is }
+    by later true is =
+        let left : Left f slots = later (sym (ap (λ b. b && list_all f slots) is) ∙ some) in
+        record { p = suc left.p; less = (let less = left.less in omega (arith, less)); fails = left.fails }

@@ -26,7 +26,7 @@ use Rattle.dc_world.specs.declared.slot.Slot.TheVariants.{Up}
 zero_decided : (b : Bool) (numbers : ℕ → Type 0) → b ≡ false → decided_by b numbers 0
 zero_decided b numbers e = subst (λ x. decided_by x numbers 0) (sym e) refl
 
-module _ {C D : Type 0} (g : checkpoint.Ghosts C D) (S : System Guest) (alone : is_global S.protocol ≡ false) (schedule : List Entry) (t : ℕ) (c : Core) (now : Holds S schedule t c) (old : Stage C D) (world : IsWorld g S c old)
+module _ {C D : Type 0} (g : checkpoint.Ghosts C D) (S : System Guest) (schedule : List Entry) (t : ℕ) (c : Core) (now : Holds S schedule t c) (old : Stage C D) (world : IsWorld g S c old)
     (p : ℕ) (c0 : C) (at0 : store_of old p ≡ Some c0) (u0 : Process) (slot0 : slot_at old.slots p ≡ Some (Up u0)) (inside : p < S.guests.count) (words : List ℕ) (told : g.contents c0 old.dev ≡ Some words) where
   pub is_on : (c.procs p).up ≡ true
   is_on = world.up_are p inside ∙ ap is_up slot0
@@ -53,15 +53,19 @@ module _ {C D : Type 0} (g : checkpoint.Ghosts C D) (S : System Guest) (alone : 
   pub going_now : IsGoing (own p c.acts) (c.procs p)
   going_now = record { up = is_on; one = running.one; from = running.from; within = running.within }
 
-  -- it is where the theory says
-  pub over_now : IsIn g S p (own p c.acts) (c.procs p) 0 (process c0 old.dev (held u0))
-  over_now = record {
+  -- it is where the theory says, under a decided number
+  pub over_at : (d : ℕ) → decided_by (is_global S.protocol) (numbers_of g old) d → IsIn g S p (own p c.acts) (c.procs p) d (process c0 old.dev (held u0))
+  over_at d decided = record {
     going = going_now;
     process = subst (λ o. IsProcess S p (own p c.acts) (c.procs p) o (held u0)) (sym told) at_now;
-    stands = stands_later S.guests p (own p c.acts) (others_of S.guests c p) (slice_index (held u0).others) (c.procs p) (λ r. g.leaves c0 old.dev 0 r) (g.leaves c0 old.dev 0)
+    stands = stands_later S.guests p (own p c.acts) (others_of S.guests c p) (slice_index (held u0).others) (c.procs p) (λ r. g.leaves c0 old.dev d r) (g.leaves c0 old.dev d)
         (λ q less. let e = known_now q less in omega (arith, e)) (λ r l. l)
-        (λ r l. world.stands.stores.one p inside 0 (zero_decided (is_global S.protocol) (numbers_of g old) alone) r (and_some (λ c. g.leaves c old.dev 0 r) (store_of old p) c0 at0 l));
+        (λ r l. world.stands.stores.one p inside d decided r (and_some (λ c. g.leaves c old.dev d r) (store_of old p) c0 at0 l));
   }
+
+  -- where each commits by itself, under 0
+  pub over_now : is_global S.protocol ≡ false → IsIn g S p (own p c.acts) (c.procs p) 0 (process c0 old.dev (held u0))
+  over_now alone = over_at 0 (zero_decided (is_global S.protocol) (numbers_of g old) alone)
 
   pub alone_given : (a : Answer) → IsGiven S.guests c p a → IsAnswerAlone S.guests p (own p c.acts) (c.procs p) a
   alone_given a given = ⊎_elim (λ x. inl x) (λ x. inr (x.0, x.1)) given

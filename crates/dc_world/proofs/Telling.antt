@@ -1,5 +1,5 @@
 -- What a turn's clauses say where the memory is told, in the words of the theory.
-use Rattle.std.proofs.Common.{◌≡◌, ◌≢◌, ◌∙◌, ◌+◌, ◌++◌, ℕ, List, Bool, true, false, Option, None, Some, IfSome, if◌then◌else◌, refl, sym, ap, subst, arith, length, length-append}
+use Rattle.std.proofs.Common.{◌≡◌, ◌||◌, ◌≢◌, ◌∙◌, ◌+◌, ◌++◌, ℕ, List, Bool, true, false, Option, None, Some, IfSome, if◌then◌else◌, refl, sym, ap, subst, arith, is_some, length, length-append}
 use Rattle.dc_calls.specs.declared.call.Call.{Call}
 use Rattle.dc_elf.specs.Images.{Image}
 use Rattle.dc_events.specs.Kinds.{kind_of}
@@ -8,7 +8,7 @@ use Rattle.dc_events.specs.declared.event.Next.TheVariants as next
 use Rattle.dc_guest.specs.Answers.{effect_of, may_answer}
 use Rattle.dc_guest.specs.Guest.{Guest, event_of, machine_over, next_of, over}
 use Rattle.dc_guest.specs.Nexts.{called_by}
-use Rattle.dc_model.specs.Guests.{Answer, Event, is_visible}
+use Rattle.dc_model.specs.Guests.{Answer, Event, is_send, is_visible}
 use Rattle.dc_model.specs.Guests.Answer.{Plain}
 use Rattle.dc_model.specs.Guests.Event.{AtVisible}
 use Rattle.dc_model.specs.Process.{at_position, comes, shown, visible_of}
@@ -50,6 +50,11 @@ line_of : (p i : ℕ) (e : Event) → visible_of p i e ≡ lines_of (visible_sho
 line_of p i (AtVisible body) = refl
 line_of p i _ = refl
 
+-- what is visible is shown
+shows_visible : (k : ℕ) (e : Event) → is_visible e ≡ is_some (shown_of (effect_of e) k)
+shows_visible k (AtVisible body) = refl
+shows_visible k _ = refl
+
 module _ (images : List Image) (inputs : List (List (List ℕ))) (pr : Protocol) (p : ℕ) (answers : List Answer) (st : Status) (words : List ℕ) (u : Process) (whole : IsWhole u)
     (is : IsAt (system images inputs pr) p answers st words (held u)) (runs : u.guest.ended ≡ false) (a : Answer) (call : Option Call) (result : Option Shown)
     (called : call ≡ called_by (next_of (over u.guest words))) (showed : result ≡ shown_of (effect_of (event_of (next_of (over u.guest words)) (machine_over u.guest words))) u.kernel.visible) where
@@ -64,6 +69,10 @@ module _ (images : List Image) (inputs : List (List (List ℕ))) (pr : Protocol)
 
   pub exposes_is : is_global pr ≡ false → S.exposes (comes S.guests (at_position S.guests p st.position answers) a) ≡ exposed_by call result
   exposes_is alone = ap S.exposes comes_is ∙ ap (λ (b : Bool). if b then is_visible e else is_output e) alone ∙ sym (ap (λ c. exposed_by c result) called ∙ ap (exposed_by (called_by (next_of (over u.guest words)))) showed ∙ exposed_event (next_of (over u.guest words)) (machine_over u.guest words) u.kernel.visible)
+
+  -- where all recover together, others hold a process to what it shows alone
+  pub exposes_shown : is_global pr ≡ true → S.exposes (comes S.guests (at_position S.guests p st.position answers) a) ≡ is_some result
+  exposes_shown together = ap S.exposes comes_is ∙ ap (λ (b : Bool). if b then is_visible e else is_output e) together ∙ shows_visible u.kernel.visible e ∙ sym (ap (λ (r : Option Shown). is_some r) showed)
 
   pub lines_is : (lines : List Visible) → length (shown S.guests p (at_position S.guests p st.position answers) a ++ lines) ≡ length lines + line_count result
   lines_is lines = let l = length-append (shown S.guests p (at_position S.guests p st.position answers) a) lines in
@@ -88,6 +97,10 @@ lines_kept InLog ne more lines = refl
 lines_kept InEvent ne more lines = refl
 lines_kept InAfter ne more lines = refl
 
--- where each recovers by itself, outputs are what others hold a process to
-pub exposes_output : (pr : Protocol) → is_global pr ≡ false → (e : Event) → exposed_under pr e ≡ true → is_output e ≡ true
-exposes_output pr alone e on = sym (ap (λ (b : Bool). if b then is_visible e else is_output e) alone) ∙ on
+-- others hold a process to outputs alone
+pub exposes_output : (pr : Protocol) (e : Event) → exposed_under pr e ≡ true → is_output e ≡ true
+exposes_output pr e on = by_form (is_global pr) on
+  where
+    by_form : (b : Bool) → (if b then is_visible e else is_output e) ≡ true → is_output e ≡ true
+    by_form true seen = ap (λ b. b || is_send e) seen
+    by_form false out = out

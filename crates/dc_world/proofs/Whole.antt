@@ -1,6 +1,6 @@
 -- After a turn of one process the world stands for the next core, once each part of it does.
 use Rattle.std.proofs.Common.{◌≡◌, ◌≢◌, ◌∙◌, ◌-◌, ◌*◌, ◌^◌, ◌<◌, ℕ, List, [], true, false, sym, ap, subst, length, slice_get, slice_index, unwrap_or, ⊎_elim}
-use Rattle.std.proofs.lemmas.Bool.{cases_eq}
+use Rattle.std.proofs.lemmas.Bool.{cases_eq, true≢false}
 use Rattle.dc_checkpoint.specs.declared.checkpoint.Checkpoint as checkpoint
 use Rattle.dc_guest.specs.Guest.{Guest}
 use Rattle.dc_model.specs.Guests.{Answer}
@@ -68,5 +68,6 @@ module _ {C D : Type 0} (g : checkpoint.Ghosts C D) (S : System Guest) (sound : 
         (λ (ne : p ≢ q). exposed_other q less ne ∙ world.exposed_are q less ∙ ap (last_at S.exposes S.guests q) (sym (own_after_other S sound schedule t c now p a given on inside w q ne)))
         (cases_eq p q);
     lines_are = sym lines;
-    numbered = numbered;
+    numbered = λ _. numbered;
+    decided = λ is. absurd (true≢false (sym is ∙ alone));
   }

@@ -1,16 +1,23 @@
 -- What a world is when it was opened.
-use Rattle.std.specs.Prelude.{◌≡◌, ◌<◌, ◌≤◌, ◌*◌, ◌-◌, ℕ, List, [], true, false, Option, Some, IfSome, length, replicate, slice_get, slice_index, slice_set}
+use Rattle.std.specs.Prelude.{◌≡◌, ◌⊎◌, ◌<◌, ◌≤◌, ◌*◌, ◌-◌, ℕ, List, [], true, false, Option, Some, IfSome, length, replicate, slice_get, slice_index, slice_set}
+use Rattle.dc_checkpoint.specs.Calls.{AreAll}
 use Rattle.dc_checkpoint.specs.States.{Form, Reading}
 use Rattle.dc_checkpoint.specs.declared.checkpoint.Checkpoint as checkpoint
 use Rattle.dc_elf.specs.declared.image.Image.{Image}
 use Rattle.dc_kernel.specs.Kernels.{IsKernel, Kernel, fresh}
+use Rattle.dc_kernel.specs.declared.saved.Saved.{Saved}
 use Rattle.dc_media.specs.Causes.{Rose}
 use Rattle.dc_plain.specs.Playing.{CanStart, lists_of}
 use Rattle.dc_proc.specs.Processes.{Held, reading_of}
+use Rattle.dc_protocols.specs.Rules.{is_global}
 use Rattle.dc_protocols.specs.declared.protocol.Protocol.{Protocol}
+use Rattle.dc_twophase.specs.Recoveries.{IsFit}
+use Rattle.dc_twophase.specs.Stores.{EachPair}
 use Rattle.dc_words.specs.Words.{bytes_in}
-use Rattle.dc_world.specs.Slots.{IsOf, based_in, held_in, is_up, slot_at}
-use Rattle.dc_world.specs.Stages.{IsHandled, IsOwn}
+use Rattle.dc_world.specs.Joints.{AreUp, IsOwn}
+use Rattle.dc_world.specs.Processes.{FallsStore}
+use Rattle.dc_world.specs.Slots.{Falls, IsOf, based_in, held_in, is_up, slot_at}
+use Rattle.dc_world.specs.Stages.{IsHandled}
 use Rattle.dc_world.specs.declared.opening.Setup.{Setup}
 use Rattle.dc_world.specs.declared.processes.Processes.{Processes}
 use Rattle.dc_world.specs.declared.slot.Slot.{Slot}
@@ -45,12 +52,14 @@ pub record IsBegun {C D : Type 0} (g : checkpoint.Ghosts C D) (protocol : Protoc
   pub bytes_are : bytes_in words ≡ image.memory.items
   pub of : (s : Slot) → slot ≡ Some s → IsOf protocol form.n form.p s
   pub own : IsOwn g form.n form.p c
-  pub handled : (turns : ℕ) → turns ≤ 1000000 → IsHandled g turns c dev slot
+  pub handled : (turns : ℕ) → turns ≤ 2000000 → IsHandled g turns c dev slot
   pub kernel_ok : IsKernel form.n form.p (first_kernel form.n form.p image)
   pub leaves : (d : ℕ) (r : Reading) → g.leaves c dev d r → r ≡ reading_of (record { words = words; kernel = first_kernel form.n form.p image; log = [] })
   pub based : (s : ℕ) → s < form.n → slice_index (based_in slot) s ≡ 0
   pub held : is_up slot ≡ true → IsHeldFirst (first_kernel form.n form.p image) (held_in slot)
   pub memory : is_up slot ≡ true → IfSome (g.contents c dev) (λ told. told ≡ words)
+  pub decided : AreAll 0 (g.numbers c dev)
+  pub steady : g.steady c dev
 
 -- each that has a store is
 abbrev pub AreBegun : {C D : Type 0} → checkpoint.Ghosts C D → Protocol → List Image → List (Option Slot) → List C → D → Type 0
@@ -61,6 +70,24 @@ AreBegun g protocol images slots stores dev = (p : ℕ) (c : _) → slice_get st
 pub record IsUpFor {C D : Type 0} (g : checkpoint.Ghosts C D) (p : ℕ) (old new : D) (slot : Option Slot) : Type 0 where
   pub stopped : is_up slot ≡ false → Rose (g.stops old p) (g.stops new p)
   pub calm : is_up slot ≡ true → (g.stops new p ≡ g.stops old p) × (g.faults new p ≡ g.faults old p)
+
+-- what a recovery of n processes is to fill, each made for the process of its place
+abbrev pub AreMadeFor : ℕ → List Saved → Type 0
+AreMadeFor n saved = (p : ℕ) (v : Saved) → slice_get saved p ≡ Some v → IsFit (whose n p) v
+
+-- all fell, as one of them was down
+pub record HaveFallen {C D : Type 0} (g : checkpoint.Ghosts C D) (slots slots1 : List (Option Slot)) (stores stores1 : List C) : Type 0 where
+  pub one : (q : ℕ) × (q < length slots) × (is_up (slot_at slots q) ≡ false)
+  pub falls : (p : ℕ) → p < length slots → Falls (slot_at slots p) (slot_at slots1 p)
+  pub pairs : EachPair stores stores1 (λ i. FallsStore g)
+
+-- they are as they were, where each commits by itself or all are up; else all fell
+abbrev pub FallTogether : {C D : Type 0} → checkpoint.Ghosts C D → Protocol → List (Option Slot) → List (Option Slot) → List C → List C → Type 0
+FallTogether g protocol slots slots1 stores stores1 = ((slots1 ≡ slots) × (stores1 ≡ stores) × (is_global protocol ≡ true → AreUp slots)) ⊎ ((is_global protocol ≡ true) × HaveFallen g slots slots1 stores stores1)
+
+-- all are up, or none is
+abbrev pub AreAlike : List (Option Slot) → Type 0
+AreAlike slots = AreUp slots ⊎ ((p : ℕ) → p < length slots → is_up (slot_at slots p) ≡ false)
 
 -- nothing was done yet, and so much may be
 pub record IsOpened (setup : Setup) (entries : ℕ) (w : Processes) : Type 0 where

@@ -63,3 +63,7 @@ has_ended _ = false
 -- each is, and has
 abbrev pub have_ended : List (Option Slot) → Bool
 have_ended slots = list_all has_ended slots
+
+-- each is up
+abbrev pub are_up : List (Option Slot) → Bool
+are_up slots = list_all is_up slots

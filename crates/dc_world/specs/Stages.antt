@@ -1,6 +1,6 @@
 -- When the processes of a world, with their stores on one device, stand for a core of the theory.
-use Rattle.std.specs.Prelude.{◌≡◌, ◌<◌, ◌≤◌, ◌+◌, ◌*◌, ◌-◌, ◌^◌, ℕ, List, [], Bool, true, false, Option, None, Some, IsSomeAnd, length, slice_get, slice_index, unwrap_or}
-use Rattle.dc_checkpoint.specs.States.{Reading}
+use Rattle.std.specs.Prelude.{◌≡◌, ◌<◌, ◌≤◌, ◌+◌, ◌*◌, ◌-◌, ◌^◌, ℕ, List, [], Bool, true, false, Ok, Option, None, Some, IsSomeAnd, length, max, slice_get, slice_index, unwrap_or}
+use Rattle.dc_checkpoint.specs.States.{Reading, State, number_in}
 use Rattle.dc_checkpoint.specs.declared.checkpoint.Checkpoint as checkpoint
 use Rattle.dc_guest.specs.Guest.{Guest}
 use Rattle.dc_model.specs.Runs.{own}
@@ -16,6 +16,7 @@ use Rattle.dc_protocols.specs.declared.protocol.Protocol.{Protocol}
 use Rattle.dc_recovery.specs.Core.{Core, learned}
 use Rattle.dc_recovery.specs.Saves.{last_at}
 use Rattle.dc_recovery.specs.Systems.{System}
+use Rattle.dc_world.specs.Joints.{AreReady, IsOwn, IsRoomFor}
 use Rattle.dc_world.specs.Processes.{IsWell}
 use Rattle.dc_world.specs.Slots.{based_in, held_in, is_up, slot_at}
 use Rattle.dc_world.specs.declared.processes.Processes.{Processes}
@@ -72,23 +73,25 @@ IsHandled g turns c dev None = ⊥
 IsHandled g turns c dev (Some (Up u)) = IsFit g u c dev × HasCountsFor turns u.kernel × (g.floor c ≤ 0)
 IsHandled g turns c dev (Some (Down d)) = g.lent c dev × (d.size ≡ 4 * g.size c)
 
--- the store of a process is its own
-pub record IsOwn {C D : Type 0} (g : checkpoint.Ghosts C D) (n p : ℕ) (c : C) : Type 0 where
-  pub place_is : g.place c ≡ p
-  pub form_n : (g.form c).n ≡ n
-  pub form_p : (g.form c).p ≡ p
-
 -- what the code of a world keeps, whatever its devices tell
 pub record IsReady {C D : Type 0} (g : checkpoint.Ghosts C D) (stores : List C) (dev : D) (w : Processes) : Type 0 where
   pub well : IsWell w
-  pub alone : is_global w.protocol ≡ false
   pub stores_long : length stores ≡ length w.slots.items
   pub own : (p : ℕ) (c : C) → slice_get stores p ≡ Some c → IsOwn g (length w.slots.items) p c
-  pub handled : (p : ℕ) (c : C) → slice_get stores p ≡ Some c → IsHandled g w.left c dev (slot_at w.slots.items p)
+  pub handled : is_global w.protocol ≡ false → (p : ℕ) (c : C) → slice_get stores p ≡ Some c → IsHandled g w.left c dev (slot_at w.slots.items p)
+  pub together : is_global w.protocol ≡ true → AreReady g w.left stores dev w.slots.items × IsRoomFor g stores (length w.slots.items) w.joint
   pub room : length w.acts.items + w.left ≤ w.acts.room
   pub few_acts : length w.acts.items ≤ w.entries
   pub few_lines : w.lines ≤ w.entries
   pub few_entries : w.entries + w.left ≤ 1000000
+
+-- where all commit together the decided number is that of their last commit, or 0 while that is the first: so it is in each state that a store may
+-- stand for under it, and in each process that is up, whose store's images are all told of under it; and it may rise by two in each of so many turns
+pub record AreDecided {C D : Type 0} (g : checkpoint.Ghosts C D) (x : Stage C D) : Type 0 where
+  pub steady : IsSomeAnd (store_of x 0) (λ c. g.steady c x.dev)
+  pub saved : (d p : ℕ) (s : State) → numbers_of g x d → p < length x.slots → leaves_of g x p d (Ok s) → number_in s.kernel ≡ max 1 d
+  pub held : (d p : ℕ) → numbers_of g x d → p < length x.slots → is_up (slot_at x.slots p) ≡ true → ((held_in (slot_at x.slots p)).kernel.commit ≡ max 1 d) × IsSomeAnd (store_of x p) (λ c. g.floor c ≤ d)
+  pub few : (d p : ℕ) → numbers_of g x d → p < length x.slots → is_up (slot_at x.slots p) ≡ false → d ≤ 2 ^ 32 - 1 - 4 * x.left
 
 -- it stands for a core: the processes and their stores do, and so do the acts, the count of lines, and what the world remembers of each process
 pub record IsWorld {C D : Type 0} (g : checkpoint.Ghosts C D) (S : System Guest) (c : Core) (x : Stage C D) : Type 0 where
@@ -101,7 +104,8 @@ pub record IsWorld {C D : Type 0} (g : checkpoint.Ghosts C D) (S : System Guest)
   pub acts_are : reported c.acts ≡ x.acts
   pub exposed_are : (p : ℕ) → p < S.guests.count → slice_index x.exposed p ≡ last_at S.exposes S.guests p (own p c.acts)
   pub lines_are : length c.lines ≡ x.lines
-  pub numbered : (p : ℕ) → p < S.guests.count → IsNumbered (2 ^ 32 - 1 - 2 * x.left) (leaves_of g x p 0)
+  pub numbered : is_global S.protocol ≡ false → (p : ℕ) → p < S.guests.count → IsNumbered (2 ^ 32 - 1 - 2 * x.left) (leaves_of g x p 0)
+  pub decided : is_global S.protocol ≡ true → AreDecided g x
 
 -- the devices of all processes are told, and no count of theirs stands at its last value
 pub record IsTold {C D : Type 0} (g : checkpoint.Ghosts C D) (x : Stage C D) : Type 0 where

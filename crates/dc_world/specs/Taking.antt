@@ -1,6 +1,7 @@
 -- What a process needs to take its next event at its place, and what it is after that.
 use Rattle.std.specs.Prelude.{◌≡◌, ◌<◌, ◌≤◌, ◌+◌, ◌-◌, ◌^◌, ℕ, List, true, false, Option, None, Some, IfSome, Result, OnOk, OnErr, IfOk}
 use Rattle.dc_calls.specs.declared.call.Call.{Call}
+use Rattle.dc_checkpoint.specs.Calls.{AreAmong, Narrows}
 use Rattle.dc_checkpoint.specs.declared.checkpoint.Checkpoint as checkpoint
 use Rattle.dc_events.specs.Kinds.{kind_of}
 use Rattle.dc_guest.specs.Answers.{effect_of, may_answer}
@@ -21,6 +22,7 @@ use Rattle.dc_proc.specs.Turns.{StopsTurn, TakesTurn, acts_with, shown_of}
 use Rattle.dc_proc.specs.Ups.{IsFit, IsSameUp, IsWhole, held}
 use Rattle.dc_proc.specs.declared.shown.Shown.{Shown}
 use Rattle.dc_proc.specs.declared.up.Up.{Up as Process}
+use Rattle.dc_protocols.specs.Rules.{is_global}
 use Rattle.dc_world.specs.Answers.{HasCallRoom}
 use Rattle.dc_world.specs.Turns.{taken_mark, visible_shown}
 use Rattle.dc_world.specs.declared.slot.Slot.{Slot}
@@ -38,6 +40,15 @@ pub record HasNext {C D : Type 0} (g : checkpoint.Ghosts C D) (turns : ℕ) (c :
   pub fit : IsFit g up c dev
   pub counts : HasCountsFor turns up.kernel
   pub floor : g.floor c ≤ 0
+  pub runs : up.guest.ended ≡ false
+  pub room : HasCallRoom up.kernel call
+  pub found : IfSome (g.contents c dev) (λ words. call ≡ called_by (next_of (over up.guest words)))
+
+-- a process is up and goes on: its guest runs, and its next event is this call, for which it has room
+pub record MakesCall {C D : Type 0} (g : checkpoint.Ghosts C D) (c : C) (dev : D) (slot : Option Slot) (call : Option Call) : Type 0 where
+  pub up : Process
+  pub there : slot ≡ Some (Up up)
+  pub fit : IsFit g up c dev
   pub runs : up.guest.ended ≡ false
   pub room : HasCallRoom up.kernel call
   pub found : IfSome (g.contents c dev) (λ words. call ≡ called_by (next_of (over up.guest words)))
@@ -84,10 +95,17 @@ pub record HasTaken {C D : Type 0} (g : checkpoint.Ghosts C D) (old new : Moment
   pub shown : IfOk result (λ shown. IfSome (g.contents old.store old.dev) (λ words. shown ≡ shown_of (effect_of (event_of (next_of (over u.guest words)) (machine_over u.guest words))) u.kernel.visible))
   pub stopped : OnErr result (StopsTurn g u.protocol e.answer (process old.store old.dev (held u)) (process new.store new.dev (held up))
       (record { before = e.before; more = acts_with e.before u.kernel e.t e.answer; after = e.after }))
+  pub steady : is_global u.protocol ≡ true → g.steady old.store old.dev → g.steady new.store new.dev × AreAmong (g.numbers old.store old.dev) (g.numbers new.store new.dev)
+  pub uncommitted : is_global u.protocol ≡ true → OnOk result ((held up).kernel.commit ≡ (held u).kernel.commit)
+  pub narrows : is_global u.protocol ≡ true → Narrows (g.floor old.store) (g.leaves old.store old.dev) (g.leaves new.store new.dev)
+
+-- what the next event of a process shows
+abbrev pub ShowsNext : {C D : Type 0} → checkpoint.Ghosts C D → C → D → Option Slot → Option Shown → Type 0
+ShowsNext g c dev slot done = (u : Process) → slot ≡ Some (Up u) → IfSome (g.contents c dev) (λ words. done ≡ shown_of (effect_of (event_of (next_of (over u.guest words)) (machine_over u.guest words))) u.kernel.visible)
 
 -- the mark of a turn that process p took, and what all see of it
 pub record Shows {C D : Type 0} (g : checkpoint.Ghosts C D) (c : C) (dev : D) (slot : Option Slot) (p : ℕ) (mark : Mark) (shown : Option Visible) : Type 0 where
   pub done : Option Shown
   pub mark_is : mark ≡ taken_mark done
   pub shown_is : shown ≡ visible_shown p done
-  pub showed : (u : Process) → slot ≡ Some (Up u) → IfSome (g.contents c dev) (λ words. done ≡ shown_of (effect_of (event_of (next_of (over u.guest words)) (machine_over u.guest words))) u.kernel.visible)
+  pub showed : ShowsNext g c dev slot done

@@ -1,5 +1,5 @@
 -- What one entry does to a world of the code.
-use Rattle.std.specs.Prelude.{◌≡◌, ◌≢◌, ◌<◌, ◌+◌, ◌-◌, ◌++◌, ℕ, List, [], ◌∷◌, Option, None, Some, false, slice_get, slice_set}
+use Rattle.std.specs.Prelude.{◌≡◌, ◌≢◌, ◌<◌, ◌+◌, ◌-◌, ◌++◌, ℕ, List, [], ◌∷◌, Option, None, Some, false, true, slice_get, slice_set}
 use Rattle.dc_checkpoint.specs.declared.checkpoint.Checkpoint as checkpoint
 use Rattle.dc_elf.specs.Images.{Image}
 use Rattle.dc_model.specs.declared.entry.Entry.{Entry}
@@ -7,15 +7,17 @@ use Rattle.dc_model.specs.declared.mark.Mark.{Mark}
 use Rattle.dc_model.specs.declared.mark.Mark.TheVariants as marks
 use Rattle.dc_model.specs.declared.visible.Visible.{Visible}
 use Rattle.dc_model.specs.Guests.{Answer}
+use Rattle.dc_model.specs.Process.{comes}
 use Rattle.dc_model.specs.Runs.{own}
 use Rattle.dc_proc.specs.Carried.{system}
 use Rattle.dc_proc.specs.declared.shown.Shown.{Shown}
 use Rattle.dc_protocols.specs.Rules.{is_global}
 use Rattle.dc_recovery.proofs.Given.{IsGiven}
-use Rattle.dc_recovery.specs.Core.{Core}
+use Rattle.dc_recovery.specs.Answers.{rule_at}
+use Rattle.dc_recovery.specs.Core.{Core, stands}
 use Rattle.dc_recovery.specs.Invariant.{Holds}
 use Rattle.dc_recovery.specs.Alone.{MayStopAlone}
-use Rattle.dc_recovery.specs.Parts.{Place}
+use Rattle.dc_recovery.specs.Parts.{Place, may_stop}
 use Rattle.dc_recovery.specs.Parts.Place.{Nowhere}
 use Rattle.dc_recovery.specs.Turned.{Turned, after_turn}
 use Rattle.dc_world.specs.Stages.{IsTold, IsWorld, Stage, memory_of, store_of}
@@ -93,4 +95,20 @@ Fell g old new p a = (images : List Image) (schedule : List Entry) (c : Core) (w
     → Holds (system images old.inputs old.protocol) schedule old.entries c → IsWorld g (system images old.inputs old.protocol) c old → p < (system images old.inputs old.protocol).guests.count
     → IsGiven (system images old.inputs old.protocol).guests c p a
     → (w : Place) × (w ≢ Nowhere) × MayStopAlone (system images old.inputs old.protocol) p (own p c.acts) (c.procs p) a w
+    × IsWorld g (system images old.inputs old.protocol) (after_turn (system images old.inputs old.protocol) old.entries c p a w) new
+
+-- a turn of process p that was answered so and went whole, where all commit together: wherever the run had come to, whatever its guests, the world stands
+-- for the core after it
+abbrev pub WentTogether : {C D : Type 0} → checkpoint.Ghosts C D → Stage C D → Stage C D → ℕ → Answer → Type 0
+WentTogether g old new p a = (images : List Image) (schedule : List Entry) (c : Core) → is_global old.protocol ≡ true → IsTold g old
+    → Holds (system images old.inputs old.protocol) schedule old.entries c → IsWorld g (system images old.inputs old.protocol) c old → p < (system images old.inputs old.protocol).guests.count
+    → IsGiven (system images old.inputs old.protocol).guests c p a
+    → IsWorld g (system images old.inputs old.protocol) (after_turn (system images old.inputs old.protocol) old.entries c p a Nowhere) new
+
+-- one that was stopped in one of its places, as its protocol and its event allow: the world stands for the core that a stop there leaves
+abbrev pub FellTogether : {C D : Type 0} → checkpoint.Ghosts C D → Stage C D → Stage C D → ℕ → Answer → Type 0
+FellTogether g old new p a = (images : List Image) (schedule : List Entry) (c : Core) → is_global old.protocol ≡ true → IsTold g old
+    → Holds (system images old.inputs old.protocol) schedule old.entries c → IsWorld g (system images old.inputs old.protocol) c old → p < (system images old.inputs old.protocol).guests.count
+    → IsGiven (system images old.inputs old.protocol).guests c p a
+    → (w : Place) × (w ≢ Nowhere) × (may_stop (rule_at (system images old.inputs old.protocol) c p a) (comes (system images old.inputs old.protocol).guests (stands (system images old.inputs old.protocol).guests c p) a) a w ≡ true)
     × IsWorld g (system images old.inputs old.protocol) (after_turn (system images old.inputs old.protocol) old.entries c p a w) new

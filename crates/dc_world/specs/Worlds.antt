@@ -1,5 +1,5 @@
 -- A world of the code with the device that is lent to it, and what an entry of a schedule names.
-use Rattle.std.specs.Prelude.{◌≡◌, ◌<◌, ◌+◌, ◌-◌, ◌++◌, ℕ, List, Option, Some, length, take}
+use Rattle.std.specs.Prelude.{◌≡◌, ◌<◌, ◌+◌, ◌-◌, ◌++◌, ℕ, List, Option, Some, length, take, true}
 use Rattle.dc_acts.specs.Lines.{visible_line}
 use Rattle.dc_checkpoint.specs.declared.checkpoint.Checkpoint as checkpoint
 use Rattle.dc_media.specs.Told.{Becomes}
@@ -7,6 +7,8 @@ use Rattle.dc_model.specs.declared.entry.Entry.{Entry}
 use Rattle.dc_model.specs.declared.entry.Entry.TheVariants as entry
 use Rattle.dc_model.specs.declared.mark.Mark.TheVariants as mark
 use Rattle.dc_model.specs.declared.visible.Visible.{Visible}
+use Rattle.dc_protocols.specs.declared.protocol.Protocol.{Protocol}
+use Rattle.dc_recovery.specs.Parts.{is_with}
 use Rattle.dc_world.specs.Stages.{IsReady, Stage, stage_of}
 use Rattle.dc_world.specs.Turns.{GoesOn}
 use Rattle.dc_world.specs.declared.processes.Processes.{Processes}
@@ -30,10 +32,14 @@ IsOfProcesses n (entry.Turn turn) = turn.p < n
 IsOfProcesses n (entry.Stop p) = p < n
 IsOfProcesses n entry.Power = Unit {0}
 
--- an entry is a turn of this process
-abbrev pub IsTurnOf : ℕ → Entry → Type 0
-IsTurnOf p (entry.Turn turn) = turn.p ≡ p
-IsTurnOf p _ = ⊥
+-- of n processes this one takes part in an entry, whose calls of its device are that entry's: it is the process of the turn or, where all commit together, any
+abbrev pub TakesPart : Protocol → ℕ → ℕ → Entry → Type 0
+TakesPart protocol n q (entry.Turn turn) = (is_with protocol turn.p q ≡ true) × (q < n)
+TakesPart protocol n q _ = ⊥
+
+-- it does in an entry of this world
+abbrev pub IsPartOf : {C : Type 0} → World C → ℕ → Entry → Type 0
+IsPartOf w q entry = TakesPart w.processes.protocol (length w.processes.slots.items) q entry
 
 -- its line was cut off: the entry went whole but for a last part of the line, which is not counted
 pub record IsCutOff {C D : Type 0} (g : checkpoint.Ghosts C D) (old new : Stage C D) (entry : Entry) (before after : Option (List ℕ)) : Type 0 where

@@ -2,8 +2,9 @@ ghost use Rattle.std.specs.Prelude.{◌≡◌};
 ghost use Rattle.dc_world.specs.Faults.{fall_answer};
 ghost use Rattle.dc_world.specs.declared.faults.OpenFault.TheVariants as opening;
 
-use dc_kernel::{CheckFault, StoreFault};
+use dc_kernel::StoreFault;
 use dc_model::Mark;
+use dc_twophase::JointFault;
 use std::alloc::AllocError;
 use thiserror::Error;
 
@@ -39,13 +40,13 @@ pub enum TurnFault {
     Sink,
 }
 
-/// What an entry answers where a call of process `p`'s store was refused: a stop is a mark, all else ends the run.
-pub(crate) fn answer_to(fault: CheckFault, p: u32) -> Result<Mark, TurnFault>
-    ensures { result ≡ fall_answer p fault }
+/// What an entry answers where a call of a store was refused: a stop is a mark, all else ends the run.
+pub(crate) fn answer_to(fault: JointFault) -> Result<Mark, TurnFault>
+    ensures { result ≡ fall_answer fault }
 {
     match fault {
-        CheckFault::Stopped => Ok(Mark::Stopped),
-        CheckFault::Failed => Err(TurnFault::Device(p)),
-        CheckFault::Refused(why) => Err(TurnFault::Store(p, why)),
+        JointFault::Stopped(_) => Ok(Mark::Stopped),
+        JointFault::Failed(p) => Err(TurnFault::Device(p)),
+        JointFault::Refused(p, why) => Err(TurnFault::Store(p, why)),
     }
 }

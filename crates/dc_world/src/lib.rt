@@ -5,15 +5,19 @@
 #![tactic(auto)]
 
 mod answering;
+mod committing;
 mod faults;
+mod joint;
 mod opening;
 mod processes;
 mod recovering;
+mod rejoining;
 mod slot;
 mod stopping;
 mod taking;
 #[cfg(test)]
 mod tests;
+mod together;
 mod turning;
 mod world;
 

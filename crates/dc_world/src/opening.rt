@@ -2,6 +2,7 @@
 
 ghost use Rattle.std.specs.Prelude.{◌≡◌, ◌≢◌, ◌<◌, ◌≤◌, ◌+◌, ◌*◌, ◌%◌, ℕ, [], ◌∷◌, ◌++◌, Err, Some, All, IfOk, OnOk, false, true, length, map};
 ghost use Rattle.dc_checkpoint.specs.States.{IsText, form_in, number_in};
+ghost use Rattle.dc_kernel.specs.Layout.{kernel_words};
 ghost use Rattle.dc_kernel.specs.Texts.{text_of};
 ghost use Rattle.dc_media.specs.Causes.{Rose};
 ghost use Rattle.dc_plain.specs.Playing.{lists_of, seen_image};
@@ -9,12 +10,14 @@ ghost use Rattle.dc_proc.specs.Carried.{system};
 ghost use Rattle.dc_proc.specs.Processes.{form_of};
 ghost use Rattle.dc_protocols.specs.Rules.{is_global};
 ghost use Rattle.dc_recovery.specs.Core.{opened_core};
-ghost use Rattle.dc_world.specs.Opened.{AreBegun, CanOpen, IsBegun, IsOpened, IsUpFor, kernel_at, whose};
+ghost use Rattle.dc_recovery.specs.Parts.{is_with};
+ghost use Rattle.dc_world.specs.Opened.{AreAlike, AreBegun, AreMadeFor, CanOpen, IsBegun, IsOpened, IsUpFor, kernel_at, whose};
 ghost use Rattle.dc_world.specs.Stages.{IsReady, IsTold, IsWorld, KeepsTelling, stage_of};
 ghost use Rattle.dc_world.specs.Slots.{is_up, slot_at};
 ghost use Rattle.dc_world.specs.declared.faults.OpenFault.TheVariants as faults;
 
 use crate::faults::OpenFault;
+use crate::joint::Joint;
 use crate::processes::Processes;
 use crate::slot::Slot;
 use crate::world::World;
@@ -22,12 +25,12 @@ use dc_acts::Acts;
 use dc_checkpoint::Checkpoint;
 use dc_elf::Image;
 use dc_guest::Guest;
-use dc_kernel::{Kernel, kernel_words};
+use dc_kernel::{Kernel, Saved, kernel_words};
 use dc_links::Message;
 use dc_media::MakeFault;
 use dc_plain::words_in;
 use dc_proc::Up;
-use dc_protocols::Protocol;
+use dc_protocols::{Protocol, is_global};
 use std::alloc::{AllocError, Global};
 
 /// What a world begins with: an image and the inputs of each process.
@@ -151,9 +154,37 @@ fn acts_for(alloc: Global, entries: u32) -> Result<Acts, AllocError>
     Ok(acts)
 }
 
+/// What a recovery of `n` processes is to fill, for each of the first so many.
+fn saved_for(alloc: Global, n: u32, count: u32) -> Result<Vec<Saved>, AllocError>
+    requires few { (n ≤ 8) × (count ≤ n) }
+    ensures long { IfOk result (λ saved. length saved.items ≡ count) }
+    ensures fit { IfOk result (λ saved. AreMadeFor n saved.items) }
+{
+    let mut saved = Vec::with_capacity(alloc, count as usize)?;
+    for p in 0..count {
+        let kernel = Kernel::new(alloc, n, p)?;
+        saved.push(Saved::new(alloc, kernel)?)?;
+    }
+    Ok(saved)
+}
+
+/// The room of commits and recoveries of `n` processes together; none where each process commits by itself.
+fn joint_for(alloc: Global, protocol: Protocol, n: u32) -> Result<Joint, AllocError>
+    requires few { n ≤ 8 }
+    ensures texts { IfOk result (λ joint. is_global protocol ≡ true → length joint.texts.items ≡ kernel_words n * n) }
+    ensures saved_long { IfOk result (λ joint. is_global protocol ≡ true → length joint.saved.items ≡ n) }
+    ensures saved_fit { IfOk result (λ joint. AreMadeFor n joint.saved.items) }
+{
+    let count = if is_global(protocol) { n } else { 0 };
+    Ok(Joint {
+        texts: vec![in alloc; 0; kernel_words(n) * count as usize]?,
+        saved: saved_for(alloc, n, count)?,
+    })
+}
+
 impl<C: Checkpoint + Drop> World<C> {
     /// Each process at the beginning of its image, over a new store. All room for so many entries is taken here. A process whose store
-    /// was stopped as it was made is down.
+    /// was stopped as it was made is down; where all commit together all are down then.
     pub fn open(
         alloc: Global,
         setup: Setup,
@@ -163,14 +194,15 @@ impl<C: Checkpoint + Drop> World<C> {
         requires some { 0 < length setup.images.items }
         requires few { length setup.images.items ≤ 8 }
         requires inputs { length setup.inputs.items ≡ length setup.images.items }
-        requires alone { is_global setup.protocol ≡ false }
         requires good { All CanOpen setup.images.items }
         requires entries { entries ≤ 1000000 }
         ensures ready { IfOk result (λ w. IsReady C.Checkpoint w.stores.items dev.new w.processes) }
         ensures begins { IfOk result (λ w. IsOpened setup entries w.processes) }
         ensures opened { IfOk result (λ w. IsTold C.Checkpoint (stage_of w.stores.items dev.new w.processes)
             → IsWorld C.Checkpoint (system (map seen_image setup.images.items) (lists_of setup.inputs.items) setup.protocol) (opened_core (λ p. is_up (slot_at w.processes.slots.items p))) (stage_of w.stores.items dev.new w.processes)) }
-        ensures stopped { IfOk result (λ w. (p : ℕ) → p < length setup.images.items → is_up (slot_at w.processes.slots.items p) ≡ false → Rose (C.stops dev.old p) (C.stops dev.new p)) }
+        ensures alike { IfOk result (λ w. is_global setup.protocol ≡ true → AreAlike w.processes.slots.items) }
+        ensures stopped { IfOk result (λ w. (p : ℕ) → p < length setup.images.items → is_up (slot_at w.processes.slots.items p) ≡ false
+            → (q : ℕ) × (q < length setup.images.items) × (is_with setup.protocol p q ≡ true) × Rose (C.stops dev.old q) (C.stops dev.new q)) }
         ensures calm { IfOk result (λ w. (p : ℕ) → p < length setup.images.items → is_up (slot_at w.processes.slots.items p) ≡ true
             → (C.stops dev.new p ≡ C.stops dev.old p) × (C.faults dev.new p ≡ C.faults dev.old p)) }
         ensures failed { (p : ℕ) → result ≡ Err (faults.Failed p) → (p < length setup.images.items) × Rose (C.faults dev.old p) (C.faults dev.new p) }
@@ -180,19 +212,20 @@ impl<C: Checkpoint + Drop> World<C> {
     {
         let acts = acts_for(alloc, entries)?;
         let exposed = vec![in alloc; 0; setup.images.len()]?;
-        let (slots, stores) = begin_each(alloc, setup.protocol, &setup.images, dev)?;
-        Ok(World {
-            processes: Processes {
-                protocol: setup.protocol,
-                slots,
-                inputs: setup.inputs,
-                acts,
-                exposed,
-                lines: 0,
-                entries: 0,
-                left: entries,
-            },
-            stores,
-        })
+        let joint = joint_for(alloc, setup.protocol, setup.images.len() as u32)?;
+        let (slots, mut stores) = begin_each(alloc, setup.protocol, &setup.images, dev)?;
+        let mut processes = Processes {
+            protocol: setup.protocol,
+            slots,
+            inputs: setup.inputs,
+            acts,
+            exposed,
+            lines: 0,
+            entries: 0,
+            left: entries,
+            joint,
+        };
+        processes.fall_together(&mut stores);
+        Ok(World { processes, stores })
     }
 }

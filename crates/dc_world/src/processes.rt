@@ -5,6 +5,7 @@ ghost use Rattle.dc_world.specs.Processes.{IsWell, Learns, LearnsBelow};
 ghost use Rattle.dc_world.specs.Worlds.{counted};
 ghost use Rattle.dc_world.specs.Slots.{IsOf, based_in, have_ended, held_in, is_up, slot_at};
 
+use crate::joint::Joint;
 use crate::slot::Slot;
 use dc_acts::Acts;
 use dc_links::Message;
@@ -27,6 +28,8 @@ pub(crate) struct Processes {
     pub entries: u32,
     /// How many more may be.
     pub left: u32,
+    /// What commits and recoveries of all together write to.
+    pub joint: Joint,
 }
 
 impl Processes {

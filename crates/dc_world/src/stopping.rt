@@ -1,13 +1,15 @@
-//! Stops between turns.
+//! Stops between turns, and before the first.
 
 ghost use Rattle.std.specs.Prelude.{◌≡◌, ◌≢◌, ◌<◌, ℕ, length};
 ghost use Rattle.dc_twophase.specs.Stores.{EachPair};
+ghost use Rattle.dc_world.specs.Opened.{FallTogether};
 ghost use Rattle.dc_world.specs.Processes.{FallsStore, IsWell};
-ghost use Rattle.dc_world.specs.Slots.{Falls, slot_at};
+ghost use Rattle.dc_world.specs.Slots.{Falls, are_up, slot_at};
 
 use crate::processes::Processes;
 use crate::slot::Slot;
 use dc_checkpoint::Checkpoint;
+use dc_protocols::is_global;
 
 impl Processes {
     /// Process `p` falls, where it is up.
@@ -40,6 +42,29 @@ impl Processes {
     {
         for p in 0..self.count() {
             self.stop(p, &mut stores[p as usize]);
+        }
+    }
+    /// Whether every process is up.
+    fn are_up(&self) -> bool
+        ensures { result ≡ are_up self.now.slots.items }
+    {
+        self.slots
+            .iter()
+            .all(|slot| matches!(slot, Some(Slot::Up(_))))
+    }
+
+    /// Where all commit together and one of them is down, all fall.
+    pub fn fall_together<C: Checkpoint>(&mut self, stores: &mut [C])
+        requires well { IsWell self.old }
+        requires stores { length stores.old ≡ length self.old.slots.items }
+        ensures rest { self.new ≡ record self.old { slots = self.new.slots } }
+        ensures long { length self.new.slots.items ≡ length self.old.slots.items }
+        ensures well { IsWell self.new }
+        ensures as_many { length stores.new ≡ length stores.old }
+        ensures together { FallTogether C.Checkpoint self.old.protocol self.old.slots.items self.new.slots.items stores.old stores.new }
+    {
+        if is_global(self.protocol) && !self.are_up() {
+            self.power(stores);
         }
     }
 }

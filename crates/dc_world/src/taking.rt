@@ -33,7 +33,7 @@ fn is_exposed(call: Option<Call>, done: &Option<Shown>) -> bool
 }
 
 /// Hands on what process `p` showed, if it showed something, as a record that all see: the mark of a turn that was taken.
-fn hand_on(done: Option<Shown>, p: u32, shown: &mut Option<Visible>) -> Mark
+pub(crate) fn hand_on(done: Option<Shown>, p: u32, shown: &mut Option<Visible>) -> Mark
     requires nothing { shown.old ≡ None }
     ensures mark { result ≡ taken_mark done }
     ensures shown { shown.new ≡ visible_shown p done }
@@ -48,7 +48,7 @@ fn hand_on(done: Option<Shown>, p: u32, shown: &mut Option<Visible>) -> Mark
 }
 
 /// The process at a place, which is up, takes its next event with this answer, at entry `t`: what it shows. It stays at its place.
-fn take_in<C: Checkpoint>(
+pub(crate) fn take_in<C: Checkpoint>(
     slot: &mut Option<Slot>,
     store: &mut C,
     dev: &mut C::Device,
@@ -73,7 +73,7 @@ fn take_in<C: Checkpoint>(
 
 impl Processes {
     /// Notes the last act of a process as one that others hold it to, where it is one and there was none of it before.
-    fn note_exposed(&mut self, p: u32, acts: u32, exposed: bool)
+    pub fn note_exposed(&mut self, p: u32, acts: u32, exposed: bool)
         requires process { p < length self.old.exposed.items }
         ensures exposed { self.new.exposed.items ≡ (if exposed && nat_lt acts (acts_of p self.old.acts.items) then slice_set self.old.exposed.items p (acts_of p self.old.acts.items) else self.old.exposed.items) }
         ensures rest { self.new ≡ record self.old { exposed = self.new.exposed } }

@@ -12,7 +12,7 @@ mod walk;
 
 use crate::TurnFault;
 use case::{holds, is_read, text, value};
-use cases::{ENTRIES, FAULTS, LOGS, MESSAGES, ROWS, TORN};
+use cases::{ENTRIES, FAULTS, LOGS, MESSAGES, ROWS, TOGETHER, TOGETHER_TORN, TORN};
 use course::{Course, Told};
 use dc_acts::{Acts, write_report};
 use dc_armed::PlannedStop;
@@ -249,6 +249,17 @@ fn torn(rt: HostRuntime) -> Result<(), Fail> {
 #[test]
 fn torn_as_planned(rt: HostRuntime) -> Result<(), Fail> {
     all_armed(rt.alloc(), TORN)
+}
+
+#[test]
+fn together(rt: HostRuntime) -> Result<(), Fail> {
+    all(rt.alloc(), TOGETHER)?;
+    all(rt.alloc(), TOGETHER_TORN)
+}
+
+#[test]
+fn together_as_planned(rt: HostRuntime) -> Result<(), Fail> {
+    all_armed(rt.alloc(), TOGETHER_TORN)
 }
 
 #[test]

@@ -27,7 +27,11 @@ use dc_proc::Up;
 
 /// The call that a process makes next, if its next event is one; or why it does nothing: it has ended, or it is about to send and its
 /// link is full.
-fn next_call<C: Checkpoint>(up: &Up, store: &C, dev: &C::Device) -> Result<Option<Call>, Idle>
+pub(crate) fn next_call<C: Checkpoint>(
+    up: &Up,
+    store: &C,
+    dev: &C::Device,
+) -> Result<Option<Call>, Idle>
     requires fit { IsFit C.Checkpoint up.now store.now dev.now }
     ensures idle { IfErr result (λ idle. IsIdle C.Checkpoint store.now dev.now up.now idle) }
     ensures runs { OnOk result (up.now.guest.ended ≡ false) }

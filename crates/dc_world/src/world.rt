@@ -1,6 +1,6 @@
 //! A world over its stores: one entry of a schedule at a time.
 
-ghost use Rattle.std.specs.Prelude.{◌≡◌, ◌≢◌, ◌<◌, ◌≤◌, ◌+◌, ◌++◌, ◌-◌, ◌^◌, ℕ, IfOk, IfSome, IsErrOf, IsSome, None, Some, OnErr, Ok, Err, Option, length};
+ghost use Rattle.std.specs.Prelude.{◌≡◌, ◌≢◌, ◌<◌, ◌≤◌, ◌+◌, ◌++◌, ◌-◌, ℕ, IfOk, IfSome, IsErrOf, IsSome, None, Some, OnErr, OnOk, Ok, Err, Option, false, true, length};
 ghost use Rattle.dc_acts.specs.Lines.{text_of};
 ghost use Rattle.dc_checkpoint.specs.Calls.{IsCounted};
 ghost use Rattle.dc_kernel.specs.declared.faults.StoreFault as stores;
@@ -9,13 +9,15 @@ ghost use Rattle.dc_media.specs.Sinks.{TakesWhole};
 ghost use Rattle.dc_media.specs.Told.{Becomes, TellsOn};
 ghost use Rattle.dc_model.specs.declared.entry.Entry.TheVariants as entries;
 ghost use Rattle.dc_model.specs.declared.mark.Mark.TheVariants as marks;
+ghost use Rattle.dc_protocols.specs.Rules.{is_global};
 ghost use Rattle.dc_model.specs.declared.visible.Visible.{Visible as Visibles};
 ghost use Rattle.dc_world.specs.Processes.{IsWell};
 ghost use Rattle.dc_world.specs.Stages.{IsReady, KeepsTelling};
 ghost use Rattle.dc_world.specs.Ended.{TellsEnd};
 ghost use Rattle.dc_world.specs.Slots.{have_ended};
 ghost use Rattle.dc_world.specs.Turns.{GoesOn, HasNoRun, later, lines_of};
-ghost use Rattle.dc_world.specs.Worlds.{IsCutOff, IsOfProcesses, IsTurnOf, MayRun, counted, stage_in};
+ghost use Rattle.dc_world.specs.Worlds.{IsCutOff, IsOfProcesses, IsPartOf, MayRun, counted, stage_in};
+ghost use Rattle.dc_twophase.specs.declared.faults.JointFault.TheVariants as joint;
 ghost use Rattle.dc_world.specs.declared.faults.TurnFault.TheVariants as faults;
 
 use crate::faults::{TurnFault, answer_to};
@@ -25,6 +27,8 @@ use dc_checkpoint::Checkpoint;
 use dc_kernel::CheckFault;
 use dc_media::{Sink, SinkFailed, write_whole};
 use dc_model::{Entry, Mark, Turn, Visible};
+use dc_protocols::is_global;
+use dc_twophase::{JointFault, joint_fault};
 
 /// Writes the line of what was shown, if something was. It tells how many whole lines that is.
 fn write_shown<O: Sink>(shown: &Option<Visible>, out: &mut O) -> Result<u32, SinkFailed>
@@ -51,13 +55,14 @@ pub struct World<C: Drop> {
 }
 
 impl<C: Checkpoint + Drop> World<C> {
-    /// A turn of a process: it takes its next event, or recovers where it is down. What it shows is handed on.
-    fn take_turn(
+    /// A turn of a process that commits by itself: it takes its next event, or recovers where it is down. What it shows is handed on.
+    fn turn_alone(
         &mut self,
         turn: &Turn,
         dev: &mut C::Device,
         shown: &mut Option<Visible>,
     ) -> Result<Mark, CheckFault>
+        requires alone { is_global self.old.processes.protocol ≡ false }
         requires ready { MayRun C.Checkpoint self.old dev.old }
         requires left { 0 < self.old.processes.left }
         requires process { turn.now.p < length self.old.processes.slots.items }
@@ -81,7 +86,78 @@ impl<C: Checkpoint + Drop> World<C> {
         self.processes.turn(turn, store, dev, shown)
     }
 
-    /// A stop of a process between turns.
+    /// A turn of a process where all commit together: it takes its next event, or all recover where all are down. What it shows is
+    /// handed on.
+    fn turn_together(
+        &mut self,
+        turn: &Turn,
+        dev: &mut C::Device,
+        shown: &mut Option<Visible>,
+    ) -> Result<Mark, JointFault>
+        requires together { is_global self.old.processes.protocol ≡ true }
+        requires ready { MayRun C.Checkpoint self.old dev.old }
+        requires left { 0 < self.old.processes.left }
+        requires process { turn.now.p < length self.old.processes.slots.items }
+        requires nothing { shown.old ≡ None }
+        ensures ready { IsReady C.Checkpoint self.new.stores.items dev.new (counted self.new.processes) }
+        ensures rest { self.new.processes ≡ record self.old.processes { slots = self.new.processes.slots; acts = self.new.processes.acts; exposed = self.new.processes.exposed; joint = self.new.processes.joint } }
+        ensures long { length self.new.processes.slots.items ≡ length self.old.processes.slots.items }
+        ensures tells { (p : ℕ) → KeepsTelling C.Checkpoint dev.old dev.new p }
+        ensures others { (q : ℕ) → length self.old.processes.slots.items ≤ q → C.untouched dev.old dev.new q }
+        ensures later { (p : ℕ) → (C.stops dev.old p ≤ C.stops dev.new p) × (C.faults dev.old p ≤ C.faults dev.new p) }
+        ensures continues { C.continues dev.old dev.new }
+        ensures stops { (p : ℕ) → IsErrOf result (joint.Stopped p) → (p < length self.old.processes.slots.items) × Rose (C.stops dev.old p) (C.stops dev.new p) }
+        ensures failed { (p : ℕ) → IsErrOf result (joint.Failed p) → (p < length self.old.processes.slots.items) × Rose (C.faults dev.old p) (C.faults dev.new p) }
+        ensures calm { OnOk result ((p : ℕ) → (C.stops dev.new p ≡ C.stops dev.old p) × (C.faults dev.new p ≡ C.faults dev.old p)) }
+        ensures whole { IfOk result (λ mark. mark ≡ marks.Stopped → ⊥) }
+        ensures shows { IfOk result (λ mark. IfSome shown.new (λ visible. mark ≡ marks.Showed visible.k)) }
+        ensures unshown { OnErr result (shown.new ≡ None) }
+        ensures refused { (p : ℕ) (fault : stores.StoreFault) → IsErrOf result (joint.Refused p fault) → HasNoRun C.Checkpoint (stage_in self.old dev.old) (later 0 (stage_in self.new dev.new)) }
+        ensures turned { IfOk result (λ mark. GoesOn C.Checkpoint (stage_in self.old dev.old) (later (length (lines_of shown.new)) (stage_in self.new dev.new)) (entries.Turn turn.now) mark shown.new) }
+        ensures stopped { OnErr result (GoesOn C.Checkpoint (stage_in self.old dev.old) (later 0 (stage_in self.new dev.new)) (entries.Turn turn.now) marks.Stopped None) }
+    {
+        self.processes
+            .turn_together(turn, &mut self.stores, dev, shown)
+    }
+
+    /// A turn of a process: it takes its next event, or recovers where it is down. What it shows is handed on.
+    fn take_turn(
+        &mut self,
+        turn: &Turn,
+        dev: &mut C::Device,
+        shown: &mut Option<Visible>,
+    ) -> Result<Mark, JointFault>
+        requires ready { MayRun C.Checkpoint self.old dev.old }
+        requires left { 0 < self.old.processes.left }
+        requires process { turn.now.p < length self.old.processes.slots.items }
+        requires nothing { shown.old ≡ None }
+        ensures ready { IsReady C.Checkpoint self.new.stores.items dev.new (counted self.new.processes) }
+        ensures rest { self.new.processes ≡ record self.old.processes { slots = self.new.processes.slots; acts = self.new.processes.acts; exposed = self.new.processes.exposed; joint = self.new.processes.joint } }
+        ensures long { length self.new.processes.slots.items ≡ length self.old.processes.slots.items }
+        ensures tells { (p : ℕ) → KeepsTelling C.Checkpoint dev.old dev.new p }
+        ensures others { (q : ℕ) → (IsPartOf self.old q (entries.Turn turn.now) → ⊥) → C.untouched dev.old dev.new q }
+        ensures later { (p : ℕ) → (C.stops dev.old p ≤ C.stops dev.new p) × (C.faults dev.old p ≤ C.faults dev.new p) }
+        ensures continues { C.continues dev.old dev.new }
+        ensures stops { (p : ℕ) → IsErrOf result (joint.Stopped p) → IsPartOf self.old p (entries.Turn turn.now) × Rose (C.stops dev.old p) (C.stops dev.new p) }
+        ensures failed { (p : ℕ) → IsErrOf result (joint.Failed p) → IsPartOf self.old p (entries.Turn turn.now) × Rose (C.faults dev.old p) (C.faults dev.new p) }
+        ensures calm { OnOk result ((p : ℕ) → IsPartOf self.old p (entries.Turn turn.now) → (C.stops dev.new p ≡ C.stops dev.old p) × (C.faults dev.new p ≡ C.faults dev.old p)) }
+        ensures whole { IfOk result (λ mark. mark ≡ marks.Stopped → ⊥) }
+        ensures shows { IfOk result (λ mark. IfSome shown.new (λ visible. mark ≡ marks.Showed visible.k)) }
+        ensures unshown { OnErr result (shown.new ≡ None) }
+        ensures refused { (p : ℕ) (fault : stores.StoreFault) → IsErrOf result (joint.Refused p fault) → HasNoRun C.Checkpoint (stage_in self.old dev.old) (later 0 (stage_in self.new dev.new)) }
+        ensures turned { IfOk result (λ mark. GoesOn C.Checkpoint (stage_in self.old dev.old) (later (length (lines_of shown.new)) (stage_in self.new dev.new)) (entries.Turn turn.now) mark shown.new) }
+        ensures stopped { OnErr result (GoesOn C.Checkpoint (stage_in self.old dev.old) (later 0 (stage_in self.new dev.new)) (entries.Turn turn.now) marks.Stopped None) }
+    {
+        if is_global(self.processes.protocol) {
+            return self.turn_together(turn, dev, shown);
+        }
+        match self.turn_alone(turn, dev, shown) {
+            Ok(mark) => Ok(mark),
+            Err(fault) => Err(joint_fault(turn.p, fault)),
+        }
+    }
+
+    /// A stop of a process between turns; where all commit together all fall.
     fn stop(&mut self, p: u32)
         requires well { IsWell self.old.processes }
         requires process { p < length self.old.processes.slots.items }
@@ -91,7 +167,10 @@ impl<C: Checkpoint + Drop> World<C> {
         ensures long { length self.new.processes.slots.items ≡ length self.old.processes.slots.items }
         ensures turned { (dev : C.Device) → MayRun C.Checkpoint self.old dev → 0 < self.old.processes.left → GoesOn C.Checkpoint (stage_in self.old dev) (later 0 (stage_in self.new dev)) (entries.Stop p) marks.Marked None }
     {
-        self.processes.stop(p, &mut self.stores[p as usize]);
+        if !is_global(self.processes.protocol) {
+            return self.processes.stop(p, &mut self.stores[p as usize]);
+        }
+        self.power();
     }
 
     /// A failure of the power.
@@ -118,15 +197,15 @@ impl<C: Checkpoint + Drop> World<C> {
         requires process { IsOfProcesses (length self.old.processes.slots.items) entry.now }
         requires nothing { shown.old ≡ None }
         ensures ready { IsReady C.Checkpoint self.new.stores.items dev.new (counted self.new.processes) }
-        ensures rest { self.new.processes ≡ record self.old.processes { slots = self.new.processes.slots; acts = self.new.processes.acts; exposed = self.new.processes.exposed } }
+        ensures rest { self.new.processes ≡ record self.old.processes { slots = self.new.processes.slots; acts = self.new.processes.acts; exposed = self.new.processes.exposed; joint = self.new.processes.joint } }
         ensures long { length self.new.processes.slots.items ≡ length self.old.processes.slots.items }
         ensures tells { (p : ℕ) → KeepsTelling C.Checkpoint dev.old dev.new p }
-        ensures others { (q : ℕ) → (IsTurnOf q entry.now → ⊥) → C.untouched dev.old dev.new q }
+        ensures others { (q : ℕ) → (IsPartOf self.old q entry.now → ⊥) → C.untouched dev.old dev.new q }
         ensures later { (p : ℕ) → (C.stops dev.old p ≤ C.stops dev.new p) × (C.faults dev.old p ≤ C.faults dev.new p) }
         ensures continues { C.continues dev.old dev.new }
-        ensures stopped { IfOk result (λ mark. mark ≡ marks.Stopped → (p : ℕ) × IsTurnOf p entry.now × Rose (C.stops dev.old p) (C.stops dev.new p)) }
-        ensures calm { IfOk result (λ mark. (mark ≡ marks.Stopped → ⊥) → (p : ℕ) → IsTurnOf p entry.now → (C.stops dev.new p ≡ C.stops dev.old p) × (C.faults dev.new p ≡ C.faults dev.old p)) }
-        ensures device { (p : ℕ) → IsErrOf result (faults.Device p) → IsTurnOf p entry.now × Rose (C.faults dev.old p) (C.faults dev.new p) }
+        ensures stopped { IfOk result (λ mark. mark ≡ marks.Stopped → (p : ℕ) × IsPartOf self.old p entry.now × Rose (C.stops dev.old p) (C.stops dev.new p)) }
+        ensures calm { IfOk result (λ mark. (mark ≡ marks.Stopped → ⊥) → (p : ℕ) → IsPartOf self.old p entry.now → (C.stops dev.new p ≡ C.stops dev.old p) × (C.faults dev.new p ≡ C.faults dev.old p)) }
+        ensures device { (p : ℕ) → IsErrOf result (faults.Device p) → IsPartOf self.old p entry.now × Rose (C.faults dev.old p) (C.faults dev.new p) }
         ensures store { (p : ℕ) (fault : stores.StoreFault) → IsErrOf result (faults.Store p fault) → HasNoRun C.Checkpoint (stage_in self.old dev.old) (later 0 (stage_in self.new dev.new)) }
         ensures sink { IsErrOf result faults.Sink → ⊥ }
         ensures shows { IfOk result (λ mark. IfSome shown.new (λ visible. mark ≡ marks.Showed visible.k)) }
@@ -137,7 +216,7 @@ impl<C: Checkpoint + Drop> World<C> {
         match *entry {
             Entry::Turn(turn) => match self.take_turn(&turn, dev, shown) {
                 Ok(mark) => Ok(mark),
-                Err(fault) => answer_to(fault, turn.p),
+                Err(fault) => answer_to(fault),
             },
             Entry::Stop(p) => {
                 self.stop(p);
@@ -152,9 +231,9 @@ impl<C: Checkpoint + Drop> World<C> {
 
     /// Runs one entry: what it did. The line of what it shows is written once the entry is done.
     ///
-    /// A stop of a device is no fault: its process is down then, and the entry is marked stopped. After a fault the world is given up
-    /// but for its reads. They tell the core after one entry more: one that was stopped, where a device failed or a store was refused;
-    /// one that went whole, where the output failed, though `lines` counts whole lines alone.
+    /// A stop of a device is no fault: its process is down then, or all are where all commit together, and the entry is marked stopped.
+    /// After a fault the world is given up but for its reads. They tell the core after one entry more: one that was stopped, where a
+    /// device failed or a store was refused; one that went whole, where the output failed, though `lines` counts whole lines alone.
     pub fn turn<O: Sink>(
         &mut self,
         entry: &Entry,
@@ -170,14 +249,14 @@ impl<C: Checkpoint + Drop> World<C> {
         ensures setting { (self.new.processes.protocol ≡ self.old.processes.protocol) × (self.new.processes.inputs ≡ self.old.processes.inputs) }
         ensures long { length self.new.processes.slots.items ≡ length self.old.processes.slots.items }
         ensures tells { (p : ℕ) → KeepsTelling C.Checkpoint dev.old dev.new p }
-        ensures others { (q : ℕ) → (IsTurnOf q entry.now → ⊥) → C.untouched dev.old dev.new q }
+        ensures others { (q : ℕ) → (IsPartOf self.old q entry.now → ⊥) → C.untouched dev.old dev.new q }
         ensures later { (p : ℕ) → (C.stops dev.old p ≤ C.stops dev.new p) × (C.faults dev.old p ≤ C.faults dev.new p) }
         ensures continues { C.continues dev.old dev.new }
         ensures out_tells { TellsOn 0 (O.faults out.new) (O.held out.old) (O.held out.new) }
         ensures out_later { O.faults out.old ≤ O.faults out.new }
-        ensures stopped { IfOk result (λ mark. mark ≡ marks.Stopped → (p : ℕ) × IsTurnOf p entry.now × Rose (C.stops dev.old p) (C.stops dev.new p)) }
-        ensures calm { IfOk result (λ mark. (mark ≡ marks.Stopped → ⊥) → (p : ℕ) → IsTurnOf p entry.now → (C.stops dev.new p ≡ C.stops dev.old p) × (C.faults dev.new p ≡ C.faults dev.old p)) }
-        ensures device { (p : ℕ) → IsErrOf result (faults.Device p) → IsTurnOf p entry.now × Rose (C.faults dev.old p) (C.faults dev.new p) }
+        ensures stopped { IfOk result (λ mark. mark ≡ marks.Stopped → (p : ℕ) × IsPartOf self.old p entry.now × Rose (C.stops dev.old p) (C.stops dev.new p)) }
+        ensures calm { IfOk result (λ mark. (mark ≡ marks.Stopped → ⊥) → (p : ℕ) → IsPartOf self.old p entry.now → (C.stops dev.new p ≡ C.stops dev.old p) × (C.faults dev.new p ≡ C.faults dev.old p)) }
+        ensures device { (p : ℕ) → IsErrOf result (faults.Device p) → IsPartOf self.old p entry.now × Rose (C.faults dev.old p) (C.faults dev.new p) }
         ensures store { (p : ℕ) (fault : stores.StoreFault) → IsErrOf result (faults.Store p fault) → HasNoRun C.Checkpoint (stage_in self.old dev.old) (stage_in self.new dev.new) }
         ensures failed { OnErr result ((result ≡ Err faults.Sink → ⊥) → GoesOn C.Checkpoint (stage_in self.old dev.old) (stage_in self.new dev.new) entry.now marks.Stopped None × (out.new ≡ out.old)) }
         ensures sink { IsErrOf result faults.Sink → Rose (O.faults out.old) (O.faults out.new) × IsCutOff C.Checkpoint (stage_in self.old dev.old) (stage_in self.new dev.new) entry.now (O.held out.old) (O.held out.new) }

@@ -92,6 +92,16 @@ marks=sssmxxrssssss0ss1
 turns=7 8 9 10 11 12 13 14 15 16
 whole=2
 ending=Done
+* a planned stop of another process in a commit of both
+protocol=cbndv-2pc
+guests=clock hi
+schedule=3 x 1 0 65, 7 x 0 0 65, 8 x 0 0 66, 7 x 1 0 66, 3 x 0 0 66
+stops=9 1 1 0
+lines=out 0 0 42~out 1 0 6869~end 1 1 0~end 0 1 0~
+marks=sssssssssxrssssss0sss0ss1ss1
+turns=11 12 13 14 15 16 17 18 19 20 21 22 23 24 25 26 27
+whole=4
+ending=Done
 * a message that is sent once more
 guests=sender teller
 schedule=5 x 0 0 0, 4 x 1 0 0, stop 0, 2 x 0 0 0, 10 x 1 0 0, 3 x 0 0 0
@@ -130,5 +140,15 @@ lines=out 0 0 6869~end 0 1 0~
 marks=rsss0ss1
 turns=1 2 3 4 5 6 7
 whole=2
+ending=Done
+* a store that is stopped as it is made, of processes that fall together
+protocol=cbndv-2pc
+guests=hi hi
+schedule=8 x 1 0 0, 7 x 0 0 0
+refused=stopped 1
+lines=out 1 0 6869~end 1 1 0~out 0 0 6869~end 0 1 0~
+marks=rsss0ss1sss0ss1
+turns=1 2 3 4 5 6 7 8 9 10 11 12 13 14
+whole=4
 ending=Done
 ";

@@ -1,7 +1,6 @@
 //! What a case begins with: its guests, and its schedule.
 
-ghost use Rattle.std.specs.Prelude.{◌≡◌, ◌<◌, ◌≤◌, All, IfOk, false, length, true};
-ghost use Rattle.dc_protocols.specs.Rules.{is_global};
+ghost use Rattle.std.specs.Prelude.{◌≡◌, ◌<◌, ◌≤◌, All, IfOk, length, true};
 ghost use Rattle.dc_world.specs.Opened.{CanOpen};
 ghost use Rattle.dc_world.specs.Worlds.{IsOfProcesses};
 
@@ -55,12 +54,11 @@ fn images(alloc: Global, names: &str) -> Result<Vec<Image>, Fail>
 }
 
 /// The protocol of a name.
-fn protocol(name: &str) -> Result<Protocol, Fail>
-    ensures { IfOk result (λ protocol. is_global protocol ≡ false) }
-{
+fn protocol(name: &str) -> Result<Protocol, Fail> {
     match name {
         "cand" => Ok(Protocol::Cand),
         "cpvs" => Ok(Protocol::Cpvs),
+        "cbndv-2pc" => Ok(Protocol::Cbndv2pc),
         _ => Err(Fail::new(name)),
     }
 }
@@ -70,7 +68,6 @@ pub fn setup(alloc: Global, case: &str) -> Result<Setup, Fail>
     ensures some { IfOk result (λ setup. 0 < length setup.images.items) }
     ensures few { IfOk result (λ setup. length setup.images.items ≤ 8) }
     ensures inputs { IfOk result (λ setup. length setup.inputs.items ≡ length setup.images.items) }
-    ensures alone { IfOk result (λ setup. is_global setup.protocol ≡ false) }
     ensures good { IfOk result (λ setup. All CanOpen setup.images.items) }
 {
     let protocol = protocol(value(case, "protocol", "cpvs"))?;

@@ -10,6 +10,7 @@ mod runs;
 mod schedules;
 mod sources;
 mod stops;
+mod together;
 
 pub use answers::ANSWERS;
 pub use calls::CALLS;
@@ -21,3 +22,4 @@ pub use runs::RUNS;
 pub use schedules::{LONG, SCHEDULES, TOO_LONG};
 pub use sources::SOURCES;
 pub use stops::STOPS;
+pub use together::{COMMITTED_TOGETHER, DECIDED_TOGETHER, RECOVERED_TOGETHER, TOGETHER};

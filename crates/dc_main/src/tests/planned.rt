@@ -19,10 +19,11 @@ fn front(alloc: Global, text: &str, count: usize) -> Result<String, AllocError> 
     Ok(front)
 }
 
-/// How many calls the device of a process takes in a run of the case through its first entries, without planned stops.
-fn made(alloc: Global, case: &str, entries: usize, process: u32) -> Result<u64, Fail> {
+/// How many calls the device of a process takes in a run of the case by this plan, through its first entries.
+fn made(alloc: Global, case: &str, plan: &str, entries: usize, process: u32) -> Result<u64, Fail> {
     let schedule = front(alloc, &schedule(alloc, case)?, entries)?;
-    let mut library = files(alloc, case, plan(alloc, case)?, schedule)?;
+    let plan = String::from_str(alloc, plan)?;
+    let mut library = files(alloc, case, plan, schedule)?;
     let mut keeps = MemKeeps::new(alloc, Vec::new(alloc))?;
     let mut out = MemSink::new(alloc, 100_000, Vec::new(alloc))?;
     let mut report = MemSink::new(alloc, 100_000, Vec::new(alloc))?;
@@ -35,35 +36,73 @@ fn made(alloc: Global, case: &str, entries: usize, process: u32) -> Result<u64, 
         &mut out,
         &mut report,
     )?;
-    holds(outcome.did == Did::Run, case, "a run without stops")?;
+    holds(outcome.did == Did::Run, case, "a run by this plan")?;
     Ok(keeps.calls(process))
 }
 
-/// The number of the last call that a process makes in a turn.
-fn last(alloc: Global, case: &str, stop: &str) -> Result<u64, Fail> {
+/// The number of a call of a stop's turn: `last` is the last one that its process makes in a run by this plan, `last-1` the one before.
+fn call_of(alloc: Global, case: &str, plan: &str, stop: &str, call: &str) -> Result<u64, Fail> {
+    let Some(back) = call.strip_prefix("last") else {
+        return Ok(call.parse::<u64>()?);
+    };
     let mut words = stop.split_whitespace();
     let turn = words.next().unwrap_or("").parse::<usize>()?;
     let process = words.next().unwrap_or("").parse::<u32>()?;
-    let before = made(alloc, case, turn, process)?;
-    let after = made(alloc, case, turn.saturating_add(1), process)?;
-    Ok(after.saturating_sub(before))
+    let before = made(alloc, case, plan, turn, process)?;
+    let after = made(alloc, case, plan, turn.saturating_add(1), process)?;
+    let back = back.strip_prefix("-").unwrap_or("0").parse::<u64>()?;
+    Ok(after.saturating_sub(before).saturating_sub(back))
 }
 
-/// A planned stop as a table of a plan: turn, process, call and what it keeps. A call `last` is the last of the turn.
-fn stop(alloc: Global, case: &str, stop: &str, table: &mut String) -> Result<(), Fail> {
-    table.push_str("[[stop]]\n")?;
+/// Adds a planned stop to a plan, as a table: turn, process, call and what it keeps.
+fn add_stop(alloc: Global, case: &str, stop: &str, plan: &mut String) -> Result<(), Fail> {
+    let mut table = String::from_str(alloc, "[[stop]]\n")?;
     for (key, word) in ["turn", "process", "call", "keep"]
         .iter()
         .zip(stop.split_whitespace())
     {
-        let line = if word == "last" {
-            format!(in alloc; "{key} = {}\n", last(alloc, case, stop)?)?
-        } else {
-            format!(in alloc; "{key} = {word}\n")?
-        };
-        table.push_str(&line)?;
+        let number = call_of(alloc, case, plan, stop, word)?;
+        table.push_str(&format!(in alloc; "{key} = {number}\n")?)?;
     }
+    plan.push_str(&table)?;
     Ok(())
+}
+
+/// The plan of a case with its planned stops.
+fn planned(alloc: Global, case: &str, stops: &str) -> Result<String, Fail> {
+    let mut plan = plan(alloc, case)?;
+    for stop in stops.split(", ") {
+        if !stop.is_empty() {
+            add_stop(alloc, case, stop, &mut plan)?;
+        }
+    }
+    Ok(plan)
+}
+
+/// The calls of a turn that the last stop of a case is tried at: the word `FROM..TO` that names them, and its two numbers.
+#[derive(Clone, Copy, Drop)]
+pub struct Calls<'a> {
+    pub word: &'a str,
+    pub from: u64,
+    pub to: u64,
+}
+
+/// These calls, if the case says a span of them.
+pub fn stopped_calls<'a>(alloc: Global, case: &'a str) -> Result<Option<Calls<'a>>, Fail> {
+    let stops = value(case, "stops", "");
+    let (before, stop) = stops.rsplit_once(", ").unwrap_or(("", stops));
+    let Some(word) = stop.split_whitespace().nth(2) else {
+        return Ok(None);
+    };
+    let Some((from, to)) = word.split_once("..") else {
+        return Ok(None);
+    };
+    let plan = planned(alloc, case, before)?;
+    Ok(Some(Calls {
+        word,
+        from: call_of(alloc, case, &plan, stop, from)?,
+        to: call_of(alloc, case, &plan, stop, to)?,
+    }))
 }
 
 /// The files of a case.
@@ -71,12 +110,7 @@ pub fn library(alloc: Global, case: &str) -> Result<MemLibrary, Fail> {
     if value(case, "words", "").starts_with("dc asm") {
         return source(alloc, case);
     }
-    let mut plan = plan(alloc, case)?;
-    for text in value(case, "stops", "").split(", ") {
-        if !text.is_empty() {
-            stop(alloc, case, text, &mut plan)?;
-        }
-    }
+    let plan = planned(alloc, case, value(case, "stops", ""))?;
     files(alloc, case, plan, schedule(alloc, case)?)
 }
 
@@ -102,7 +136,10 @@ pub fn refused(alloc: Global, case: &str) -> Result<Vec<ListedCall>, Fail> {
         return Ok(Vec::new(alloc));
     };
     let call = match call.strip_prefix("after ") {
-        Some(entries) => made(alloc, case, entries.parse::<usize>()?, 0)?.saturating_add(1),
+        Some(entries) => {
+            let plan = plan(alloc, case)?;
+            made(alloc, case, &plan, entries.parse::<usize>()?, 0)?.saturating_add(1)
+        }
         None => call.parse::<u64>()?,
     };
     match how {

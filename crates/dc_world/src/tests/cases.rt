@@ -36,6 +36,72 @@ turns=0-5 14-16
 close=close 0 17 9 5
 ";
 
+/// Runs where all processes commit, fall and recover together.
+pub const TOGETHER: &str = "\
+* no commit between two lines
+protocol=cbndv-2pc
+guests=twice
+schedule=6 x 0 0 0, stop 0, 10 x 0 0 0
+lines=out 0 0 6869~out 0 1 6869~out 0 0 6869~out 0 1 6869~end 0 2 0~
+marks=7 Recovered(0)
+turns=0-5 14-16
+close=close 0 17 9 5
+* a stop of one process fells the other
+protocol=cbndv-2pc
+guests=hi hi
+schedule=4 x 0 0 0, stop 1, 8 x 0 0 0, 7 x 1 0 0
+lines=out 0 0 6869~out 0 0 6869~end 0 1 0~out 1 0 6869~end 1 1 0~
+marks=4 Marked, 5 Recovered(0), 9 Showed(0)
+close=close 0 20 14 5
+";
+
+/// Stops within a turn of theirs.
+pub const TOGETHER_TORN: &str = "\
+* the last call of a prepare, kept
+protocol=cpv-2pc
+guests=clock hi
+schedule=7 x 0 0 65, 11 x 0 0 66
+stops=6 1 L-2 1
+lines=out 0 0 42~end 0 1 0~
+marks=6 Stopped, 7 Recovered(0)
+close=close 1 18 10 2
+* the first call of a finish, kept back
+protocol=cpv-2pc
+guests=clock hi
+schedule=7 x 0 0 65, 11 x 0 0 66
+stops=6 1 L-1 0
+lines=out 0 0 41~end 0 1 0~
+marks=6 Stopped, 7 Recovered(6)
+close=close 1 18 10 2
+* each call of a prepare, kept back
+pages=1
+protocol=cpv-2pc
+guests=clock hi
+schedule=7 x 0 0 65, 11 x 0 0 66
+stops=6 1 1..L-2 0
+lines=out 0 0 42~end 0 1 0~
+marks=6 Stopped, 7 Recovered(0)
+close=close 1 18 10 2
+* each call of a finish, kept
+pages=1
+protocol=cpv-2pc
+guests=clock hi
+schedule=7 x 0 0 65, 11 x 0 0 66
+stops=6 1 L-1..L 1
+lines=out 0 0 41~end 0 1 0~
+marks=6 Stopped, 7 Recovered(6)
+close=close 1 18 10 2
+* each call of a recovery of both
+pages=1
+protocol=cpv-2pc
+guests=clock hi
+schedule=7 x 0 0 65, stop 0, 2 x 0 0 65, 11 x 0 0 66
+stops=8 1 1..L 0
+lines=out 0 0 41~out 0 0 41~end 0 1 0~
+marks=7 Marked, 8 Stopped, 9 Recovered(6)
+close=close 1 21 10 3
+";
+
 /// Stops within a turn.
 pub const TORN: &str = "\
 * the first call of a commit, kept back

@@ -14,6 +14,10 @@ use std::test::Fail;
 /// Two processes, of which each takes a turn.
 const TWO: &str = "two\npages=1\nguests=hi clock\nschedule=1 0 0, 0 0 0\n";
 
+/// The same where both commit together, in the other order.
+const TOGETHER: &str =
+    "together\npages=1\nprotocol=cpv-2pc\nguests=hi clock\nschedule=0 0 0, 1 0 0\n";
+
 /// Memory that refuses a call of a process.
 fn refusing(alloc: Global, process: u32, call: u64, fault: DeviceFault) -> Result<MemKeeps, Fail> {
     let tear = Tear {
@@ -48,15 +52,16 @@ fn fails(alloc: Global, p: u32, call: u64) -> Result<(), Fail> {
     }
 }
 
-/// After a stop at a call of the making of process 1 it is down, and process 0 is up.
-fn stops(alloc: Global, call: u64) -> Result<(), Fail> {
+/// After a stop at a call of the making of process 1 it is down, and process 0 is up; where both commit together both are down. So the
+/// first turn recovers, and the second one steps.
+fn stops(alloc: Global, case: &str, call: u64) -> Result<(), Fail> {
     let mut keeps = refusing(alloc, 1, call, DeviceFault::Stopped)?;
     let mut out = MemSink::new(alloc, 100, Vec::new(alloc))?;
-    let entries = schedule(alloc, TWO)?;
-    let course = taken::<Segment<MemKeeps>, MemSink>(alloc, TWO, &entries, &mut keeps, &mut out)?;
-    holds(!course.world.ended(), TWO, "ended")?;
+    let entries = schedule(alloc, case)?;
+    let course = taken::<Segment<MemKeeps>, MemSink>(alloc, case, &entries, &mut keeps, &mut out)?;
+    holds(!course.world.ended(), case, "ended")?;
     let want = [Ok(Mark::Recovered(0)), Ok(Mark::Stepped)];
-    holds(course.told.as_slice() == want.as_slice(), TWO, "the marks")
+    holds(course.told.as_slice() == want.as_slice(), case, "the marks")
 }
 
 #[test]
@@ -66,7 +71,8 @@ fn a_making_may_be_refused(rt: HostRuntime) -> Result<(), Fail> {
         for call in [1, 2, last.saturating_sub(1), last] {
             fails(rt.alloc(), p, call)?;
             if p == 1 {
-                stops(rt.alloc(), call)?;
+                stops(rt.alloc(), TWO, call)?;
+                stops(rt.alloc(), TOGETHER, call)?;
             }
         }
     }

@@ -1,8 +1,7 @@
 //! What a case begins with: its guests, their inputs, and its schedule.
 
-ghost use Rattle.std.specs.Prelude.{◌≡◌, ◌<◌, ◌≤◌, All, IfOk, false, length};
+ghost use Rattle.std.specs.Prelude.{◌≡◌, ◌<◌, ◌≤◌, All, IfOk, length};
 ghost use Rattle.dc_plain.specs.Playing.{CanStart};
-ghost use Rattle.dc_protocols.specs.Rules.{is_global};
 ghost use Rattle.dc_world.specs.Opened.{CanOpen};
 
 use crate::Setup;
@@ -14,16 +13,16 @@ use dc_protocols::Protocol;
 use std::alloc::Global;
 use std::test::Fail;
 
-/// The protocol of a name, where its commits are of one process.
-fn protocol(name: &str) -> Result<Protocol, Fail>
-    ensures { IfOk result (λ protocol. is_global protocol ≡ false) }
-{
+/// The protocol of a name.
+fn protocol(name: &str) -> Result<Protocol, Fail> {
     match name {
         "cand" => Ok(Protocol::Cand),
         "cand-log" => Ok(Protocol::CandLog),
         "cpvs" => Ok(Protocol::Cpvs),
         "cbndvs" => Ok(Protocol::Cbndvs),
         "cbndvs-log" => Ok(Protocol::CbndvsLog),
+        "cpv-2pc" => Ok(Protocol::Cpv2pc),
+        "cbndv-2pc" => Ok(Protocol::Cbndv2pc),
         _ => Err(Fail::new(name)),
     }
 }
@@ -57,7 +56,6 @@ pub fn setup(alloc: Global, case: &str) -> Result<Setup, Fail>
     ensures some { IfOk result (λ setup. 0 < length setup.images.items) }
     ensures few { IfOk result (λ setup. length setup.images.items ≤ 8) }
     ensures inputs { IfOk result (λ setup. length setup.inputs.items ≡ length setup.images.items) }
-    ensures alone { IfOk result (λ setup. is_global setup.protocol ≡ false) }
     ensures good { IfOk result (λ setup. All CanOpen setup.images.items) }
     ensures start { IfOk result (λ setup. All CanStart setup.images.items) }
 {

@@ -65,11 +65,12 @@ fn calls(
     Ok((before, all.saturating_sub(before)))
 }
 
-/// The number of a call, where a turn makes so many: it, or `L` for the last, or `L-1`.
+/// The number of a call, where a turn makes so many: it, or `L` for the last, or `L-1` and `L-2`.
 fn number(word: &str, last: u64) -> Result<u64, Fail> {
     match word {
         "L" => Ok(last),
         "L-1" => Ok(last.saturating_sub(1)),
+        "L-2" => Ok(last.saturating_sub(2)),
         _ => Ok(word.parse::<u64>()?),
     }
 }

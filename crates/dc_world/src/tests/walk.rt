@@ -188,7 +188,7 @@ fn walked(alloc: Global, protocol: &str, seed: u64) -> Result<(), Fail> {
 
 #[test]
 fn walks(rt: HostRuntime) -> Result<(), Fail> {
-    for protocol in "cand cpvs cbndvs cand-log cbndvs-log".split_whitespace() {
+    for protocol in "cand cpvs cbndvs cand-log cbndvs-log cpv-2pc cbndv-2pc".split_whitespace() {
         walked(rt.alloc(), protocol, 1)?;
         walked(rt.alloc(), protocol, 2)?;
     }

@@ -1,13 +1,14 @@
-use Rattle.std.proofs.Common.{◌≡◌, ◌∙◌, ◌≤◌, ◌<◌, ◌+◌, ◌-◌, ◌^◌, ◌||◌, ℕ, Bool, true, false, Err, ap, arith, length, nat_le, refl, reverse, subst, sym}
-use Rattle.std.proofs.lemmas.Bool.{le-leb, lt-leb}
+use Rattle.std.proofs.Common.{◌≡◌, ◌∙◌, ◌≤◌, ◌<◌, ◌+◌, ◌-◌, ◌^◌, ℕ, Bool, true, false, Err, ap, arith, length, refl, reverse, subst, sym}
 use Rattle.std.proofs.lemmas.List.{length-map}
 use Rattle.dc_course.proofs.Between.{tells_on}
+use Rattle.dc_course.proofs.Counting.{sum_later, sum_rises}
+use Rattle.dc_course.proofs.Ups.{up_in, up_past, up_there, up_together}
 use Rattle.dc_course.proofs.Steps.{now_world}
 use Rattle.dc_course.proofs.Whole.{course_is, ending_broken, ending_whole, opened_running, told_at, up_as}
-use Rattle.dc_course.specs.Headline.{IsCalledOn, IsEnding, Last, PlannedCome, Setting, StopsCome, StopsTold, late, system_in, unplanned}
+use Rattle.dc_course.specs.Headline.{AreUpAlike, IsCalledOn, IsEnding, Last, PlannedCome, Setting, StopsCome, StopsTold, counted_with, late, system_in, unplanned}
 use Rattle.dc_course.specs.Headline.Last.{Whole}
 use Rattle.dc_course.specs.Courses.{IsCourse, StoresLeft, TellsThroughout, account_of, counts_of, setting_of}
-use Rattle.dc_course.specs.Running.{IsEnded, IsRunning, moment_of, output}
+use Rattle.dc_course.specs.Running.{IsEnded, IsRunning, IsSettingOf, moment_of, output}
 use Rattle.dc_course.specs.declared.course.Course.{Course}
 use Rattle.dc_course.specs.declared.ending.Ending.{Ending}
 use Rattle.dc_guest.specs.Guest.{guests_of}
@@ -42,16 +43,21 @@ given g c = setting_of c.args.setup c.args.schedule.now (g.C.Planned.planned c.a
 
 -- which processes are up when it begins
 abbrev up : (g : Over) → goal.After-course g → ℕ → Bool
-up g c p = nat_le (length c.args.setup.images.items) p || is_up (slot_at c.in-Ok.world.processes.slots.items p)
+up g c = up_in c.args.setup.protocol (length c.args.setup.images.items) c.in-Ok.world.processes.slots.items
 
 -- of a process that is there
 up_is : (g : Over) (c : goal.After-course g) (p : ℕ) → p < length c.args.setup.images.items → up g c p ≡ is_up (slot_at c.in-Ok.world.processes.slots.items p)
-up_is g c p less = ap (λ b. b || is_up (slot_at c.in-Ok.world.processes.slots.items p)) (lt-leb (length c.args.setup.images.items) p less)
+up_is g c p less = up_there c.args.setup.protocol (length c.args.setup.images.items) c.in-Ok.world.processes.slots.items p less
 
--- of one that is not
-up_beyond : (g : Over) (c : goal.After-course g) (p : ℕ) → length (given g c).images ≤ p → up g c p ≡ true
-up_beyond g c p high = ap (λ b. b || is_up (slot_at c.in-Ok.world.processes.slots.items p))
-    (le-leb (length c.args.setup.images.items) p (subst (λ n. n ≤ p) (length-map c.args.setup.images.items seen_image) high))
+-- where all commit together, all or none
+up_alike : (g : Over) (c : goal.After-course g) → AreUpAlike (given g c) (up g c)
+up_alike g c together = up_together c.args.setup.protocol (length c.args.setup.images.items) c.in-Ok.world.processes.slots.items c.in-Ok.ensures.begins.slots_long c.requires.some together (c.in-Ok.ensures.alike together)
+
+-- where all that are there are, what is not there is too
+up_beyond : (g : Over) (c : goal.After-course g) → ((p : ℕ) → p < length (given g c).images → up g c p ≡ true) → (p : ℕ) → length (given g c).images ≤ p → up g c p ≡ true
+up_beyond g c below p high =
+    let long = length-map c.args.setup.images.items seen_image in
+    up_past c.args.setup.protocol (length c.args.setup.images.items) c.in-Ok.world.processes.slots.items (up_is g c 0 c.requires.some) (below 0 (subst (λ n. 0 < n) (sym long) c.requires.some)) p (subst (λ n. n ≤ p) long high)
 
 -- it was told when it was opened
 told_opened : (g : Over) (c : goal.After-course g) → TellsThroughout g.C.Checkpoint (length c.args.setup.images.items) c.args.dev.now c.run.new.dev → IsTold g.C.Checkpoint (stage_in c.in-Ok.world c.open.new.dev)
@@ -70,22 +76,45 @@ begun g c tells = opened_running g.C.Checkpoint (given g c) (up g c) (stage_in c
     (up_as g.C.Checkpoint (system_in (given g c)) (stage_in c.in-Ok.world c.open.new.dev) (λ p. is_up (slot_at c.in-Ok.world.processes.slots.items p)) (up g c)
     (λ p inside. up_is g c p (subst (λ n. p < n) (length-map c.args.setup.images.items seen_image) inside)) (c.in-Ok.ensures.opened (told_opened g c tells)))
 
--- a process that is down at the beginning was stopped as its store was made
-late_told : (g : Over) (c : goal.After-course g) (p : ℕ) → p < length c.args.setup.images.items → g.C.Checkpoint.stops c.open.new.dev p < 2 ^ 64 - 1 → (b : Bool) → up g c p ≡ b
-    → g.C.Planned.unplanned c.args.dev.now p + late b ≤ g.C.Planned.unplanned c.open.new.dev p
-late_told g c p less below true is = let later = g.met.C.Planned.unplanned_later c.args.dev.now c.open.new.dev p (g.met.C.Planned.lasts_within c.args.dev.now c.open.new.dev c.open.ensures.continues) in omega (arith, later)
-late_told g c p less below false is = let rose = g.met.C.Planned.idle_stopped c.args.dev.now c.open.new.dev p c.requires.idle c.open.ensures.continues (c.in-Ok.ensures.stopped p less (sym (up_is g c p less) ∙ is)) below in omega (arith, rose)
+-- the stops of a process that are not planned, and of those that stop with it
+abbrev stops : (g : Over) → goal.After-course g → (ℕ → ℕ) → ℕ → ℕ
+stops g c count p = counted_with (given g c).protocol p count (length (given g c).images)
+
+-- what was lent lasts through the opening
+opened_lasts : (g : Over) (c : goal.After-course g) → g.C.Planned.lasts c.args.dev.now c.open.new.dev
+opened_lasts g c = g.met.C.Planned.lasts_within c.args.dev.now c.open.new.dev c.open.ensures.continues
+
+-- the plan is that of the world that was opened
+plan_kept : (g : Over) (c : goal.After-course g) → g.C.Planned.planned c.args.dev.now ≡ g.C.Planned.planned c.open.new.dev
+plan_kept g c = sym (g.met.C.Planned.planned_same c.args.dev.now c.open.new.dev (opened_lasts g c))
+
+-- a process of the run is below the number of its guests
+inside : (g : Over) (c : goal.After-course g) (p : ℕ) → p < length (given g c).images → p < length c.args.setup.images.items
+inside g c p less = subst (λ n. p < n) (length-map c.args.setup.images.items seen_image) less
+
+-- a process that is down at the beginning was stopped as its store was made, or one that stops with it was
+late_told : (g : Over) (c : goal.After-course g) → TellsThroughout g.C.Checkpoint (length c.args.setup.images.items) c.args.dev.now c.run.new.dev → (p : ℕ) → p < length c.args.setup.images.items → (b : Bool) → up g c p ≡ b
+    → stops g c (g.C.Planned.unplanned c.args.dev.now) p + late b ≤ stops g c (g.C.Planned.unplanned c.open.new.dev) p
+late_told g c tells p less true is =
+    let later = sum_later (given g c).protocol p (g.C.Planned.unplanned c.args.dev.now) (g.C.Planned.unplanned c.open.new.dev) (λ q. g.met.C.Planned.unplanned_later c.args.dev.now c.open.new.dev q (opened_lasts g c)) (length (given g c).images) in omega (arith, later)
+late_told g c tells p less false is =
+    let stop = c.in-Ok.ensures.stopped p less (sym (up_is g c p less) ∙ is) in
+    let q = stop.0 in
+    let below : g.C.Checkpoint.stops c.open.new.dev q < 2 ^ 64 - 1 = (let later = c.run.ensures.later q in let last = tells.stops q stop.1 in omega (arith, later.0, last)) in
+    let rose = g.met.C.Planned.idle_stopped c.args.dev.now c.open.new.dev q c.requires.idle c.open.ensures.continues stop.3 below in
+    let rises = sum_rises (given g c).protocol p (g.C.Planned.unplanned c.args.dev.now) (g.C.Planned.unplanned c.open.new.dev) (λ r. g.met.C.Planned.unplanned_later c.args.dev.now c.open.new.dev r (opened_lasts g c)) q stop.2 rose
+    (length (given g c).images) (subst (λ n. q < n) (sym (length-map c.args.setup.images.items seen_image)) stop.1) in omega (arith, rises)
+
+-- the world that was opened is one of what the run was given
+setting_is : (g : Over) (c : goal.After-course g) → IsSettingOf c.in-Ok.world (given g c)
+setting_is g c = record { protocol_is = sym c.in-Ok.ensures.begins.protocol_is; images_long = length-map c.args.setup.images.items seen_image ∙ sym c.in-Ok.ensures.begins.slots_long }
 
 -- the stops that no plan lists
 stops_told : (g : Over) (c : goal.After-course g) → TellsThroughout g.C.Checkpoint (length c.args.setup.images.items) c.args.dev.now c.run.new.dev
     → StopsTold (given g c) (up g c) c.run.new.self.marks.items (g.C.Planned.unplanned c.args.dev.now) (g.C.Planned.unplanned c.run.new.dev)
 stops_told g c tells p less =
-    let inside : p < length c.args.setup.images.items = subst (λ n. p < n) (length-map c.args.setup.images.items seen_image) less in
-    let later = c.run.ensures.later p in
-    let below = tells.stops p inside in
-    let first = late_told g c p inside (omega (arith, later.0, below)) (up g c p) refl in
-    let planned = sym (g.met.C.Planned.planned_same c.args.dev.now c.open.new.dev (g.met.C.Planned.lasts_within c.args.dev.now c.open.new.dev c.open.ensures.continues)) in
-    let rest = c.run.ensures.stops (given g c) p planned refl below in
+    let first = late_told g c tells p (inside g c p less) (up g c p) refl in
+    let rest = c.run.ensures.stops (given g c) p (setting_is g c) (plan_kept g c) refl (λ q there. tells.stops q (inside g c q there)) in
     let none : unplanned (given g c) p (reverse c.in_ok-marks.marks.items) ≡ 0 = ap (λ ms. unplanned (given g c) p (reverse ms)) c.in_ok-marks.ensures.items in
     omega (arith, first, rest, none)
 
@@ -101,18 +130,10 @@ planned_come : (g : Over) (c : goal.After-course g) (last : Last) (p : ℕ) → 
 planned_come g c last p called = record {
   made = called.made;
   come = called.on (g.C.Planned.calls c.args.dev.now p) (subst (λ ms. StopsCome (given g c) p (reverse ms) (g.C.Planned.calls c.args.dev.now p) (g.C.Planned.calls c.open.new.dev p)) (sym c.in_ok-marks.ensures.items)
-      (g.met.C.Planned.calls_later c.args.dev.now c.open.new.dev p (g.met.C.Planned.lasts_within c.args.dev.now c.open.new.dev c.open.ensures.continues)));
+      (g.met.C.Planned.calls_later c.args.dev.now c.open.new.dev p (opened_lasts g c)));
   later = called.later;
   whole = called.whole;
 }
-
--- the plan is that of the world that was opened
-plan_kept : (g : Over) (c : goal.After-course g) → g.C.Planned.planned c.args.dev.now ≡ g.C.Planned.planned c.open.new.dev
-plan_kept g c = sym (g.met.C.Planned.planned_same c.args.dev.now c.open.new.dev (g.met.C.Planned.lasts_within c.args.dev.now c.open.new.dev c.open.ensures.continues))
-
--- a process of the run is below the number of its guests
-inside : (g : Over) (c : goal.After-course g) (p : ℕ) → p < length (given g c).images → p < length c.args.setup.images.items
-inside g c p less = subst (λ n. p < n) (length-map c.args.setup.images.items seen_image) less
 
 -- its last entry went so, and it ended so
 course : (g : Over) (c : goal.After-course g) (tells : TellsThroughout g.C.Checkpoint (length c.args.setup.images.items) c.args.dev.now c.run.new.dev) (ending : Ending) → c.match-run.ending ≡ ending → (last : Last)
@@ -127,7 +148,7 @@ course g c tells ending same last ended is called =
     let left = (λ (core : Core). StoresLeft g.C.Checkpoint (given g c) core c.run.new.dev) in
     subst (λ (o : Course). IsCourse (given g c) (account_of o) o.ending out counts left) (sym c.course.ensures)
     (subst (λ e. IsCourse (given g c) (record { acts = w.processes.acts.items; marks = c.run.new.self.marks.items; lines = w.processes.lines }) e out counts left) (sym same)
-    (course_is g.C.Checkpoint (given g c) c.requires.alone (up g c) w.stores.items c.run.new.dev w.processes c.run.new.self.marks.items last out ended c.run.ensures.ready
+    (course_is g.C.Checkpoint (given g c) (up g c) (up_alike g c) w.stores.items c.run.new.dev w.processes c.run.new.self.marks.items last out ended c.run.ensures.ready
     (c.run.ensures.long ∙ c.in-Ok.ensures.begins.slots_long ∙ sym (length-map c.args.setup.images.items seen_image)) (up_beyond g c) counts ending is (stops_told g c tells) (λ p less. planned_come g c last p (called p less))))
 
 pub returns-clause-headline : goal.returns-clause-headline
@@ -137,17 +158,17 @@ returns-clause-headline g c tells = elim c.match-run.branch [
       let out = output (g.O.Sink.held c.args.out.now) (g.O.Sink.held c.run.new.out) in
       let marks = c.run.new.self.marks.items in
       let images = (given g c).images in
-      let r : IsRunning g.C.Checkpoint (given g c) (up g c) x marks out = w.in-Ok-run.ensures.runs_on (given g c) (up g c) (g.O.Sink.held c.args.out.now) c.requires.alone refl (told_opened g c tells) (told_ended g c tells) (begun g c tells) in
-      let have = w.ended.ensures.core c.run.new.dev images r.core c.run.ensures.ready (now_world g.C.Checkpoint (given g c) c.requires.alone (up g c) x marks out r) in
+      let r : IsRunning g.C.Checkpoint (given g c) (up g c) x marks out = w.in-Ok-run.ensures.runs_on (given g c) (up g c) (g.O.Sink.held c.args.out.now) (up_alike g c) refl (told_opened g c tells) (told_ended g c tells) (begun g c tells) in
+      let have = w.ended.ensures.core c.run.new.dev images r.core c.run.ensures.ready (now_world g.C.Checkpoint (given g c) (up g c) (up_alike g c) x marks out r) in
       let came = ending_whole g.C.Checkpoint (given g c) (up g c) (moment_of c.run.new.self c.run.new.dev (g.O.Sink.held c.run.new.out)) (g.O.Sink.held c.args.out.now) w.ended.result r
       (subst (λ i. HaveEnded w.ended.result (guests_of images i) r.core) r.of.inputs_are have) w.in-Ok-run.ensures.used in
       course g c tells _ (w.ending-is ∙ w.ended-ending.ensures) came.last came.ended came.is
-      (λ p less. let own = inside g c p less in let come = w.in-Ok-run.ensures.come (given g c) p (plan_kept g c) refl (tells.stops p own) (tells.faults p own) in record { made = come.0; on = come.1; later = come.2; whole = λ e. come.3 refl }))
+      (λ p less. let own = inside g c p less in let come = w.in-Ok-run.ensures.come (given g c) p less (setting_is g c) (plan_kept g c) refl (tells.stops p own) (tells.faults p own) in record { made = come.0; on = come.1; later = come.2; whole = λ e. come.3 refl }))
   | in-Err-run w ↦ (
       let came = ending_broken g.C.Checkpoint (given g c) (up g c) (moment_of c.run.new.self c.run.new.dev (g.O.Sink.held c.run.new.out)) (g.O.Sink.held c.args.out.now) w.in-Err-run.fault
-      (w.in-Err-run.ensures.runs_off w.in-Err-run.fault refl (given g c) (up g c) (g.O.Sink.held c.args.out.now) c.requires.alone refl (told_opened g c tells) (told_ended g c tells) (begun g c tells)) in
+      (w.in-Err-run.ensures.runs_off w.in-Err-run.fault refl (given g c) (up g c) (g.O.Sink.held c.args.out.now) (up_alike g c) refl (told_opened g c tells) (told_ended g c tells) (begun g c tells)) in
       course g c tells _ (w.ending-is ∙ w.ended_by-ending.ensures) came.last came.ended came.is
-      (λ p less. let own = inside g c p less in let come = w.in-Err-run.ensures.come (given g c) p (plan_kept g c) refl (tells.stops p own) (tells.faults p own) in record { made = come.0; on = come.1; later = come.2; whole = λ e. absurd (came.broken e) }))
+      (λ p less. let own = inside g c p less in let come = w.in-Err-run.ensures.come (given g c) p less (setting_is g c) (plan_kept g c) refl (tells.stops p own) (tells.faults p own) in record { made = come.0; on = come.1; later = come.2; whole = λ e. absurd (came.broken e) }))
 ]
 
 pub returns-clause-planned : goal.returns-clause-planned

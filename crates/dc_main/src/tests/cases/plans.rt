@@ -34,12 +34,8 @@ old=memory
 new=inputs = [[\"6F\"]]~memory
 status=3
 said=dc: plan refused: range inputs~
-* a protocol that is not built
-protocol=cpv-2pc
-status=3
-said=dc: plan refused: range protocol~
-* another protocol that is not built
-protocol=cbndv-2pc
+* a protocol that is misspelt
+protocol=cpv-2cp
 status=3
 said=dc: plan refused: range protocol~
 * a medium that is not built

@@ -39,9 +39,6 @@ returns-in_err-prepare_all-clause-same g c = (after_preparing {text = text_at (l
 pub returns-in_err-prepare_all-clause-between : goal.returns-in_err-prepare_all-clause-between
 returns-in_err-prepare_all-clause-between g c = (after_preparing {text = text_at (length c.args.words.now / length c.args.stores.now) c.args.words.now} (first_stopped g c)).between
 
-pub returns-in_err-prepare_all-clause-numbers : goal.returns-in_err-prepare_all-clause-numbers
-returns-in_err-prepare_all-clause-numbers g c = (after_preparing {text = text_at (length c.args.words.now / length c.args.stores.now) c.args.words.now} (first_stopped g c)).numbers
-
 pub returns-in_err-prepare_all-clause-steady : goal.returns-in_err-prepare_all-clause-steady
 returns-in_err-prepare_all-clause-steady g c = (after_preparing {text = text_at (length c.args.words.now / length c.args.stores.now) c.args.words.now} (first_stopped g c)).steady
 
@@ -97,9 +94,6 @@ returns-in_err-decide_first-clause-same g c = (after_deciding (second_refused g 
 
 pub returns-in_err-decide_first-clause-between : goal.returns-in_err-decide_first-clause-between
 returns-in_err-decide_first-clause-between g c = (after_deciding (second_refused g c)).between
-
-pub returns-in_err-decide_first-clause-numbers : goal.returns-in_err-decide_first-clause-numbers
-returns-in_err-decide_first-clause-numbers g c = (after_deciding (second_refused g c)).numbers
 
 pub returns-in_err-decide_first-clause-steady : goal.returns-in_err-decide_first-clause-steady
 returns-in_err-decide_first-clause-steady g c = (after_deciding (second_refused g c)).steady
@@ -176,9 +170,6 @@ returns-clause-same g c = (after_finishing (third g c)).same
 
 pub returns-clause-between : goal.returns-clause-between
 returns-clause-between g c = (after_finishing (third g c)).between
-
-pub returns-clause-numbers : goal.returns-clause-numbers
-returns-clause-numbers g c = (after_finishing (third g c)).numbers
 
 pub returns-clause-steady : goal.returns-clause-steady
 returns-clause-steady g c = (after_finishing (third g c)).steady

@@ -24,4 +24,7 @@ returns-clause-taken g c u at =
       acts = c.turn.ensures.acts;
       shown = c.turn.ensures.shown;
       stopped = c.turn.ensures.stopped;
+      steady = c.turn.ensures.steady;
+      uncommitted = c.turn.ensures.uncommitted;
+      narrows = c.turn.ensures.narrows;
     })

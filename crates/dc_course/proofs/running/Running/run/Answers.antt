@@ -1,6 +1,7 @@
 use Rattle.std.proofs.Common.{◌+◌, ◌∙◌, ap, arith, length, refl, slice_get, subst, sym}
 use Rattle.std.proofs.lemmas.Option.{slice_get-get_or}
 use Rattle.dc_course.proofs.Between.{counted_twice, later_on, runs_more, runs_off, tells_on}
+use Rattle.dc_course.proofs.Partaking.{setting_kept}
 use Rattle.dc_course.specs.Headline.{IsCalledOn}
 use Rattle.dc_course.specs.Running.{moment_of}
 use Rattle.dc_media.proofs.Becoming.{TellsOn-then}
@@ -17,16 +18,17 @@ returns-in-Err-clause-runs_off g c fault e = runs_off g.C.Checkpoint c.args.sche
     c.loop-entry.invariant.long c.turn.ensures.long c.loop-entry.invariant.tells c.turn.ensures.later c.loop-entry.invariant.runs fault (c.in-Err.ensures.steps_off fault e)
 
 pub returns-in-Err-clause-stops : goal.returns-in-Err-clause-stops
-returns-in-Err-clause-stops g c setting p planned is below =
+returns-in-Err-clause-stops g c setting p of planned is below =
     let mid = c.loop-entry.dev in
     counted_twice setting p c.args.self.now.marks.items c.loop-entry.self.marks.items c.turn.new.self.marks.items _ _ _
-    (c.loop-entry.invariant.stops setting p planned is (let l = c.turn.ensures.later p in omega (arith, l.0, below)))
-    (c.turn.ensures.stops setting p (planned ∙ sym (g.met.C.Planned.planned_same c.args.dev.now mid c.loop-entry.invariant.lasts))
+    (c.loop-entry.invariant.stops setting p of planned is (λ q less. let l = c.turn.ensures.later q in let small = below q less in omega (arith, l.0, small)))
+    (c.turn.ensures.stops setting p (setting_kept c.args.self.now.world c.loop-entry.self.world setting of c.loop-entry.invariant.protocol c.loop-entry.invariant.long) (planned ∙ sym (g.met.C.Planned.planned_same c.args.dev.now mid c.loop-entry.invariant.lasts))
     (ap (λ s. slice_get s (length c.loop-entry.self.marks.items)) is ∙ ap (slice_get c.args.schedule.now) c.loop-entry.invariant.marks ∙ slice_get-get_or c.args.schedule.now c.loop-entry.entry-index _ c.loop-entry-test.true) below)
 
 pub loop-entry-preserved : goal.loop-entry-preserved
 loop-entry-preserved g c = record {
   ready = c.turn.ensures.ready;
+  protocol = c.turn.ensures.protocol ∙ c.loop-entry.invariant.protocol;
   long = c.turn.ensures.long ∙ c.loop-entry.invariant.long;
   marks = c.in-Ok.ensures.marked ∙ ap (λ n. n + 1) c.loop-entry.invariant.marks;
   left = (let one = c.turn.ensures.left in let some = c.loop-entry.invariant.left in omega (arith, one, some));
@@ -36,13 +38,13 @@ loop-entry-preserved g c = record {
       (ap (slice_get c.args.schedule.now) c.loop-entry.invariant.marks ∙ slice_get-get_or c.args.schedule.now c.loop-entry.entry-index _ c.loop-entry-test.true)
       c.loop-entry.invariant.long c.turn.ensures.long c.loop-entry.invariant.tells c.turn.ensures.later c.loop-entry.invariant.runs c.in-Ok.ensures.steps_on;
   lasts = g.met.C.Planned.lasts_on c.args.dev.now c.loop-entry.dev c.turn.new.dev c.loop-entry.invariant.lasts c.turn.ensures.lasts;
-  stops = λ setting p planned is below. counted_twice setting p c.args.self.now.marks.items c.loop-entry.self.marks.items c.turn.new.self.marks.items _ _ _
-      (c.loop-entry.invariant.stops setting p planned is (let l = c.turn.ensures.later p in omega (arith, l.0, below)))
-      (c.turn.ensures.stops setting p (planned ∙ sym (g.met.C.Planned.planned_same c.args.dev.now c.loop-entry.dev c.loop-entry.invariant.lasts))
+  stops = λ setting p of planned is below. counted_twice setting p c.args.self.now.marks.items c.loop-entry.self.marks.items c.turn.new.self.marks.items _ _ _
+      (c.loop-entry.invariant.stops setting p of planned is (λ q less. let l = c.turn.ensures.later q in let small = below q less in omega (arith, l.0, small)))
+      (c.turn.ensures.stops setting p (setting_kept c.args.self.now.world c.loop-entry.self.world setting of c.loop-entry.invariant.protocol c.loop-entry.invariant.long) (planned ∙ sym (g.met.C.Planned.planned_same c.args.dev.now c.loop-entry.dev c.loop-entry.invariant.lasts))
       (ap (λ s. slice_get s (length c.loop-entry.self.marks.items)) is ∙ ap (slice_get c.args.schedule.now) c.loop-entry.invariant.marks ∙ slice_get-get_or c.args.schedule.now c.loop-entry.entry-index _ c.loop-entry-test.true) below);
-  comes = λ setting p planned is below sound before come. c.in-Ok.ensures.comes setting p (planned ∙ sym (g.met.C.Planned.planned_same c.args.dev.now c.loop-entry.dev c.loop-entry.invariant.lasts))
+  comes = λ setting p inside of planned is below sound before come. c.in-Ok.ensures.comes setting p inside (setting_kept c.args.self.now.world c.loop-entry.self.world setting of c.loop-entry.invariant.protocol c.loop-entry.invariant.long) (planned ∙ sym (g.met.C.Planned.planned_same c.args.dev.now c.loop-entry.dev c.loop-entry.invariant.lasts))
       (ap (λ s. slice_get s (length c.loop-entry.self.marks.items)) is ∙ ap (slice_get c.args.schedule.now) c.loop-entry.invariant.marks ∙ slice_get-get_or c.args.schedule.now c.loop-entry.entry-index _ c.loop-entry-test.true) below sound before
-      (let l = c.turn.ensures.later p in c.loop-entry.invariant.comes setting p planned is (omega (arith, l.0, below)) (omega (arith, l.1, sound)) before come);
+      (let l = c.turn.ensures.later p in c.loop-entry.invariant.comes setting p inside of planned is (omega (arith, l.0, below)) (omega (arith, l.1, sound)) before come);
   planned = λ p. let before = c.loop-entry.invariant.planned p in let more = c.turn.ensures.once p in omega (arith, before, more);
   later = later_on g.C.Checkpoint c.args.dev.now c.loop-entry.dev c.turn.new.dev c.loop-entry.invariant.later c.turn.ensures.later;
   tells = λ p. tells_on g.C.Checkpoint c.args.dev.now c.loop-entry.dev c.turn.new.dev p (c.loop-entry.invariant.tells p) c.turn.ensures.later (c.turn.ensures.tells p);
@@ -53,20 +55,20 @@ loop-entry-preserved g c = record {
 }
 
 pub returns-in-Err-clause-come : goal.returns-in-Err-clause-come
-returns-in-Err-clause-come g c setting p planned is below sound =
+returns-in-Err-clause-come g c setting p inside of planned is below sound =
     let mid = c.loop-entry.dev in
     let l = c.turn.ensures.later p in (
       g.C.Planned.calls mid p,
       subst (λ ms. IsCalledOn setting p c.args.self.now.marks.items ms (g.C.Planned.calls c.args.dev.now p) (g.C.Planned.calls mid p)) (sym c.in-Err.ensures.unmarked)
-          (c.loop-entry.invariant.comes setting p planned is (omega (arith, l.0, below)) (omega (arith, l.1, sound))),
+          (c.loop-entry.invariant.comes setting p inside of planned is (omega (arith, l.0, below)) (omega (arith, l.1, sound))),
       g.met.C.Planned.calls_later mid c.turn.new.dev p c.turn.ensures.lasts,
       λ ok. absurd (cc),
     )
 
 pub returns-clause-come : goal.returns-clause-come
-returns-clause-come g c setting p planned is below sound = (
+returns-clause-come g c setting p inside of planned is below sound = (
   g.C.Planned.calls c.loop-entry.dev p,
-  c.loop-entry.invariant.comes setting p planned is below sound,
+  c.loop-entry.invariant.comes setting p inside of planned is below sound,
   omega arith,
   λ ok. refl,
 )

@@ -1,4 +1,5 @@
 use Rattle.std.proofs.Common.{false, ◌≡◌, ◌∙◌, ◌+◌, ◌≤◌, Some, IfSome, ap, sym, subst, rules, refl, arith, slice_index, true}
+use Rattle.std.proofs.lemmas.Bool.{true≢false}
 use Rattle.dc_events.specs.Kinds.{kind_of}
 use Rattle.dc_guest.specs.Answers.{answer_of, effect_of, may_answer}
 use Rattle.dc_guest.specs.Guest.{Bare, event_of, machine_over, next_of, over}
@@ -7,6 +8,7 @@ use Rattle.dc_proc.proofs.Adding.{answer_there, over_added}
 use Rattle.dc_proc.proofs.Based.{now_based, parts_based}
 use Rattle.dc_proc.proofs.Buses.{call_ok}
 use Rattle.dc_proc.proofs.Counting.{append_number, commit_after, commit_number, counts_after, quiet_turn}
+use Rattle.dc_proc.proofs.Jointly.{asks_nothing, narrow_last, narrow_then, not_asked}
 use Rattle.dc_proc.proofs.Moving.{over_next}
 use Rattle.dc_proc.proofs.Numbers.{numbered_less, numbered_more}
 use Rattle.dc_proc.proofs.Stopped.{first_at, log_at_inputs, over_as, record_is, same_twice, second_at, stands_as, still, stopped_after, stopped_before, stopped_event, stopped_log, told_at, unstopped}
@@ -19,6 +21,7 @@ use Rattle.dc_proc.specs.Processes.{IsAt, IsOver, Stands, logged_of}
 use Rattle.dc_proc.specs.Turns.{acts_with}
 use Rattle.dc_proc.specs.Ups.{held}
 use Rattle.dc_proc.specs.declared.up.Up.{Up}
+use Rattle.dc_protocols.specs.declared.protocol.Rule.{Rule}
 use Rattle.dc_recovery.specs.Alone.{answers_alone}
 use Rattle.dc_recovery.specs.Parts.{fallen, first_of, passed, second_of, sets_own, torn, torn_log}
 use Rattle.dc_recovery.specs.Parts.Place.{Nowhere}
@@ -223,3 +226,26 @@ returns-clause-numbered g c d most from below is =
     let from3 : g.C.Checkpoint.floor c.advance.new.store ≤ d = omega (arith, from2, c.in_ok-advance.ensures.stores.call.floor_less) in
     numbered_more (most + 1 + 1) (most + 2) (g.C.Checkpoint.leaves c.commit_if-2.new.store c.commit_if-2.new.dev d) (omega arith) (c.commit_if-2.ensures.numbered d (most + 1) from3 (let one = commit_number c.rule-asked.result.before c.args.self.now c.commit_if.new.self c.commit_if.new.self.based.items c.in_ok-commit_if.ensures.held c.in_ok-commit_if.ensures.kept in let mid = ap (λ (k : Kernel). k.commit) c.note_event-shown.ensures.kernel ∙ commit_after c.advance.new.self.others.items c.args.next.now (answer_of c.args.answer.now) c.effect-effect.result c.advance.new.self.kernel
     ∙ ap (λ (u : Up). u.kernel.commit) c.in_ok-advance.ensures.rest ∙ append_number c.rule-asked.result.log c.commit_if.new.self c.append_if.new.self _ c.in_ok-append_if.ensures.held c.in_ok-append_if.ensures.kept in omega (arith, one.1, mid, below)) (numbered_less (most + 1) (g.C.Checkpoint.leaves c.append_if.new.store c.append_if.new.dev d) (g.C.Checkpoint.leaves c.advance.new.store c.advance.new.dev d) (λ r l. c.advance.ensures.stores.stands d r from2 l) (c.append_if.ensures.numbered d (most + 1) from1 (c.commit_if.ensures.numbered d most from below is))))
+
+-- where all commit together, nothing but the event's stores is done
+pub returns-in_err-commit_if-clause-narrows : goal.returns-in_err-commit_if-clause-narrows
+returns-in_err-commit_if-clause-narrows g c together = absurd (true≢false (sym (not_asked c.rule-asked.result (λ r. r.before) (c.rule-asked.ensures ∙ asks_nothing c.args.self.now.protocol together c.kind-kind.result _) c.in_err-commit_if.ensures.due)))
+
+pub returns-in_err-append_if-clause-narrows : goal.returns-in_err-append_if-clause-narrows
+returns-in_err-append_if-clause-narrows g c together = absurd (true≢false (sym (not_asked c.rule-asked.result (λ r. r.log) (c.rule-asked.ensures ∙ asks_nothing c.args.self.now.protocol together c.kind-kind.result _) c.in_err-append_if.ensures.due)))
+
+pub returns-in_err-advance-clause-narrows : goal.returns-in_err-advance-clause-narrows
+returns-in_err-advance-clause-narrows g c together =
+    let off = c.rule-asked.ensures ∙ asks_nothing c.args.self.now.protocol together c.kind-kind.result _ in
+    narrow_last g.C.Checkpoint c.args.store.now c.commit_if.new.store c.append_if.new.store c.advance.new.store c.args.dev.now c.commit_if.new.dev c.append_if.new.dev c.advance.new.dev
+    (c.commit_if.ensures.untouched (ap (λ (r : Rule). r.before) off)) (c.append_if.ensures.untouched (ap (λ (r : Rule). r.log) off)) c.advance.ensures.stores.stands
+
+pub returns-in_err-commit_if-2-clause-narrows : goal.returns-in_err-commit_if-2-clause-narrows
+returns-in_err-commit_if-2-clause-narrows g c together = absurd (true≢false (sym (not_asked c.rule-asked.result (λ r. r.after) (c.rule-asked.ensures ∙ asks_nothing c.args.self.now.protocol together c.kind-kind.result _) c.in_err-commit_if-2.ensures.due)))
+
+pub returns-clause-narrows : goal.returns-clause-narrows
+returns-clause-narrows g c together =
+    let off = c.rule-asked.ensures ∙ asks_nothing c.args.self.now.protocol together c.kind-kind.result _ in
+    narrow_then g.C.Checkpoint c.args.store.now c.advance.new.store c.commit_if-2.new.store c.args.dev.now c.advance.new.dev c.commit_if-2.new.dev (c.commit_if-2.ensures.untouched (ap (λ (r : Rule). r.after) off))
+    (narrow_last g.C.Checkpoint c.args.store.now c.commit_if.new.store c.append_if.new.store c.advance.new.store c.args.dev.now c.commit_if.new.dev c.append_if.new.dev c.advance.new.dev
+    (c.commit_if.ensures.untouched (ap (λ (r : Rule). r.before) off)) (c.append_if.ensures.untouched (ap (λ (r : Rule). r.log) off)) c.advance.ensures.stores.stands)

@@ -44,7 +44,7 @@ take_in-requires-clause-may g c =
     let of : IsOf c.args.self.now.protocol (length slots0) p (Up u0) = c.requires.well.each p (Up u0) c.requires.process there in
     let read : c.index_mut-slot.result.now ≡ Some (Up u0) = there_read slots0 p c.index_mut-slot.result.now (Some (Up u0)) c.requires.process c.index_mut-slot.ensures.value there in
     subst (MayTake g.C.Checkpoint c.args.store.now c.args.dev.now (answer_of c.args.answer.now)) (sym read)
-    (may_turn g.C.Checkpoint c.args.self.now.left c.args.store.now c.args.dev.now (slot_at slots0 p) c.args.call (answer_of c.args.answer.now) (length slots0) p c.requires.next c.requires.left of.1 of.2 c.requires.kind c.requires.plain c.requires.sender)
+    (may_turn g.C.Checkpoint c.args.self.now.left c.args.store.now c.args.dev.now (slot_at slots0 p) c.args.call (answer_of c.args.answer.now) (length slots0) p (record { up = u0; there = there; fit = c.requires.next.fit; runs = c.requires.next.runs; room = c.requires.next.room; found = c.requires.next.found }) c.requires.next.counts c.requires.left of.1 of.2 c.requires.kind c.requires.plain c.requires.sender)
 
 pub returns-in-Ok-clause-went : goal.returns-in-Ok-clause-went
 returns-in-Ok-clause-went g c stores at place images schedule core words words1 alone told0 told1 now world inside given =
@@ -87,7 +87,7 @@ returns-in-Ok-clause-went g c stores at place images schedule core words words1 
     let goes : TakesTurn g.C.Checkpoint pr a (process c.args.store.now c.args.dev.now (held u0)) (process c.take_in.new.store c.take_in.new.dev (held u1)) =
     subst (λ q. TakesTurn g.C.Checkpoint q a (process c.args.store.now c.args.dev.now (held u0)) (process c.take_in.new.store c.take_in.new.dev (held u1))) of.3 t.goes in
     let here : IsAt (system images inputs pr) p (own p core.acts) (core.procs p) words (held u0) =
-    at_now g.C.Checkpoint (system images inputs pr) alone schedule c.args.self.now.entries core now old world p c.args.store.now at u0 there inside words told_old in
+    at_now g.C.Checkpoint (system images inputs pr) schedule c.args.self.now.entries core now old world p c.args.store.now at u0 there inside words told_old in
     let called = told_at (λ ws. c.args.call ≡ called_by (next_of (over u0.guest ws))) (g.C.Checkpoint.contents c.args.store.now c.args.dev.now) words told_old c.requires.next.found in
     let showed = told_at (λ ws. c.in-Ok.done ≡ shown_of (effect_of (event_of (next_of (over u0.guest ws)) (machine_over u0.guest ws))) u0.kernel.visible) (g.C.Checkpoint.contents c.args.store.now c.args.dev.now) words told_old t.shown in
     let acts_is = told_at (λ ws. c.take_in.new.acts.items ≡ acts_with c.args.self.now.acts.items u0.kernel c.args.self.now.entries a) (g.C.Checkpoint.contents c.args.store.now c.args.dev.now) words told_old t.acts in
@@ -120,7 +120,7 @@ returns-in-Ok-clause-went g c stores at place images schedule core words words1 
     (omega (arith, c.requires.left, left_is))
     (numbered_more (2 ^ 32 - 1 - 2 * c.args.self.now.left + 2) (2 ^ 32 - 1 - 2 * (c.tell.new.self.left - 1)) (g.C.Checkpoint.leaves c.take_in.new.store c.take_in.new.dev 0) (omega (arith, c.requires.left, left_is, c.requires.next.counts.commit))
     (t.numbered 0 (2 ^ 32 - 1 - 2 * c.args.self.now.left) c.requires.next.floor (omega (arith, c.requires.next.counts.commit))
-    (numbered_less (2 ^ 32 - 1 - 2 * c.args.self.now.left) (leaves_of g.C.Checkpoint old p 0) (g.C.Checkpoint.leaves c.args.store.now c.args.dev.now 0) (λ r l. and_some (λ x. g.C.Checkpoint.leaves x c.args.dev.now 0 r) (slice_get stores p) c.args.store.now at l) (world.numbered p inside))))
+    (numbered_less (2 ^ 32 - 1 - 2 * c.args.self.now.left) (leaves_of g.C.Checkpoint old p 0) (g.C.Checkpoint.leaves c.args.store.now c.args.dev.now 0) (λ r l. and_some (λ x. g.C.Checkpoint.leaves x c.args.dev.now 0 r) (slice_get stores p) c.args.store.now at l) (world.numbered alone p inside))))
 
 pub returns-in-Err-clause-fell : goal.returns-in-Err-clause-fell
 returns-in-Err-clause-fell g c stores at place images schedule core words alone told0 now world inside given =
@@ -159,9 +159,9 @@ returns-in-Err-clause-fell g c stores at place images schedule core words alone 
     let S = system images inputs pr in
     let a = answer_of c.args.answer.now in
     let told_old : g.C.Checkpoint.contents c.args.store.now c.args.dev.now ≡ Some words = ap (λ o. memory_of g.C.Checkpoint o c.args.dev.now) (sym at) ∙ told0 in
-    let here = at_now g.C.Checkpoint S alone schedule c.args.self.now.entries core now old world p c.args.store.now at u0 there inside words told_old in
-    let is_in = over_now g.C.Checkpoint S alone schedule c.args.self.now.entries core now old world p c.args.store.now at u0 there inside words told_old in
-    let alone_is = alone_given g.C.Checkpoint S alone schedule c.args.self.now.entries core now old world p c.args.store.now at u0 there inside words told_old a given in
+    let here = at_now g.C.Checkpoint S schedule c.args.self.now.entries core now old world p c.args.store.now at u0 there inside words told_old in
+    let is_in = over_now g.C.Checkpoint S schedule c.args.self.now.entries core now old world p c.args.store.now at u0 there inside words told_old alone in
+    let alone_is = alone_given g.C.Checkpoint S schedule c.args.self.now.entries core now old world p c.args.store.now at u0 there inside words told_old a given in
     let called = told_at (λ ws. c.args.call ≡ called_by (next_of (over u0.guest ws))) (g.C.Checkpoint.contents c.args.store.now c.args.dev.now) words told_old c.requires.next.found in
     let acts_fall : c.fall.new.self.acts.items ≡ c.take_in.new.acts.items = ap (λ (w : Processes). w.acts.items) c.fall.ensures.rest in
     let stopped : IsStopped S (record { p = p; answers = own p core.acts; st = core.procs p }) a (slice_index u0.others.items) (g.C.Checkpoint.leaves c.take_in.new.store c.take_in.new.dev 0)
@@ -189,13 +189,13 @@ returns-in-Err-clause-fell g c stores at place images schedule core words alone 
           (c.fall.ensures.long ∙ length-set slots0 p c.take_in.new.slot) (ap (λ (w : Processes). w.protocol) c.fall.ensures.rest) (ap (λ (w : Processes). lists_of w.inputs.items) c.fall.ensures.rest) (ap (λ (w : Processes). w.exposed.items) c.fall.ensures.rest)
           (ap (last_at S.exposes S.guests p) (acts_alone S c.args.self.now.entries core p a stopped.place) ∙ last_stays S p (own p core.acts) (core.procs p) a stopped.place (next_of (over u0.guest words)) (machine_over u0.guest words)
           is_in.going.within (event_is images inputs pr p (own p core.acts) (core.procs p) words u0 c.requires.next.fit.whole here c.requires.next.runs a)
-          (kind_called a (next_of (over u0.guest words)) (subst (λ z. may_answer a (kind_by z) ≡ true) called c.requires.kind) (λ e. c.requires.plain (called ∙ e))) (exposes_output pr alone) stopped.may stopped.somewhere)
+          (kind_called a (next_of (over u0.guest words)) (subst (λ z. may_answer a (kind_by z) ≡ true) called c.requires.kind) (λ e. c.requires.plain (called ∙ e))) (exposes_output pr) stopped.may stopped.somewhere)
           (ap (λ (w : Processes). w.lines + 0) c.fall.ensures.rest ∙ no_more ∙ sym world.lines_are ∙ ap (λ xs. length xs) (sym (lines_kept stopped.place stopped.somewhere _ core.lines)))
           (omega (arith, c.requires.left, left_is))
           (numbered_more (2 ^ 32 - 1 - 2 * c.args.self.now.left + 2) (2 ^ 32 - 1 - 2 * (c.fall.new.self.left - 1)) (g.C.Checkpoint.leaves c.fall.new.store c.take_in.new.dev 0) (omega (arith, c.requires.left, left_is, c.requires.next.counts.commit))
           (numbered_less (2 ^ 32 - 1 - 2 * c.args.self.now.left + 2) (g.C.Checkpoint.leaves c.take_in.new.store c.take_in.new.dev 0) (g.C.Checkpoint.leaves c.fall.new.store c.take_in.new.dev 0) (λ r l. c.fall.ensures.store.stands c.take_in.new.dev 0 r (omega arith) l)
           (t.numbered 0 (2 ^ 32 - 1 - 2 * c.args.self.now.left) c.requires.next.floor (omega (arith, c.requires.next.counts.commit))
-          (numbered_less (2 ^ 32 - 1 - 2 * c.args.self.now.left) (leaves_of g.C.Checkpoint old p 0) (g.C.Checkpoint.leaves c.args.store.now c.args.dev.now 0) (λ r l. and_some (λ x. g.C.Checkpoint.leaves x c.args.dev.now 0 r) (slice_get stores p) c.args.store.now at l) (world.numbered p inside))))),
+          (numbered_less (2 ^ 32 - 1 - 2 * c.args.self.now.left) (leaves_of g.C.Checkpoint old p 0) (g.C.Checkpoint.leaves c.args.store.now c.args.dev.now 0) (λ r l. and_some (λ x. g.C.Checkpoint.leaves x c.args.dev.now 0 r) (slice_get stores p) c.args.store.now at l) (world.numbered alone p inside))))),
     )
 
 -- the others, and what its own store needs

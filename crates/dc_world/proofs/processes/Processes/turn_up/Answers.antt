@@ -60,9 +60,9 @@ returns-in-Ok-clause-turned g c = if_ok_three _ _ _ _ c.take.result c.take.ensur
     let new = later (length (lines_of c.take.new.shown)) (stage_of (slice_set stores p c.take.new.store) c.take.new.dev c.take.new.self) in
     let place1 : g.C.Checkpoint.place c.take.new.store ≡ p = c.take.ensures.call.same.place_same ∙ place p c.args.store.now at in
     let turned : IsTurned g.C.Checkpoint images core old new (entry.Turn c.args.turn.now) (marked (taken_mark shows.done) (visible_shown p shows.done)) =
-    answered_whole g.C.Checkpoint g.met.C.Checkpoint.told_contents images schedule core old new c.requires.alone told_old now world c.args.turn.now c.requires.process
+    answered_whole g.C.Checkpoint g.met.C.Checkpoint.told_contents images schedule core old new told_old now world c.args.turn.now c.requires.process
     c.args.store.now at (place p c.args.store.now at) u there handled.0 c.in-Ok.call c.in-Ok.ensures.found c.in-Ok.ensures.runs c.in-Ok.ensures.room
-    _ (items_are c.args.self.now.inputs.items p) (answer_of c.answer-answer.result) c.answer-answer.ensures.told c.answer-answer.ensures.drawn c.answer-answer.ensures.asked
+    _ (items_are c.args.self.now.inputs.items p) (answer_of c.answer-answer.result) c.answer-answer.ensures.told c.answer-answer.ensures.drawn c.answer-answer.ensures.asked c.requires.alone
     shows.done (shows.showed u there) c.take.new.store (store_set stores p c.args.store.now c.take.new.store at) ready
     (subst (g.C.Checkpoint.told c.take.new.dev) (sym place1) (told_new.told p (subst (λ m. p < m) (sym c.take.ensures.long) c.requires.process))) (went stores at place) in
     subst (λ v. IsTurned g.C.Checkpoint images core old new (entry.Turn c.args.turn.now) (marked did v)) (sym shows.shown_is)
@@ -77,9 +77,9 @@ returns-in-Ok-clause-stopped g c = on_err_weaker c.take.result (λ fell stores a
     let handled : IsHandled g.C.Checkpoint c.args.self.now.left c.args.store.now c.args.dev.now (Some (Up u)) = subst (IsHandled g.C.Checkpoint c.args.self.now.left c.args.store.now c.args.dev.now) there c.requires.handled in
     let old = stage_of stores c.args.dev.now c.args.self.now in
     let new = later 0 (stage_of (slice_set stores p c.take.new.store) c.take.new.dev c.take.new.self) in
-    answered_stopped g.C.Checkpoint g.met.C.Checkpoint.told_contents images schedule core old new c.requires.alone told_old now world c.args.turn.now c.requires.process
+    answered_stopped g.C.Checkpoint g.met.C.Checkpoint.told_contents images schedule core old new told_old now world c.args.turn.now c.requires.process
     c.args.store.now at (place p c.args.store.now at) u there handled.0 c.in-Ok.call c.in-Ok.ensures.found c.in-Ok.ensures.runs c.in-Ok.ensures.room
-    _ (items_are c.args.self.now.inputs.items p) (answer_of c.answer-answer.result) c.answer-answer.ensures.told c.answer-answer.ensures.drawn c.answer-answer.ensures.asked (fell stores at place)) c.take.ensures.fell
+    _ (items_are c.args.self.now.inputs.items p) (answer_of c.answer-answer.result) c.answer-answer.ensures.told c.answer-answer.ensures.drawn c.answer-answer.ensures.asked c.requires.alone (fell stores at place)) c.take.ensures.fell
 
 pub returns-in-Err-clause-handled : goal.returns-in-Err-clause-handled
 returns-in-Err-clause-handled g c = handled_less g.C.Checkpoint c.args.self.now.left (c.args.self.now.left - 1) c.args.store.now c.args.dev.now (slot_at c.args.self.now.slots.items c.args.turn.now.p) (omega arith) c.requires.handled
@@ -97,5 +97,5 @@ returns-in-Err-clause-turned g c stores at place images schedule core told_old t
     let no_more : c.args.self.now.lines + length (lines_of c.args.shown.now) ≡ c.args.self.now.lines = omega (arith, none) in
     let same = same_stage old new refl (set_same stores p c.args.store.now at) refl refl refl refl refl no_more in
     subst (λ v. IsTurned g.C.Checkpoint images core old new (entry.Turn c.args.turn.now) (marked (mark.Idle c.in-Err.idle) v)) (sym c.requires.nothing)
-    (answered_idle g.C.Checkpoint g.met.C.Checkpoint.told_contents images schedule core old new c.requires.alone told_old now world c.args.turn.now c.requires.process
+    (answered_idle g.C.Checkpoint g.met.C.Checkpoint.told_contents images schedule core old new told_old now world c.args.turn.now c.requires.process
     c.args.store.now at (place p c.args.store.now at) u there handled.0 c.in-Err.idle c.in-Err.ensures.idle same (omega arith))

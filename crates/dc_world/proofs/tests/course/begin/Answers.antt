@@ -1,6 +1,5 @@
 use Rattle.dc_twophase.proofs.Laws.{Laws}
-use Rattle.dc_world.proofs.Handling.{handled_still}
-use Rattle.dc_world.specs.Slots.{slot_at}
+use Rattle.dc_world.proofs.Waiting.{ready_kept}
 use Rattle.dc_world.proofs.tests.course.begin.Given.{Over}
 use Rattle.dc_world.proofs.tests.course.begin.Goals as goal
 
@@ -23,14 +22,4 @@ laws g = let met = g.met.C.Checkpoint in record {
 }
 
 pub returns : goal.returns
-returns g c = let world = c.args.world.now.processes in record {
-  well = c.requires.well;
-  alone = c.requires.alone;
-  stores_long = c.requires.stores_long;
-  own = c.requires.own;
-  handled = λ p s there. handled_still g.C.Checkpoint (laws g) world.left s c.args.dev.now c.begin.new.dev (slot_at world.slots.items p) (c.begin.ensures (g.C.Checkpoint.place s)) (c.requires.handled p s there);
-  room = c.requires.room;
-  few_acts = c.requires.few_acts;
-  few_lines = c.requires.few_lines;
-  few_entries = c.requires.few_entries;
-}
+returns g c = ready_kept g.C.Checkpoint (laws g) c.args.dev.now c.begin.new.dev c.begin.ensures c.args.world.now.stores.items c.args.world.now.processes c.requires

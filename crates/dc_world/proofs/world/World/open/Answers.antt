@@ -1,7 +1,14 @@
-use Rattle.std.proofs.Common.{◌≡◌, ◌<◌, length, rules, subst}
+use Rattle.std.proofs.Common.{◌≡◌, ◌∙◌, ◌<◌, ◌++◌, ap, drop, length, map, rules, subst, sym, take}
 use Rattle.dc_media.specs.Causes.{Rose}
-use Rattle.dc_world.proofs.Opens.{opened, ready}
-use Rattle.dc_world.specs.Opened.{AreBegun, IsOpened}
+use Rattle.dc_plain.specs.Playing.{lists_of, seen_image}
+use Rattle.dc_proc.specs.Carried.{system}
+use Rattle.dc_recovery.specs.Core.{opened_core}
+use Rattle.dc_world.proofs.Felling.{all_written}
+use Rattle.dc_world.proofs.Joined.{alike}
+use Rattle.dc_world.proofs.Opens.{opened_joined, ready_joined, well}
+use Rattle.dc_world.specs.Opened.{AreBegun, AreMadeFor, FallTogether, IsOpened}
+use Rattle.dc_world.specs.Slots.{is_up, slot_at}
+use Rattle.dc_world.specs.Stages.{IsReady, IsTold, IsWorld, stage_of}
 use Rattle.dc_world.specs.declared.processes.Processes.{Processes}
 use Rattle.dc_world.proofs.world.World.open.Goals as goal
 
@@ -10,20 +17,49 @@ returns-in_err-slots-clause-failed g c p e =
     let images_are : c.deref.result.now ≡ c.args.setup.images.items = search rules in
     subst (λ xs. (p < length xs) × Rose (g.C.Checkpoint.faults c.args.dev.now p) (g.C.Checkpoint.faults c.begin_each.new.dev p)) images_are (c.in_err-slots.ensures.failed p (search rules))
 
+pub fall_together-requires-clause-well : goal.fall_together-requires-clause-well
+fall_together-requires-clause-well g c =
+    let images_are : c.deref.result.now ≡ c.args.setup.images.items = search rules in
+    let w : Processes = record { protocol = c.args.setup.protocol; slots = c.in_ok-slots.slots; inputs = c.args.setup.inputs; acts = c.in_ok-acts.acts; exposed = c.in_ok-exposed.exposed; lines = 0; entries = 0; left = c.args.entries; joint = c.in_ok-joint.joint } in
+    let begins : IsOpened c.args.setup c.args.entries w = search rules in
+    well g.C.Checkpoint c.args.setup c.args.entries c.in_ok-slots.stores.items c.begin_each.new.dev w begins
+    (subst (λ xs. AreBegun g.C.Checkpoint c.args.setup.protocol xs c.in_ok-slots.slots.items c.in_ok-slots.stores.items c.begin_each.new.dev) images_are c.in_ok-slots.ensures.begun)
+    (search rules) c.requires.entries c.requires.some c.requires.few c.requires.inputs
+
 pub returns-clause-ready : goal.returns-clause-ready
 returns-clause-ready g c =
     let images_are : c.deref.result.now ≡ c.args.setup.images.items = search rules in
-    let w : Processes = record { protocol = c.args.setup.protocol; slots = c.in_ok-slots.slots; inputs = c.args.setup.inputs; acts = c.in_ok-acts.acts; exposed = c.in_ok-exposed.exposed; lines = 0; entries = 0; left = c.args.entries } in
+    let w : Processes = record { protocol = c.args.setup.protocol; slots = c.in_ok-slots.slots; inputs = c.args.setup.inputs; acts = c.in_ok-acts.acts; exposed = c.in_ok-exposed.exposed; lines = 0; entries = 0; left = c.args.entries; joint = c.in_ok-joint.joint } in
     let begins : IsOpened c.args.setup c.args.entries w = search rules in
-    ready g.C.Checkpoint c.args.setup c.args.entries c.in_ok-slots.stores.items c.begin_each.new.dev w begins
-    (subst (λ xs. AreBegun g.C.Checkpoint c.args.setup.protocol xs c.in_ok-slots.slots.items c.in_ok-slots.stores.items c.begin_each.new.dev) images_are c.in_ok-slots.ensures.begun)
-    (search rules) c.requires.alone c.requires.entries c.requires.some c.requires.few c.requires.inputs c.in_ok-acts.ensures.room
+    let stores = c.in_ok-slots.stores.items in
+    let new = c.fall_together.new.stores in
+    let as_many : length new ≡ length stores = c.fall_together.ensures.as_many ∙ ap (λ xs. length xs) c.deref_mut.ensures.value in
+    let all : take c.in_ok-slots.stores.len (new ++ drop (length new) stores) ≡ new = all_written c.in_ok-slots.stores.len stores new (search rules) as_many in
+    let many : c.len-2.result ≡ length c.args.setup.images.items = search rules in
+    subst (λ xs. IsReady g.C.Checkpoint xs c.begin_each.new.dev c.fall_together.new.self) (sym all)
+    (ready_joined g.C.Checkpoint c.args.setup c.args.entries stores new c.begin_each.new.dev w c.fall_together.new.self begins
+    (subst (λ xs. AreBegun g.C.Checkpoint c.args.setup.protocol xs c.in_ok-slots.slots.items stores c.begin_each.new.dev) images_are c.in_ok-slots.ensures.begun)
+    (search rules) c.requires.entries c.requires.some c.fall_together.ensures.rest c.fall_together.ensures.long c.fall_together.ensures.well as_many
+    (subst (λ xs. FallTogether g.C.Checkpoint w.protocol w.slots.items c.fall_together.new.self.slots.items xs new) c.deref_mut.ensures.value c.fall_together.ensures.together)
+    c.requires.few c.requires.inputs c.in_ok-acts.ensures.room (search rules) (search rules) (subst (λ n. AreMadeFor n c.in_ok-joint.joint.saved.items) many c.in_ok-joint.ensures.saved_fit))
 
 pub returns-clause-opened : goal.returns-clause-opened
-returns-clause-opened g c told =
+returns-clause-opened g c =
     let images_are : c.deref.result.now ≡ c.args.setup.images.items = search rules in
-    let w : Processes = record { protocol = c.args.setup.protocol; slots = c.in_ok-slots.slots; inputs = c.args.setup.inputs; acts = c.in_ok-acts.acts; exposed = c.in_ok-exposed.exposed; lines = 0; entries = 0; left = c.args.entries } in
+    let w : Processes = record { protocol = c.args.setup.protocol; slots = c.in_ok-slots.slots; inputs = c.args.setup.inputs; acts = c.in_ok-acts.acts; exposed = c.in_ok-exposed.exposed; lines = 0; entries = 0; left = c.args.entries; joint = c.in_ok-joint.joint } in
     let begins : IsOpened c.args.setup c.args.entries w = search rules in
-    opened g.C.Checkpoint c.args.setup c.args.entries c.in_ok-slots.stores.items c.begin_each.new.dev w begins
-    (subst (λ xs. AreBegun g.C.Checkpoint c.args.setup.protocol xs c.in_ok-slots.slots.items c.in_ok-slots.stores.items c.begin_each.new.dev) images_are c.in_ok-slots.ensures.begun)
-    (search rules) c.requires.alone c.requires.entries g.met.C.Checkpoint.told_contents told
+    let stores = c.in_ok-slots.stores.items in
+    let new = c.fall_together.new.stores in
+    let w1 = c.fall_together.new.self in
+    let as_many : length new ≡ length stores = c.fall_together.ensures.as_many ∙ ap (λ xs. length xs) c.deref_mut.ensures.value in
+    let all : take c.in_ok-slots.stores.len (new ++ drop (length new) stores) ≡ new = all_written c.in_ok-slots.stores.len stores new (search rules) as_many in
+    subst (λ xs. IsTold g.C.Checkpoint (stage_of xs c.begin_each.new.dev w1)
+    → IsWorld g.C.Checkpoint (system (map seen_image c.args.setup.images.items) (lists_of c.args.setup.inputs.items) c.args.setup.protocol) (opened_core (λ p. is_up (slot_at w1.slots.items p))) (stage_of xs c.begin_each.new.dev w1)) (sym all)
+    (opened_joined g.C.Checkpoint c.args.setup c.args.entries stores new c.begin_each.new.dev w w1 begins
+    (subst (λ xs. AreBegun g.C.Checkpoint c.args.setup.protocol xs c.in_ok-slots.slots.items stores c.begin_each.new.dev) images_are c.in_ok-slots.ensures.begun)
+    (search rules) c.requires.entries c.requires.some c.fall_together.ensures.rest c.fall_together.ensures.long c.fall_together.ensures.well as_many
+    (subst (λ xs. FallTogether g.C.Checkpoint w.protocol w.slots.items w1.slots.items xs new) c.deref_mut.ensures.value c.fall_together.ensures.together)
+    g.met.C.Checkpoint.told_contents)
+
+pub returns-clause-alike : goal.returns-clause-alike
+returns-clause-alike g c together = alike g.C.Checkpoint c.args.setup.protocol c.in_ok-slots.slots.items c.fall_together.new.self.slots.items c.deref_mut.result.now c.fall_together.new.stores c.fall_together.ensures.long c.fall_together.ensures.as_many c.fall_together.ensures.together together

@@ -2,7 +2,8 @@ use Rattle.std.proofs.Common.{◌≡◌, ◌++◌, ◌∙◌, None, ap, drop, le
 use Rattle.dc_model.specs.declared.entry.Entry.TheVariants as entry
 use Rattle.dc_model.specs.declared.mark.Mark.TheVariants as mark
 use Rattle.dc_twophase.specs.Stores.{EachPair}
-use Rattle.dc_world.proofs.Felling.{all_written, ready_powered, turned_powered}
+use Rattle.dc_world.proofs.Felling.{all_written}
+use Rattle.dc_world.proofs.Powered.{ready_powered, turned_powered}
 use Rattle.dc_world.specs.Processes.{FallsStore}
 use Rattle.dc_world.specs.Stages.{IsReady, stage_of}
 use Rattle.dc_world.specs.Turns.{IsTurned, later, marked}

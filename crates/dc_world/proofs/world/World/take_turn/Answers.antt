@@ -1,94 +1,13 @@
-use Rattle.std.proofs.Common.{◌≡◌, ◌≢◌, ◌≤◌, ◌<◌, ◌∙◌, ⊎_elim, ℕ, Some, arith, length, refl, slice_get, subst, sym}
-use Rattle.std.proofs.lemmas.Bool.{cases_eq}
-use Rattle.std.proofs.lemmas.Option.{slice_get_read}
-use Rattle.std.proofs.lemmas.Result.{IfOk-weaker, on_err_weaker}
-use Rattle.dc_checkpoint.specs.Calls.{IsCounted}
-use Rattle.dc_twophase.proofs.Laws.{Laws}
-use Rattle.dc_world.proofs.Waiting.{ready_next}
-use Rattle.dc_world.specs.Stages.{KeepsTelling}
+use Rattle.std.proofs.Common.{length, rules}
+use Rattle.dc_world.proofs.Partaking.{part_all}
 use Rattle.dc_world.proofs.world.World.take_turn.Goals as goal
 
-pub returns-clause-ready : goal.returns-clause-ready
-returns-clause-ready g c =
-    let met = g.met.C.Checkpoint in
-    let laws : Laws g.C.Checkpoint = record {
-      untouched_self = met.untouched_self;
-      untouched_on = met.untouched_on;
-      untouched_back = met.untouched_back;
-      lent_still = met.lent_still;
-      ready_still = met.ready_still;
-      prepared_still = met.prepared_still;
-      decidable_still = met.decidable_still;
-      steady_still = met.steady_still;
-      leaves_still = met.leaves_still;
-      numbers_still = met.numbers_still;
-      contents_still = met.contents_still;
-      continues_self = met.continues_self;
-      continues_on = met.continues_on;
-    } in
-    let p = c.args.turn.now.p in
-    let inside : p < length c.args.self.now.stores.items = subst (λ m. p < m) (sym c.requires.ready.stores_long) c.requires.process in
-    let at : slice_get c.args.self.now.stores.items p ≡ Some c.index_mut-store.result.now = slice_get_read c.args.self.now.stores.items (length c.args.self.now.stores.items) p c.index_mut-store.result.now refl inside c.index_mut-store.ensures.value in
-    ready_next g.C.Checkpoint laws c.args.self.now.stores.items c.args.dev.now c.turn.new.dev c.args.self.now.processes c.turn.new.self p c.index_mut-store.result.now c.turn.new.store c.requires.ready c.requires.process at
-    c.turn.ensures.well c.turn.ensures.rest c.turn.ensures.long c.turn.ensures.others c.turn.ensures.handled c.turn.ensures.call.same c.turn.ensures.call.others c.turn.ensures.room c.turn.ensures.grown c.requires.left
+pub returns-then-is_global-clause-stops : goal.returns-then-is_global-clause-stops
+returns-then-is_global-clause-stops g c p e =
+    let rose = c.turn_together.ensures.stops p e in
+    (part_all c.args.self.now.processes.protocol (length c.args.self.now.processes.slots.items) c.args.turn.now (search rules) p rose.0, rose.1)
 
-pub returns-clause-counts : goal.returns-clause-counts
-returns-clause-counts g c =
-    let p = c.args.turn.now.p in
-    let inside : p < length c.args.self.now.stores.items = subst (λ m. p < m) (sym c.requires.ready.stores_long) c.requires.process in
-    let at : slice_get c.args.self.now.stores.items p ≡ Some c.index_mut-store.result.now = slice_get_read c.args.self.now.stores.items (length c.args.self.now.stores.items) p c.index_mut-store.result.now refl inside c.index_mut-store.ensures.value in
-    subst (λ q. IsCounted g.C.Checkpoint.told g.C.Checkpoint.stops g.C.Checkpoint.faults q c.args.dev.now c.turn.new.dev c.turn.result) (c.requires.ready.own p c.index_mut-store.result.now at).place_is c.turn.ensures.counts
-
-pub returns-clause-others : goal.returns-clause-others
-returns-clause-others g c q ne =
-    let p = c.args.turn.now.p in
-    let inside : p < length c.args.self.now.stores.items = subst (λ m. p < m) (sym c.requires.ready.stores_long) c.requires.process in
-    let at : slice_get c.args.self.now.stores.items p ≡ Some c.index_mut-store.result.now = slice_get_read c.args.self.now.stores.items (length c.args.self.now.stores.items) p c.index_mut-store.result.now refl inside c.index_mut-store.ensures.value in
-    c.turn.ensures.call.others q (λ e. ne (e ∙ (c.requires.ready.own p c.index_mut-store.result.now at).place_is))
-
-pub returns-clause-refused : goal.returns-clause-refused
-returns-clause-refused g c fault e =
-    let p = c.args.turn.now.p in
-    let inside : p < length c.args.self.now.stores.items = subst (λ m. p < m) (sym c.requires.ready.stores_long) c.requires.process in
-    let at : slice_get c.args.self.now.stores.items p ≡ Some c.index_mut-store.result.now = slice_get_read c.args.self.now.stores.items (length c.args.self.now.stores.items) p c.index_mut-store.result.now refl inside c.index_mut-store.ensures.value in
-    let place : (q : ℕ) (x : _) → slice_get c.args.self.now.stores.items q ≡ Some x → g.C.Checkpoint.place x ≡ q = λ q x is. (c.requires.ready.own q x is).place_is in
-    c.turn.ensures.refused fault e c.args.self.now.stores.items at place
-
-pub returns-clause-turned : goal.returns-clause-turned
-returns-clause-turned g c =
-    let p = c.args.turn.now.p in
-    let inside : p < length c.args.self.now.stores.items = subst (λ m. p < m) (sym c.requires.ready.stores_long) c.requires.process in
-    let at : slice_get c.args.self.now.stores.items p ≡ Some c.index_mut-store.result.now = slice_get_read c.args.self.now.stores.items (length c.args.self.now.stores.items) p c.index_mut-store.result.now refl inside c.index_mut-store.ensures.value in
-    let place : (q : ℕ) (x : _) → slice_get c.args.self.now.stores.items q ≡ Some x → g.C.Checkpoint.place x ≡ q = λ q x is. (c.requires.ready.own q x is).place_is in
-    IfOk-weaker c.turn.result _ _ (λ r says. says c.args.self.now.stores.items at place) c.turn.ensures.turned
-
-pub returns-clause-stopped : goal.returns-clause-stopped
-returns-clause-stopped g c =
-    let p = c.args.turn.now.p in
-    let inside : p < length c.args.self.now.stores.items = subst (λ m. p < m) (sym c.requires.ready.stores_long) c.requires.process in
-    let at : slice_get c.args.self.now.stores.items p ≡ Some c.index_mut-store.result.now = slice_get_read c.args.self.now.stores.items (length c.args.self.now.stores.items) p c.index_mut-store.result.now refl inside c.index_mut-store.ensures.value in
-    let place : (q : ℕ) (x : _) → slice_get c.args.self.now.stores.items q ≡ Some x → g.C.Checkpoint.place x ≡ q = λ q x is. (c.requires.ready.own q x is).place_is in
-    on_err_weaker c.turn.result (λ says. says c.args.self.now.stores.items at place) c.turn.ensures.stopped
-
-pub returns-clause-tells : goal.returns-clause-tells
-returns-clause-tells g c q =
-    let p = c.args.turn.now.p in
-    let inside : p < length c.args.self.now.stores.items = subst (λ m. p < m) (sym c.requires.ready.stores_long) c.requires.process in
-    let at : slice_get c.args.self.now.stores.items p ≡ Some c.index_mut-store.result.now = slice_get_read c.args.self.now.stores.items (length c.args.self.now.stores.items) p c.index_mut-store.result.now refl inside c.index_mut-store.ensures.value in
-    let place_is = (c.requires.ready.own p c.index_mut-store.result.now at).place_is in
-    ⊎_elim
-    (λ (here : p ≡ q). subst (KeepsTelling g.C.Checkpoint c.args.dev.now c.turn.new.dev) (place_is ∙ here) c.turn.ensures.counts.tells)
-    (λ (ne : p ≢ q). λ stops faults told. g.met.C.Checkpoint.told_still c.args.dev.now c.turn.new.dev q (c.turn.ensures.call.others q (λ e. ne (sym (e ∙ place_is)))) told)
-    (cases_eq p q)
-
-pub returns-clause-later : goal.returns-clause-later
-returns-clause-later g c q =
-    let p = c.args.turn.now.p in
-    let inside : p < length c.args.self.now.stores.items = subst (λ m. p < m) (sym c.requires.ready.stores_long) c.requires.process in
-    let at : slice_get c.args.self.now.stores.items p ≡ Some c.index_mut-store.result.now = slice_get_read c.args.self.now.stores.items (length c.args.self.now.stores.items) p c.index_mut-store.result.now refl inside c.index_mut-store.ensures.value in
-    let place_is = (c.requires.ready.own p c.index_mut-store.result.now at).place_is in
-    ⊎_elim
-    (λ (here : p ≡ q). subst (λ r. (g.C.Checkpoint.stops c.args.dev.now r ≤ g.C.Checkpoint.stops c.turn.new.dev r) × (g.C.Checkpoint.faults c.args.dev.now r ≤ g.C.Checkpoint.faults c.turn.new.dev r)) (place_is ∙ here)
-    (c.turn.ensures.counts.stops_later, c.turn.ensures.counts.faults_later))
-    (λ (ne : p ≢ q). let same = g.met.C.Checkpoint.counts_same c.args.dev.now c.turn.new.dev q (c.turn.ensures.call.others q (λ e. ne (sym (e ∙ place_is)))) in (omega (arith, same.0), omega (arith, same.1)))
-    (cases_eq p q)
+pub returns-then-is_global-clause-failed : goal.returns-then-is_global-clause-failed
+returns-then-is_global-clause-failed g c p e =
+    let rose = c.turn_together.ensures.failed p e in
+    (part_all c.args.self.now.processes.protocol (length c.args.self.now.processes.slots.items) c.args.turn.now (search rules) p rose.0, rose.1)

@@ -1,5 +1,5 @@
-use Rattle.std.proofs.Common.{◌≡◌, ◌∙◌, ◌+◌, Err, ap}
-use Rattle.dc_world.proofs.Torn.{cut_off, line_whole}
+use Rattle.std.proofs.Common.{◌≡◌, ◌∙◌, ◌+◌, Err, ap, arith}
+use Rattle.dc_world.proofs.Torn.{cut_off, line_whole, one_line, ready_written}
 use Rattle.dc_world.specs.Worlds.{stage_in}
 use Rattle.dc_world.specs.declared.faults.TurnFault.TheVariants as faults
 use Rattle.dc_world.specs.declared.processes.Processes.{Processes}
@@ -23,3 +23,14 @@ returns-in-Err-write_shown-clause-sink g c e = (
 
 pub returns-in-Err-clause-device : goal.returns-in-Err-clause-device
 returns-in-Err-clause-device g c p e = c.in-Err.ensures.device p (let same : c.in-Err.fault ≡ faults.Device p = cc in ap Err same)
+
+pub returns-in-Ok-write_shown-clause-ready : goal.returns-in-Ok-write_shown-clause-ready
+returns-in-Ok-write_shown-clause-ready g c =
+    let w = c.take_entry-taken.new.self.processes in
+    let n = c.in-Ok-write_shown.lines in
+    let one = one_line c.take_entry-taken.new.shown in
+    let count = c.in-Ok-write_shown.ensures.count in
+    let lines_are = ap (λ (x : Processes). x.lines) c.take_entry-taken.ensures.rest in
+    let entries_are = ap (λ (x : Processes). x.entries) c.take_entry-taken.ensures.rest in
+    let few = c.requires.ready.few_lines in
+    ready_written g.C.Checkpoint c.take_entry-taken.new.self.stores.items c.take_entry-taken.new.dev w c.count_entry.new.self n c.count_entry.ensures (omega (arith, one, count)) (omega (arith, lines_are, entries_are, few)) c.take_entry-taken.ensures.ready

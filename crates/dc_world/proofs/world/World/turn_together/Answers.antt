@@ -1,0 +1,37 @@
+use Rattle.std.proofs.Common.{◌≡◌, ◌++◌, ◌∙◌, ap, drop, length, rules, subst, sym, take}
+use Rattle.dc_checkpoint.specs.Calls.{IsSameStore}
+use Rattle.dc_twophase.specs.Stores.{EachPair, IsNoPlace}
+use Rattle.dc_world.proofs.Felling.{all_written}
+use Rattle.dc_world.proofs.Partaking.{no_place}
+use Rattle.dc_world.proofs.Waiting.{ready_together}
+use Rattle.dc_world.specs.Stages.{IsReady, stage_of}
+use Rattle.dc_world.specs.Turns.{HasNoRun, later}
+use Rattle.dc_world.specs.Worlds.{counted, stage_in}
+use Rattle.dc_world.proofs.world.World.turn_together.Goals as goal
+
+pub returns-clause-ready : goal.returns-clause-ready
+returns-clause-ready g c =
+    let stores = c.args.self.now.stores.items in
+    let new = c.turn_together.new.stores in
+    let stores1 = take c.args.self.now.stores.len (new ++ drop (length new) stores) in
+    let as_many : length new ≡ length stores = c.turn_together.ensures.as_many ∙ ap (λ xs. length xs) c.deref_mut.ensures.value in
+    let all : stores1 ≡ new = all_written c.args.self.now.stores.len stores new (search rules) as_many in
+    subst (λ xs. IsReady g.C.Checkpoint xs c.turn_together.new.dev (counted c.turn_together.new.self)) (sym all)
+    (ready_together g.C.Checkpoint stores new c.args.dev.now c.turn_together.new.dev c.args.self.now.processes c.turn_together.new.self c.requires.together c.requires.ready as_many
+    (subst (λ xs. EachPair xs new (λ i. IsSameStore g.C.Checkpoint.place g.C.Checkpoint.size g.C.Checkpoint.form)) c.deref_mut.ensures.value c.turn_together.ensures.stores)
+    c.turn_together.ensures.well c.turn_together.ensures.rest c.turn_together.ensures.long c.turn_together.ensures.ready c.turn_together.ensures.room c.turn_together.ensures.acts_room c.turn_together.ensures.grown c.requires.left)
+
+pub returns-clause-others : goal.returns-clause-others
+returns-clause-others g c q past =
+    c.turn_together.ensures.others q (subst (λ xs. IsNoPlace g.C.Checkpoint xs q) (sym c.deref_mut.ensures.value)
+    (no_place g.C.Checkpoint (length c.args.self.now.processes.slots.items) c.args.self.now.stores.items c.requires.ready.stores_long c.requires.ready.own q past))
+
+pub returns-clause-refused : goal.returns-clause-refused
+returns-clause-refused g c p fault e =
+    let stores = c.args.self.now.stores.items in
+    let new = c.turn_together.new.stores in
+    let stores1 = take c.args.self.now.stores.len (new ++ drop (length new) stores) in
+    let all : stores1 ≡ new = all_written c.args.self.now.stores.len stores new (search rules) (c.turn_together.ensures.as_many ∙ ap (λ xs. length xs) c.deref_mut.ensures.value) in
+    let none : HasNoRun g.C.Checkpoint (stage_of c.deref_mut.result.now c.args.dev.now c.args.self.now.processes) (later 0 (stage_of new c.turn_together.new.dev c.turn_together.new.self)) = c.turn_together.ensures.refused p fault e in
+    subst (λ xs. HasNoRun g.C.Checkpoint (stage_in c.args.self.now c.args.dev.now) (later 0 (stage_of xs c.turn_together.new.dev c.turn_together.new.self))) (sym all)
+    (subst (λ xs. HasNoRun g.C.Checkpoint (stage_of xs c.args.dev.now c.args.self.now.processes) (later 0 (stage_of new c.turn_together.new.dev c.turn_together.new.self))) c.deref_mut.ensures.value none)

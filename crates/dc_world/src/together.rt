@@ -1,0 +1,304 @@
+//! A turn where all processes commit, fall and recover together.
+
+ghost use Rattle.std.specs.Prelude.{◌≡◌, ◌≢◌, ◌<◌, ◌≤◌, ◌+◌, ◌*◌, ◌-◌, ◌^◌, ℕ, IfOk, IfSome, IsErrOf, None, OnErr, OnOk, Some, if◌then◌else◌, length, slice_get, true, false};
+ghost use Rattle.dc_checkpoint.specs.Calls.{IsSameStore};
+ghost use Rattle.dc_kernel.specs.declared.faults.StoreFault as faults;
+ghost use Rattle.dc_guest.specs.Answers.{answer_of, may_answer};
+ghost use Rattle.dc_model.specs.Guests.Answer.{Plain};
+ghost use Rattle.dc_model.specs.declared.entry.Entry.TheVariants as entries;
+ghost use Rattle.dc_model.specs.declared.mark.Mark.TheVariants as marks;
+ghost use Rattle.dc_protocols.specs.Rules.{is_global};
+ghost use Rattle.dc_twophase.specs.Commits.{IsSameMemory};
+ghost use Rattle.dc_twophase.specs.Counts.{IsJoint, IsUnrefused};
+ghost use Rattle.dc_twophase.specs.Stores.{At, EachPair, IsNoPlace};
+ghost use Rattle.dc_twophase.specs.declared.faults.JointFault.TheVariants as joint;
+ghost use Rattle.dc_world.specs.Answers.{IsSentTo, kind_by};
+ghost use Rattle.dc_world.specs.Joints.{AreDown, AreFit, AreOwn, AreReady, GoesAlike, HaveCounts, IsRoomFor, have_own};
+ghost use Rattle.dc_world.specs.Processes.{IsWell};
+ghost use Rattle.dc_world.specs.Slots.{is_up, slot_at};
+ghost use Rattle.dc_world.specs.Stages.{stage_of};
+ghost use Rattle.dc_world.specs.Taking.{MakesCall, MayTake, ShowsNext};
+ghost use Rattle.dc_world.specs.Together.{Breaks, Happens, IsAskedAt, Makes, ShowsTold, after_event, all_torn, commit_core};
+ghost use Rattle.dc_world.specs.Turns.{FellTogether, GoesOn, HasNoRun, WentTogether, later, lines_of};
+
+use crate::processes::Processes;
+use crate::slot::Slot;
+use crate::taking::{hand_on, take_in};
+use crate::turning::next_call;
+use dc_calls::Call;
+use dc_checkpoint::Checkpoint;
+use dc_guest::Answer;
+use dc_model::{Mark, Turn, Visible};
+use dc_proc::Shown;
+use dc_protocols::Rule;
+use dc_twophase::{JointFault, joint_fault};
+
+impl Processes {
+    /// Whether any process had an unlogged nondeterministic event since the last commit of all.
+    fn any_own(&self) -> bool
+        ensures { result ≡ have_own self.now.slots.items }
+    {
+        self.slots
+            .iter()
+            .any(|slot| matches!(slot, Some(Slot::Up(up)) if up.own()))
+    }
+
+    /// What the protocol asks of all at the next event of process `p`, which is up and goes on, with this answer.
+    fn asked<C: Checkpoint>(&self, p: u32, stores: &[C], dev: &C::Device, answer: &Answer) -> Rule
+        requires well { IsWell self.now }
+        requires process { p < length self.now.slots.items }
+        requires stores { length stores.now ≡ length self.now.slots.items }
+        requires own { AreOwn C.Checkpoint (length self.now.slots.items) stores.now }
+        requires next { At p stores.now (λ c. (call : _) × MakesCall C.Checkpoint c dev.now (slot_at self.now.slots.items p) call) }
+        requires sender { IsSentTo (length self.now.slots.items) p (answer_of answer.now) }
+        ensures asked { IsAskedAt C.Checkpoint p (answer_of answer.now) (stage_of stores.now dev.now self.now) result }
+        ensures once { is_global self.now.protocol ≡ true → result.before ≡ true → result.after ≡ false }
+    {
+        match self.up(p) {
+            Some(up) => {
+                let kind = up.next_kind(&stores[p as usize], dev);
+                up.asked(kind, answer, self.any_own())
+            }
+            None => unreachable!(),
+        }
+    }
+
+    /// Commits all processes together where it is due. Refused, all are down.
+    fn commit_if<C: Checkpoint>(
+        &mut self,
+        due: bool,
+        stores: &mut [C],
+        dev: &mut C::Device,
+    ) -> Result<(), JointFault>
+        requires well { IsWell self.old }
+        requires together { is_global self.old.protocol ≡ true }
+        requires stores { length stores.old ≡ length self.old.slots.items }
+        requires own { AreOwn C.Checkpoint (length self.old.slots.items) stores.old }
+        requires fit { AreFit C.Checkpoint stores.old dev.old self.old.slots.items }
+        requires counts { due ≡ true → HaveCounts 1 self.old.slots.items }
+        requires room { IsRoomFor C.Checkpoint stores.old (length self.old.slots.items) self.old.joint }
+        requires left { 0 < self.old.left }
+        ensures well { IsWell self.new }
+        ensures rest { self.new ≡ record self.old { slots = self.new.slots; joint = self.new.joint } }
+        ensures long { length self.new.slots.items ≡ length self.old.slots.items }
+        ensures stores { EachPair stores.old stores.new (λ i. IsSameStore C.place C.size C.form) }
+        ensures as_many { length stores.new ≡ length stores.old }
+        ensures room { IsRoomFor C.Checkpoint stores.new (length self.old.slots.items) self.new.joint }
+        ensures fit { OnOk result (AreFit C.Checkpoint stores.new dev.new self.new.slots.items) }
+        ensures counts { OnOk result ((m : ℕ) → HaveCounts (m + (if due then 1 else 0)) self.old.slots.items → HaveCounts m self.new.slots.items) }
+        ensures memory { OnOk result (EachPair stores.old stores.new (λ i. IsSameMemory C.Checkpoint dev.old dev.new)) }
+        ensures alike { OnOk result ((p : ℕ) → p < length self.old.slots.items → GoesAlike (slot_at self.old.slots.items p) (slot_at self.new.slots.items p)) }
+        ensures down { OnErr result (AreDown C.Checkpoint stores.new dev.new self.new.slots.items) }
+        ensures due { OnErr result (due ≡ true) }
+        ensures joint { IsJoint C.Checkpoint stores.old dev.old dev.new result }
+        ensures unrefused { IsUnrefused result }
+        ensures others { (q : ℕ) → IsNoPlace C.Checkpoint stores.old q → C.untouched dev.old dev.new q }
+        ensures continues { C.continues dev.old dev.new }
+        ensures goes { OnOk result (Makes C.Checkpoint (commit_core due) (stage_of stores.old dev.old self.old) (stage_of stores.new dev.new self.new)) }
+        ensures torn { OnErr result (HaveCounts (2 * self.old.left - 1) self.old.slots.items → Makes C.Checkpoint all_torn (stage_of stores.old dev.old self.old) (later 0 (stage_of stores.new dev.new self.new))) }
+    {
+        if due {
+            return self.commit_together(stores, dev);
+        }
+        Ok(())
+    }
+
+    /// Process `p` takes its next event: what it shows. Refused, all are down.
+    fn take_event<C: Checkpoint>(
+        &mut self,
+        p: u32,
+        answer: &Answer,
+        stores: &mut [C],
+        dev: &mut C::Device,
+    ) -> Result<Option<Shown>, JointFault>
+        requires well { IsWell self.old }
+        requires together { is_global self.old.protocol ≡ true }
+        requires process { p < length self.old.slots.items }
+        requires stores { length stores.old ≡ length self.old.slots.items }
+        requires own { AreOwn C.Checkpoint (length self.old.slots.items) stores.old }
+        requires fit { AreFit C.Checkpoint stores.old dev.old self.old.slots.items }
+        requires may { At p stores.old (λ c. MayTake C.Checkpoint c dev.old (answer_of answer.now) (slot_at self.old.slots.items p)) }
+        requires acts { (length self.old.acts.items < self.old.acts.room) × (length self.old.acts.items < 2 ^ 32 - 1) }
+        requires left { 0 < self.old.left }
+        ensures well { IsWell self.new }
+        ensures rest { self.new ≡ record self.old { slots = self.new.slots; acts = self.new.acts; exposed = self.new.exposed } }
+        ensures long { length self.new.slots.items ≡ length self.old.slots.items }
+        ensures acts_room { self.old.acts.room ≤ self.new.acts.room }
+        ensures grown { length self.new.acts.items ≤ length self.old.acts.items + 1 }
+        ensures stores { EachPair stores.old stores.new (λ i. IsSameStore C.place C.size C.form) }
+        ensures as_many { length stores.new ≡ length stores.old }
+        ensures fit { OnOk result (AreFit C.Checkpoint stores.new dev.new self.new.slots.items) }
+        ensures counts { OnOk result ((m : ℕ) → HaveCounts (m + 1) self.old.slots.items → HaveCounts m self.new.slots.items) }
+        ensures down { OnErr result (AreDown C.Checkpoint stores.new dev.new self.new.slots.items) }
+        ensures joint { IsJoint C.Checkpoint stores.old dev.old dev.new result }
+        ensures unrefused { IsUnrefused result }
+        ensures others { (q : ℕ) → IsNoPlace C.Checkpoint stores.old q → C.untouched dev.old dev.new q }
+        ensures continues { C.continues dev.old dev.new }
+        ensures shown { IfOk result (λ done. At p stores.old (λ c. ShowsNext C.Checkpoint c dev.old (slot_at self.old.slots.items p) done)) }
+        ensures happens { OnOk result (Happens C.Checkpoint p (answer_of answer.now) (λ S c. after_event S self.old.entries c p (answer_of answer.now)) (stage_of stores.old dev.old self.old) (stage_of stores.new dev.new self.new)) }
+        ensures broken { OnErr result (HaveCounts (2 * self.old.left - 1) self.old.slots.items
+            → Breaks C.Checkpoint p (answer_of answer.now) (stage_of stores.old dev.old self.old) (later 0 (stage_of stores.new dev.new self.new))) }
+    {
+        let acts = self.acts.count_of(p);
+        let slot = &mut self.slots[p as usize];
+        let store = &mut stores[p as usize];
+        match take_in(slot, store, dev, self.entries, answer, &mut self.acts) {
+            Ok(done) => {
+                self.note_exposed(p, acts, done.is_some());
+                Ok(done)
+            }
+            Err(fault) => {
+                self.power(stores);
+                Err(joint_fault(p, fault))
+            }
+        }
+    }
+
+    /// Process `p`, which is up and goes on, takes its next event, with the commits of all that are due before and after it: what it
+    /// shows is handed on. Refused, all are down.
+    fn take_together<C: Checkpoint>(
+        &mut self,
+        p: u32,
+        call: Option<Call>,
+        answer: &Answer,
+        stores: &mut [C],
+        dev: &mut C::Device,
+        shown: &mut Option<Visible>,
+    ) -> Result<Mark, JointFault>
+        requires well { IsWell self.old }
+        requires together { is_global self.old.protocol ≡ true }
+        requires process { p < length self.old.slots.items }
+        requires stores { length stores.old ≡ length self.old.slots.items }
+        requires own { AreOwn C.Checkpoint (length self.old.slots.items) stores.old }
+        requires fit { AreFit C.Checkpoint stores.old dev.old self.old.slots.items }
+        requires counts { HaveCounts (2 * self.old.left) self.old.slots.items }
+        requires room { IsRoomFor C.Checkpoint stores.old (length self.old.slots.items) self.old.joint }
+        requires next { At p stores.old (λ c. MakesCall C.Checkpoint c dev.old (slot_at self.old.slots.items p) call) }
+        requires left { 0 < self.old.left }
+        requires acts { (length self.old.acts.items < self.old.acts.room) × (length self.old.acts.items < 2 ^ 32 - 1) }
+        requires kind { may_answer (answer_of answer.now) (kind_by call) ≡ true }
+        requires plain { call ≡ None → answer_of answer.now ≡ Plain }
+        requires sender { IsSentTo (length self.old.slots.items) p (answer_of answer.now) }
+        requires nothing { shown.old ≡ None }
+        ensures well { IsWell self.new }
+        ensures rest { self.new ≡ record self.old { slots = self.new.slots; acts = self.new.acts; exposed = self.new.exposed; joint = self.new.joint } }
+        ensures long { length self.new.slots.items ≡ length self.old.slots.items }
+        ensures acts_room { self.old.acts.room ≤ self.new.acts.room }
+        ensures grown { length self.new.acts.items ≤ length self.old.acts.items + 1 }
+        ensures stores { EachPair stores.old stores.new (λ i. IsSameStore C.place C.size C.form) }
+        ensures as_many { length stores.new ≡ length stores.old }
+        ensures room { IsRoomFor C.Checkpoint stores.new (length self.old.slots.items) self.new.joint }
+        ensures fit { OnOk result (AreFit C.Checkpoint stores.new dev.new self.new.slots.items × HaveCounts (2 * (self.old.left - 1)) self.new.slots.items) }
+        ensures down { OnErr result (AreDown C.Checkpoint stores.new dev.new self.new.slots.items) }
+        ensures joint { IsJoint C.Checkpoint stores.old dev.old dev.new result }
+        ensures unrefused { IsUnrefused result }
+        ensures others { (q : ℕ) → IsNoPlace C.Checkpoint stores.old q → C.untouched dev.old dev.new q }
+        ensures continues { C.continues dev.old dev.new }
+        ensures unshown { OnErr result (shown.new ≡ None) }
+        ensures showed { IfOk result (λ mark. ShowsTold C.Checkpoint (stage_of stores.old dev.old self.old) p mark shown.new) }
+        ensures went { OnOk result (WentTogether C.Checkpoint (stage_of stores.old dev.old self.old) (later (length (lines_of shown.new)) (stage_of stores.new dev.new self.new)) p (answer_of answer.now)) }
+        ensures fell { OnErr result (FellTogether C.Checkpoint (stage_of stores.old dev.old self.old) (later 0 (stage_of stores.new dev.new self.new)) p (answer_of answer.now)) }
+    {
+        let asked = self.asked(p, stores, dev, answer);
+        self.commit_if(asked.before, stores, dev)?;
+        let done = self.take_event(p, answer, stores, dev)?;
+        self.commit_if(asked.after, stores, dev)?;
+        Ok(hand_on(done, p, shown))
+    }
+
+    /// A turn of a process that is up where all commit together: what it did, and what it showed. Refused, all are down.
+    fn turn_all_up<C: Checkpoint>(
+        &mut self,
+        turn: &Turn,
+        stores: &mut [C],
+        dev: &mut C::Device,
+        shown: &mut Option<Visible>,
+    ) -> Result<Mark, JointFault>
+        requires well { IsWell self.old }
+        requires together { is_global self.old.protocol ≡ true }
+        requires process { turn.now.p < length self.old.slots.items }
+        requires up { is_up (slot_at self.old.slots.items turn.now.p) ≡ true }
+        requires stores { length stores.old ≡ length self.old.slots.items }
+        requires own { AreOwn C.Checkpoint (length self.old.slots.items) stores.old }
+        requires fit { AreFit C.Checkpoint stores.old dev.old self.old.slots.items }
+        requires counts { HaveCounts (2 * self.old.left) self.old.slots.items }
+        requires room { IsRoomFor C.Checkpoint stores.old (length self.old.slots.items) self.old.joint }
+        requires left { 0 < self.old.left }
+        requires acts { (length self.old.acts.items < self.old.acts.room) × (length self.old.acts.items < 2 ^ 32 - 1) }
+        requires nothing { shown.old ≡ None }
+        ensures well { IsWell self.new }
+        ensures rest { self.new ≡ record self.old { slots = self.new.slots; acts = self.new.acts; exposed = self.new.exposed; joint = self.new.joint } }
+        ensures long { length self.new.slots.items ≡ length self.old.slots.items }
+        ensures acts_room { self.old.acts.room ≤ self.new.acts.room }
+        ensures grown { length self.new.acts.items ≤ length self.old.acts.items + 1 }
+        ensures stores { EachPair stores.old stores.new (λ i. IsSameStore C.place C.size C.form) }
+        ensures as_many { length stores.new ≡ length stores.old }
+        ensures ready { AreReady C.Checkpoint (self.old.left - 1) stores.new dev.new self.new.slots.items }
+        ensures room { IsRoomFor C.Checkpoint stores.new (length self.old.slots.items) self.new.joint }
+        ensures joint { IsJoint C.Checkpoint stores.old dev.old dev.new result }
+        ensures others { (q : ℕ) → IsNoPlace C.Checkpoint stores.old q → C.untouched dev.old dev.new q }
+        ensures continues { C.continues dev.old dev.new }
+        ensures whole { IfOk result (λ mark. mark ≡ marks.Stopped → ⊥) }
+        ensures shows { IfOk result (λ mark. IfSome shown.new (λ visible. mark ≡ marks.Showed visible.k)) }
+        ensures unshown { OnErr result (shown.new ≡ None) }
+        ensures unrefused { IsUnrefused result }
+        ensures turned { IfOk result (λ mark. GoesOn C.Checkpoint (stage_of stores.old dev.old self.old) (later (length (lines_of shown.new)) (stage_of stores.new dev.new self.new)) (entries.Turn turn.now) mark shown.new) }
+        ensures stopped { OnErr result (GoesOn C.Checkpoint (stage_of stores.old dev.old self.old) (later 0 (stage_of stores.new dev.new self.new)) (entries.Turn turn.now) marks.Stopped None) }
+    {
+        let Some(up) = self.up(turn.p) else {
+            unreachable!()
+        };
+        match next_call(up, &stores[turn.p as usize], dev) {
+            Ok(call) => {
+                let answer = self.answer(up, call, turn);
+                self.take_together(turn.p, call, &answer, stores, dev, shown)
+            }
+            Err(idle) => Ok(Mark::Idle(idle)),
+        }
+    }
+
+    /// A turn of a process where all commit together: it takes its next event, or all recover where all are down. What it shows is
+    /// handed on.
+    pub fn turn_together<C: Checkpoint>(
+        &mut self,
+        turn: &Turn,
+        stores: &mut [C],
+        dev: &mut C::Device,
+        shown: &mut Option<Visible>,
+    ) -> Result<Mark, JointFault>
+        requires well { IsWell self.old }
+        requires together { is_global self.old.protocol ≡ true }
+        requires process { turn.now.p < length self.old.slots.items }
+        requires stores { length stores.old ≡ length self.old.slots.items }
+        requires own { AreOwn C.Checkpoint (length self.old.slots.items) stores.old }
+        requires ready { AreReady C.Checkpoint self.old.left stores.old dev.old self.old.slots.items }
+        requires room { IsRoomFor C.Checkpoint stores.old (length self.old.slots.items) self.old.joint }
+        requires left { 0 < self.old.left }
+        requires acts { length self.old.acts.items + self.old.left ≤ self.old.acts.room }
+        requires few { (length self.old.acts.items ≤ self.old.entries) × (self.old.entries + self.old.left ≤ 1000000) }
+        requires nothing { shown.old ≡ None }
+        ensures well { IsWell self.new }
+        ensures rest { self.new ≡ record self.old { slots = self.new.slots; acts = self.new.acts; exposed = self.new.exposed; joint = self.new.joint } }
+        ensures long { length self.new.slots.items ≡ length self.old.slots.items }
+        ensures acts_room { self.old.acts.room ≤ self.new.acts.room }
+        ensures grown { length self.new.acts.items ≤ length self.old.acts.items + 1 }
+        ensures stores { EachPair stores.old stores.new (λ i. IsSameStore C.place C.size C.form) }
+        ensures as_many { length stores.new ≡ length stores.old }
+        ensures ready { AreReady C.Checkpoint (self.old.left - 1) stores.new dev.new self.new.slots.items }
+        ensures room { IsRoomFor C.Checkpoint stores.new (length self.old.slots.items) self.new.joint }
+        ensures joint { IsJoint C.Checkpoint stores.old dev.old dev.new result }
+        ensures others { (q : ℕ) → IsNoPlace C.Checkpoint stores.old q → C.untouched dev.old dev.new q }
+        ensures continues { C.continues dev.old dev.new }
+        ensures whole { IfOk result (λ mark. mark ≡ marks.Stopped → ⊥) }
+        ensures shows { IfOk result (λ mark. IfSome shown.new (λ visible. mark ≡ marks.Showed visible.k)) }
+        ensures unshown { OnErr result (shown.new ≡ None) }
+        ensures refused { (i : ℕ) (fault : faults.StoreFault) → IsErrOf result (joint.Refused i fault) → HasNoRun C.Checkpoint (stage_of stores.old dev.old self.old) (later 0 (stage_of stores.new dev.new self.new)) }
+        ensures turned { IfOk result (λ mark. GoesOn C.Checkpoint (stage_of stores.old dev.old self.old) (later (length (lines_of shown.new)) (stage_of stores.new dev.new self.new)) (entries.Turn turn.now) mark shown.new) }
+        ensures stopped { OnErr result (GoesOn C.Checkpoint (stage_of stores.old dev.old self.old) (later 0 (stage_of stores.new dev.new self.new)) (entries.Turn turn.now) marks.Stopped None) }
+    {
+        if self.is_up(turn.p) {
+            return self.turn_all_up(turn, stores, dev, shown);
+        }
+        self.recover_together(turn, stores, dev)
+    }
+}
