@@ -2,9 +2,9 @@
 use Rattle.std.proofs.Common.{◌≡◌, ◌≤◌, ◌+◌, ℕ, zero, suc, Result, Option, Ok, Err, refl, ap, sym, ◌∙◌, arith}
 use Rattle.std.specs.Result.{result_and}
 use Rattle.dc_media.specs.Told.{Device, IsSameStore, TellsOn}
-use Rattle.dc_media.specs.Causes.{IsCaused, counted}
+use Rattle.dc_media.specs.Causes.{IsCaused, counted, counted_by}
 use Rattle.dc_armed.specs.Stops.{capped}
-use Rattle.dc_armed.specs.Torn.{IsInCalls, counted_by}
+use Rattle.dc_armed.specs.Torn.{IsInCalls}
 use Rattle.dc_media.specs.declared.faults.DeviceFault.{DeviceFault}
 
 -- two calls of a device in a row, of which the first refused is the answer
@@ -46,6 +46,11 @@ counted_by-more j (suc k) n = let more : j + suc k ≡ suc (j + k) = omega arith
 pub capped_later : (k n : ℕ) → capped n ≤ capped (counted_by k n)
 capped_later zero n = omega arith
 capped_later (suc k) n = let more = capped_later k n in omega (arith, more)
+
+-- counted on some times, a count rises by no more
+pub capped_by : (k n : ℕ) → capped (counted_by k n) ≤ capped n + k
+capped_by zero n = omega arith
+capped_by (suc k) n = let so_far = capped_by k n in omega (arith, so_far)
 
 module _ {S C : Type 0} (device : Device S C) where
   -- another process's store stays

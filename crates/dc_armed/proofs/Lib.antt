@@ -2,4 +2,5 @@ mod Copies
 mod Counting
 mod Firsts
 mod Parting
+mod Rows
 mod Surviving

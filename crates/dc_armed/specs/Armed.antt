@@ -2,9 +2,8 @@
 use Rattle.std.specs.Prelude.{◌≡◌, ◌≤◌, ◌<◌, ◌⊎◌, ◌+◌, ◌-◌, ◌^◌, ℕ, Result, IsErr, IsErrOf}
 use Rattle.dc_media.specs.declared.faults.DeviceFault.{DeviceFault}
 use Rattle.dc_media.specs.declared.faults.DeviceFault.TheVariants.{Stopped}
-use Rattle.dc_media.specs.Causes.{IsCaused}
+use Rattle.dc_media.specs.Causes.{IsCaused, counted_by}
 use Rattle.dc_media.specs.Told.{Becomes, Device, showing}
-use Rattle.dc_armed.specs.Torn.{counted_by}
 use Rattle.dc_armed.specs.Stops.{Plan, Comes, Progresses, came_to, calls_left, calls_to, capped, waiting_for}
 
 -- the device within, and the stops that are planned for it

@@ -1,10 +1,10 @@
 -- Planned stops: which one waits for a process in a turn, how its calls count it down, and how many came.
-use Rattle.std.specs.Prelude.{◌≡◌, ◌≢◌, ℕ, ◌+◌, ◌-◌, ◌^◌, ◌≤◌, ◌==◌, ◌&&◌, nat_lt, min, List, Bool, Option, None, Some, Result, Ok, Err, if◌then◌else◌, get_or}
+use Rattle.std.specs.Prelude.{◌≡◌, ◌≢◌, ℕ, ◌+◌, ◌-◌, ◌^◌, ◌≤◌, ◌==◌, ◌&&◌, not, nat_lt, min, List, Bool, false, Option, None, Some, Result, Ok, Err, if◌then◌else◌, get_or}
 use Rattle.dc_media.specs.declared.faults.DeviceFault.{DeviceFault}
 use Rattle.dc_media.specs.declared.faults.DeviceFault.TheVariants.{Stopped, Failed}
 use Rattle.dc_media.specs.declared.TheConstants.{STORES}
 use Rattle.dc_media.specs.declared.tear.Tear.{Tear}
-use Rattle.dc_media.specs.Causes.{counted}
+use Rattle.dc_media.specs.Causes.{counted, counted_by}
 use Rattle.dc_media.specs.Firsts.{first_by}
 use Rattle.dc_armed.specs.declared.stop.PlannedStop.{PlannedStop}
 use Rattle.dc_armed.specs.declared.stop.Waiting.{Waiting}
@@ -59,6 +59,16 @@ abbrev pub one_fewer : Option Waiting → Option Waiting
 one_fewer None = None
 one_fewer (Some waiting) = if nat_lt 1 waiting.calls then Some (record waiting { calls = waiting.calls - 1 }) else None
 
+-- whether a stop waits for one of the next n calls
+abbrev pub waits_within : ℕ → Option Waiting → Bool
+waits_within n None = false
+waits_within n (Some waiting) = not (nat_lt n waiting.calls)
+
+-- what waits after n calls, of which it waited for none
+abbrev pub fewer_by : ℕ → Option Waiting → Option Waiting
+fewer_by n None = None
+fewer_by n (Some waiting) = Some (record waiting { calls = waiting.calls - n })
+
 -- what waits after an answer; nothing waits for a process that was stopped
 abbrev pub after_answer : {T : Type 0} → Result T DeviceFault → Option Waiting → Option Waiting
 after_answer (Ok x) waiting = waiting
@@ -80,6 +90,11 @@ pub record Comes (p : ℕ) (old new : Plan) : Type 0 where
 -- one more call of a process, and none of the others
 pub record Calls (p : ℕ) (old new : Plan) : Type 0 where
   pub here : calls_to new p ≡ counted (calls_to old p)
+  pub others : (q : ℕ) → q ≢ p → calls_to new q ≡ calls_to old q
+
+-- n more calls of a process, and none of the others
+pub record CallsInRow (n p : ℕ) (old new : Plan) : Type 0 where
+  pub here : calls_to new p ≡ counted_by n (calls_to old p)
   pub others : (q : ℕ) → q ≢ p → calls_to new q ≡ calls_to old q
 
 -- how many calls there are up to the one at which a stop comes that waits, with that one; none where no stop waits

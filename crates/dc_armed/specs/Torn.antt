@@ -1,17 +1,12 @@
 -- What is left of a torn call, and of a write that is made in parts.
-use Rattle.std.specs.Prelude.{◌≡◌, ◌≢◌, ◌⊎◌, ◌+◌, ◌-◌, ◌/◌, ℕ, zero, suc, min, List, length, take, drop, slice_index, slice_set, Option, Result, MatchResult, IsOk, OnOk, nat_lt, ◌≤◌, if◌then◌else◌}
+use Rattle.std.specs.Prelude.{◌≡◌, ◌≢◌, ◌⊎◌, ◌+◌, ◌-◌, ◌/◌, ℕ, min, List, length, take, drop, slice_index, slice_set, Option, Result, MatchResult, IsOk, OnOk, nat_lt, ◌≤◌, if◌then◌else◌}
 use Rattle.dc_media.specs.declared.faults.DeviceFault.{DeviceFault}
 use Rattle.dc_media.specs.declared.tear.Tear.{Tear}
-use Rattle.dc_media.specs.Causes.{IsCaused, counted}
+use Rattle.dc_media.specs.Causes.{IsCaused, counted_by}
 use Rattle.dc_media.specs.Disk.{Disk, Survives, spliced, with_pending}
 use Rattle.dc_media.specs.Stores.{copied}
 use Rattle.dc_media.specs.Tears.{torn, torn_word}
 use Rattle.dc_media.specs.Told.{Becomes, Device, IsSameStore, TellsOn}
-
--- a counter counted on so many times
-abbrev pub counted_by : ℕ → ℕ → ℕ
-counted_by zero n = n
-counted_by (suc k) n = counted (counted_by k n)
 
 -- what the laws of a device say of a process's store after exactly so many counted calls, with this answer for all of them
 pub record IsInCalls {S C T : Type 0} (device : Device S C) (p count : ℕ) (result : Result T DeviceFault) (old new : S) : Type 0 where

@@ -1,10 +1,10 @@
 ghost use Rattle.std.specs.Prelude.{◌≡◌, ◌≢◌, ◌+◌, ◌<◌, ◌≤◌, ℕ, None, IfSome, OnOk, OnErr, length};
-ghost use Rattle.dc_media.specs.Causes.{IsCaused, IsMade, counted};
+ghost use Rattle.dc_media.specs.Causes.{IsCaused, IsMade, counted, counted_by};
 ghost use Rattle.dc_media.specs.Disk.{Reads, Syncs, Writes, blank};
 ghost use Rattle.dc_media.specs.Devices.{of_disks};
 ghost use Rattle.dc_media.specs.Told.{TellsOn, IsSameStore, showing};
 ghost use Rattle.dc_armed.specs.Armed.{all_calls, all_stops, armed, within, ComesOrRefused, IsOwn, IsPlannedAlone, IsLater};
-ghost use Rattle.dc_armed.specs.Torn.{counted_by, torn_calls, torn_disk};
+ghost use Rattle.dc_armed.specs.Torn.{torn_calls, torn_disk};
 ghost use Rattle.dc_armed.specs.Stops.{after_answer, calls_to, came_to, due, one_fewer, waiting_for, Waits};
 ghost use Rattle.dc_armed.specs.Laws.{later_on, later_self};
 

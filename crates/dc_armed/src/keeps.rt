@@ -1,11 +1,11 @@
-ghost use Rattle.std.specs.Prelude.{◌≡◌, ◌≢◌, ◌+◌, ◌<◌, ◌≤◌, ℕ, None, IfSome, OnOk, OnErr, replicate};
-ghost use Rattle.dc_media.specs.Causes.{IsCaused, IsMade, counted};
-ghost use Rattle.dc_media.specs.Stores.{AreSameOrApart, CopiesLine, SetsWord, copied};
+ghost use Rattle.std.specs.Prelude.{◌≡◌, ◌≢◌, ◌+◌, ◌<◌, ◌≤◌, ℕ, false, length, None, IfSome, OnOk, OnErr, replicate};
+ghost use Rattle.dc_media.specs.Causes.{AreCounted, IsCaused, IsMade, counted, counted_by};
+ghost use Rattle.dc_media.specs.Stores.{AreSameOrApart, CopiesLine, SetsWord, SetsWords, copied};
 ghost use Rattle.dc_media.specs.Devices.{of_words};
 ghost use Rattle.dc_media.specs.Told.{TellsOn, IsSameStore, showing};
 ghost use Rattle.dc_armed.specs.Armed.{all_calls, all_stops, armed, within, ComesOrRefused, IsOwn, IsPlannedAlone, IsLater};
-ghost use Rattle.dc_armed.specs.Torn.{at_once, copy_calls, counted_by, kept_words, torn_store};
-ghost use Rattle.dc_armed.specs.Stops.{after_answer, calls_to, came_to, due, one_fewer, waiting_for, Waits};
+ghost use Rattle.dc_armed.specs.Torn.{at_once, copy_calls, kept_words, torn_store};
+ghost use Rattle.dc_armed.specs.Stops.{after_answer, calls_to, came_to, due, fewer_by, one_fewer, waiting_for, waits_within, Waits};
 ghost use Rattle.dc_armed.specs.Laws.{later_on, later_self};
 
 use crate::Armed;
@@ -13,7 +13,7 @@ use crate::torn::{torn_copy, torn_store};
 use dc_media::{DeviceFault, Keeps, MakeFault, STORES};
 use std::alloc::Global;
 
-/// Stores of words with planned stops. A store and a copied line are counted as calls.
+/// Stores of words with planned stops. A store and a copied line are counted as calls, and words in a row as stores of each.
 impl<K: Keeps> Keeps for Armed<K> {
     ghost told = { within K.told };
 
@@ -97,6 +97,31 @@ impl<K: Keeps> Keeps for Armed<K> {
         }
     }
 
+    /// Where no planned stop waits for one of these stores, the words are set by one call of the device; else by a store of each.
+    fn store_words(&mut self, p: u32, i: u32, words: &[u32]) -> Result<(), DeviceFault>
+        requires { i + length words.now ≤ K.extent self.old.device p }
+        ensures extent { K.extent self.new.device p ≡ K.extent self.old.device p }
+        ensures words { SetsWords i words.now result (K.told self.old.device p) (K.told self.new.device p) }
+        ensures tells { TellsOn (K.stops self.new.device p) (K.faults self.new.device p) (K.told self.old.device p) (K.told self.new.device p) }
+        ensures cause { IsCaused (all_stops K.stops self.old p) (all_stops K.stops self.new p) (K.faults self.old.device p) (K.faults self.new.device p) result }
+        ensures calls { AreCounted (length words.now) result (calls_to self.old.plan p) (calls_to self.new.plan p) }
+        ensures others { (q : ℕ) → q ≢ p → IsSameStore (armed (of_words K.Keeps)) self.old self.new q }
+        ensures continues { IsLater K.continues (of_words K.Keeps) self.old self.new }
+
+        // where no stop waits for one of them: the device's own answer and calls, and what waits then
+        ensures passes { waits_within (length words.now) (waiting_for self.old.plan p) ≡ false → IsOwn (of_words K.Keeps) p result self.old self.new }
+        ensures once { waits_within (length words.now) (waiting_for self.old.plan p) ≡ false → AreCounted (length words.now) result (K.calls self.old.device p) (K.calls self.new.device p) }
+        ensures waits { waits_within (length words.now) (waiting_for self.old.plan p) ≡ false → Waits p (after_answer result (fewer_by (length words.now) (waiting_for self.old.plan p))) self.old.plan self.new.plan }
+    {
+        let count = words.len() as u64;
+        if self.plan.waits_within(p, count) {
+            return self.store_each(p, i, words);
+        }
+        self.plan.call_in_row(p, count);
+        let done = self.device.store_words(p, i, words);
+        self.plan.passed(p, done)
+    }
+
     /// At a planned stop as many words are copied as are kept, one by one, or all of them by one call.
     ///
     /// The answer is then `Stopped`, unless the device refuses a call, which is passed on.
@@ -135,5 +160,31 @@ impl<K: Keeps> Keeps for Armed<K> {
                 self.plan.comes(p, done)
             }
         }
+    }
+}
+
+impl<K: Keeps> Armed<K> {
+    /// Sets words in a row by a store of each, until one is refused.
+    ///
+    /// What is told stays told also where so many planned stops came that their count stands still.
+    fn store_each(&mut self, p: u32, i: u32, words: &[u32]) -> Result<(), DeviceFault>
+        requires { i + length words.now ≤ K.extent self.old.device p }
+        ensures extent { K.extent self.new.device p ≡ K.extent self.old.device p }
+        ensures words { SetsWords i words.now result (K.told self.old.device p) (K.told self.new.device p) }
+        ensures tells { TellsOn (K.stops self.new.device p) (K.faults self.new.device p) (K.told self.old.device p) (K.told self.new.device p) }
+        ensures cause { IsCaused (all_stops K.stops self.old p) (all_stops K.stops self.new p) (K.faults self.old.device p) (K.faults self.new.device p) result }
+        ensures calls { AreCounted (length words.now) result (calls_to self.old.plan p) (calls_to self.new.plan p) }
+        ensures others { (q : ℕ) → q ≢ p → IsSameStore (armed (of_words K.Keeps)) self.old self.new q }
+        ensures continues { IsLater K.continues (of_words K.Keeps) self.old self.new }
+    {
+        let mut at = i;
+        for word in words {
+            let done = self.store(p, at, *word);
+            if done.is_err() {
+                return done;
+            }
+            at += 1;
+        }
+        Ok(())
     }
 }

@@ -1,9 +1,10 @@
-ghost use Rattle.std.specs.Prelude.{◌≡◌, ◌<◌, ◌≤◌, ◌+◌, List, ◌∷◌, ◌++◌, ℕ, false, None, Some, Err, IsSome, OnOk, OnErr, [], length, take, get_or, replicate};
+ghost use Rattle.std.specs.Prelude.{◌≡◌, ◌<◌, ◌≤◌, ◌+◌, ◌-◌, List, ◌∷◌, ◌++◌, ℕ, false, None, Some, Err, IsSome, OnOk, OnErr, [], length, take, get_or, replicate};
 ghost use Rattle.std.specs.Option.{option_map};
 ghost use Rattle.dc_media.specs.declared.faults.DeviceFault.TheVariants.{Stopped};
+ghost use Rattle.dc_media.specs.Causes.{counted_by};
 ghost use Rattle.dc_armed.specs.Turns.{ComesNone, WaitFirst, WaitNone};
 ghost use Rattle.dc_armed.specs.declared.stop.PlannedStop.{PlannedStop};
-ghost use Rattle.dc_armed.specs.Stops.{after_answer, calls_to, came_to, due, due_of, first_stop, is_of, one_fewer, sooner_waiting, waiting_for, waiting_of, Calls, Comes, Waits};
+ghost use Rattle.dc_armed.specs.Stops.{after_answer, calls_to, came_to, due, due_of, fewer_by, first_stop, is_of, one_fewer, sooner_waiting, waiting_for, waiting_of, waits_within, Calls, CallsInRow, Comes, Waits};
 
 use crate::stop::{PlannedStop, Waiting};
 use dc_media::{DeviceFault, STORES, Tear};
@@ -131,6 +132,32 @@ fn count_down(slot: &mut Option<Waiting>) -> Option<Tear>
     tear
 }
 
+/// A count of calls, counted on by so many.
+#[tactic(auto, using(dc_media::proofs::Storing::counted_at_most))]
+fn counted_on(calls: u64, n: u64) -> u64
+    ensures { result ≡ counted_by n calls }
+{
+    calls.saturating_add(n)
+}
+
+/// What is left of a number of calls.
+fn fewer(calls: u32, n: u64) -> u32
+    requires { n < calls }
+    ensures { result ≡ calls - n }
+{
+    calls - n as u32
+}
+
+/// Lets what waits wait for fewer calls, of which it waited for none.
+fn wait_less(slot: &mut Option<Waiting>, n: u64)
+    requires { waits_within n slot.old ≡ false }
+    ensures { slot.new ≡ fewer_by n slot.old }
+{
+    if let Some(waiting) = slot.as_mut() {
+        waiting.calls = fewer(waiting.calls, n);
+    }
+}
+
 impl StopPlan {
     /// No stop waits, and none came yet.
     pub(crate) fn new(stops: Vec<PlannedStop>) -> StopPlan
@@ -214,6 +241,45 @@ impl StopPlan {
         count_down(&mut self.waiting[p as usize])
     }
 
+    /// Whether a stop waits for one of the next calls of a process.
+    pub(crate) fn waits_within(&self, p: u32, n: u64) -> bool
+        ensures { result ≡ waits_within n (waiting_for self.now p) }
+    {
+        if !self.armed {
+            return false;
+        }
+        match self.waiting.get(p as usize) {
+            Some(Some(waiting)) => u64::from(waiting.calls) <= n,
+            _ => false,
+        }
+    }
+
+    /// Counts calls of a process in a row.
+    #[tactic(auto, using(dc_media::proofs::Storing::counted_at_most))]
+    fn count_calls(&mut self, p: u32, n: u64)
+        ensures calls { CallsInRow n p self.old self.new }
+        ensures same { self.new ≡ record self.old { calls = self.new.calls } }
+    {
+        if p >= STORES {
+            return;
+        }
+        let calls = &mut self.calls[p as usize];
+        *calls = counted_on(*calls, n);
+    }
+
+    /// Counts calls of a process in a row, where no stop comes at any of them.
+    pub(crate) fn call_in_row(&mut self, p: u32, n: u64)
+        requires { waits_within n (waiting_for self.old p) ≡ false }
+        ensures waits { Waits p (fewer_by n (waiting_for self.old p)) self.old self.new }
+        ensures came { self.new.came ≡ self.old.came }
+        ensures calls { CallsInRow n p self.old self.new }
+    {
+        self.count_calls(p, n);
+        if self.armed && p < STORES {
+            wait_less(&mut self.waiting[p as usize], n);
+        }
+    }
+
     /// Nothing waits for a process any more.
     fn stopped(&mut self, p: u32)
         ensures waits { Waits p None self.old self.new }
@@ -259,6 +325,7 @@ impl StopPlan {
     }
 
     /// A planned stop comes to a process where its work was done as far as it goes; else the refusal is the answer.
+    #[cold]
     pub(crate) fn comes(&mut self, p: u32, done: Result<(), DeviceFault>) -> Result<(), DeviceFault>
         requires { p < STORES }
         ensures comes { OnOk done ((result ≡ Err Stopped) × Comes p self.old self.new) }

@@ -217,6 +217,17 @@ impl Armed<FakeWords> {
         9
     }
 
+    fn words_at(&mut self, alloc: Global, p: u32, i: u32, words: &[u64]) -> Result<u64, Fail> {
+        let mut list = Vec::new(alloc);
+        for word in words {
+            list.push(small(*word))?;
+        }
+        if i < 40 && list.len() <= 40 - i as usize {
+            return Ok(code(self.store_words(p, i, &list)));
+        }
+        Ok(9)
+    }
+
     fn word_at(&self, p: u32, i: u32) -> u64 {
         if i < 40 {
             return u64::from(self.load(p, i));
@@ -243,9 +254,14 @@ impl Rig for Armed<FakeWords> {
         let (p, i, w) = (small(at(args, 0)), small(at(args, 1)), small(at(args, 2)));
         match verb {
             "store" => Ok(vec![in alloc; self.store_at(p, i, w)]?),
+            "words" => {
+                let words = args.get(2..).unwrap_or(&[]);
+                Ok(vec![in alloc; self.words_at(alloc, p, i, words)?]?)
+            }
             "load" => Ok(vec![in alloc; self.word_at(p, i)]?),
             "copy" => Ok(vec![in alloc; self.copy_at(p, i, w)]?),
             "lines" => Ok(vec![in alloc; u64::from(self.device().lines)]?),
+            "rows" => Ok(vec![in alloc; u64::from(self.device().rows)]?),
             "format" => Ok(vec![in alloc; made_code(self.format(alloc, 0, p))]?),
             "calls" => Ok(vec![in alloc; self.calls(p)]?),
             "turn" => {

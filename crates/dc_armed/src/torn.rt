@@ -80,6 +80,7 @@ fn leave<D: Disks>(
 }
 
 /// Makes a torn store: the word stays where nothing is kept, and is set otherwise.
+#[cold]
 pub(crate) fn torn_store<K: Keeps>(
     keeps: &mut K,
     tear: Tear,
@@ -123,6 +124,7 @@ fn copy_words<K: Keeps>(
 }
 
 /// Copies what a torn call keeps of a line: all of it by one call, or its first words one by one.
+#[cold]
 pub(crate) fn torn_copy<K: Keeps>(
     keeps: &mut K,
     tear: Tear,
@@ -145,6 +147,7 @@ pub(crate) fn torn_copy<K: Keeps>(
 /// Makes a torn write: all its bytes are pending, of which the first are new, and the others stay or are filled.
 ///
 /// It goes on to the end also where the disk refuses a part, and answers the first refusal.
+#[cold]
 pub(crate) fn torn_write<D: Disks>(
     disks: &mut D,
     tear: Tear,

@@ -1,5 +1,5 @@
 -- A store of words is a list of words.
-use Rattle.std.specs.Prelude.{◌≡◌, ◌⊎◌, ◌≤◌, ◌+◌, ℕ, zero, suc, List, Option, Result, MatchResult, slice_index, slice_set}
+use Rattle.std.specs.Prelude.{◌≡◌, ◌⊎◌, ◌≤◌, ◌+◌, ℕ, zero, suc, List, Option, Result, MatchResult, length, slice_index, slice_set}
 use Rattle.dc_media.specs.Told.{Becomes}
 
 -- at Ok the word is set; refused, it is old or new
@@ -7,6 +7,17 @@ abbrev pub SetsWord : {T E : Type 0} → ℕ → ℕ → Result T E → Option (
 SetsWord i w result old new = MatchResult result
     (λ _. Becomes old new (λ before after. after ≡ slice_set before i w))
     (λ _. Becomes old new (λ before after. (after ≡ before) ⊎ (after ≡ slice_set before i w)))
+
+-- the first k of some words, set in order from an index on
+abbrev pub set_words : ℕ → ℕ → List ℕ → List ℕ → List ℕ
+set_words zero i ws words = words
+set_words (suc k) i ws words = slice_set (set_words k i ws words) (i + k) (slice_index ws k)
+
+-- at Ok all of them are set; refused, the first k
+abbrev pub SetsWords : {T E : Type 0} → ℕ → List ℕ → Result T E → Option (List ℕ) → Option (List ℕ) → Type 0
+SetsWords i ws result old new = MatchResult result
+    (λ _. Becomes old new (λ before after. after ≡ set_words (length ws) i ws before))
+    (λ _. Becomes old new (λ before after. (k : ℕ) × (k ≤ length ws) × (after ≡ set_words k i ws before)))
 
 -- the first k words from one index, copied in order to another
 abbrev pub copied : ℕ → ℕ → ℕ → List ℕ → List ℕ

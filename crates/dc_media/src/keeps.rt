@@ -1,7 +1,7 @@
 ghost use Rattle.std.specs.Prelude.{refl, ◌≡◌, ◌≢◌, ◌+◌, ◌<◌, ◌≤◌, ◌^◌, List, ℕ, Option, length, IfSome, OnOk, OnErr, slice_index, replicate};
 ghost use Rattle.std.proofs.Common.{◌∙◌};
-ghost use Rattle.dc_media.specs.Causes.{IsCaused, IsMade, counted};
-ghost use Rattle.dc_media.specs.Stores.{AreSameOrApart, CopiesLine, SetsWord};
+ghost use Rattle.dc_media.specs.Causes.{AreCounted, IsCaused, IsMade, counted};
+ghost use Rattle.dc_media.specs.Stores.{AreSameOrApart, CopiesLine, SetsWord, SetsWords};
 ghost use Rattle.dc_media.specs.Told.{TellsOn, IsSameStore, showing};
 
 use crate::{DeviceFault, MakeFault, STORES};
@@ -23,7 +23,7 @@ pub trait Keeps {
     /// How many calls on a store failed.
     ghost faults: { Self → ℕ → ℕ };
 
-    /// How many calls of `store` and `copy_line` were made, refused ones too.
+    /// How many calls of `store` and `copy_line` were made, refused ones too. Words that are set in a row count as stores of each.
     ghost calls: { Self → ℕ → ℕ };
 
     /// Whether the second is a later state of the first: what was lent to it stays lent to it.
@@ -54,6 +54,17 @@ pub trait Keeps {
         ensures tells { TellsOn (stops self.new p) (faults self.new p) (told self.old p) (told self.new p) }
         ensures cause { IsCaused (stops self.old p) (stops self.new p) (faults self.old p) (faults self.new p) result }
         ensures calls { calls self.new p ≡ counted (calls self.old p) }
+        ensures others { (q : ℕ) → q ≢ p → IsSameStore (showing told extent stops faults calls) self.old self.new q }
+        ensures continues { continues self.old self.new };
+
+    /// Sets words in a row from an index on, as stores of one after the other would. At a refused one the first of them are set.
+    fn store_words(&mut self, p: u32, i: u32, words: &[u32]) -> Result<(), DeviceFault>
+        requires { i + length words.now ≤ extent self.old p }
+        ensures extent { extent self.new p ≡ extent self.old p }
+        ensures words { SetsWords i words.now result (told self.old p) (told self.new p) }
+        ensures tells { TellsOn (stops self.new p) (faults self.new p) (told self.old p) (told self.new p) }
+        ensures cause { IsCaused (stops self.old p) (stops self.new p) (faults self.old p) (faults self.new p) result }
+        ensures calls { AreCounted (length words.now) result (calls self.old p) (calls self.new p) }
         ensures others { (q : ℕ) → q ≢ p → IsSameStore (showing told extent stops faults calls) self.old self.new q }
         ensures continues { continues self.old self.new };
 
@@ -115,6 +126,10 @@ impl<K: Keeps> Keeps for &mut K {
 
     fn store(&mut self, p: u32, i: u32, w: u32) -> Result<(), DeviceFault> {
         (**self).store(p, i, w)
+    }
+
+    fn store_words(&mut self, p: u32, i: u32, words: &[u32]) -> Result<(), DeviceFault> {
+        (**self).store_words(p, i, words)
     }
 
     fn copy_line(&mut self, p: u32, from: u32, to: u32) -> Result<(), DeviceFault> {

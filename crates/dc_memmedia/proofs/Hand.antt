@@ -1,11 +1,12 @@
 -- The listed call that is kept at hand is the first that is listed of the next number, or none is.
-use Rattle.std.proofs.Common.{◌≡◌, ◌≢◌, ℕ, suc, ◌+◌, ◌-◌, ◌^◌, ◌<◌, ◌==◌, ◌&&◌, nat_lt, List, [], ◌∷◌, Bool, true, false, Option, None, Some, IfSome, refl, sym, subst, ap, ◌∙◌, arith, ⊎_elim, if◌then◌else◌, lit<, zero, find, get_or, replicate, set, length, length-set, get_or-set_same, get_or-set_other, inl, inr}
-use Rattle.std.proofs.lemmas.Bool.{cases_Bool, eqb-false, eqb-true, eq-eqb, ltb-true, ltb-false}
+use Rattle.std.proofs.Common.{◌≡◌, ◌≢◌, ℕ, suc, ◌+◌, ◌-◌, ◌^◌, ◌<◌, ◌≤◌, ◌==◌, ◌&&◌, nat_lt, not, List, [], ◌∷◌, Bool, true, false, Option, None, Some, IfSome, refl, sym, subst, ap, ◌∙◌, arith, ⊎_elim, if◌then◌else◌, lit<, zero, find, get_or, replicate, set, length, length-set, get_or-set_same, get_or-set_other, inl, inr}
+use Rattle.std.proofs.lemmas.Bool.{cases_Bool, eqb-false, eqb-true, eq-eqb, lt-ltb, ltb-true, ltb-false}
 use Rattle.std.proofs.lemmas.Bool.Decides.{eqb_tells}
 use Rattle.dc_media.specs.declared.faults.DeviceFault.TheVariants.{Stopped, Failed}
-use Rattle.dc_media.specs.Causes.{counted}
+use Rattle.dc_media.specs.Causes.{counted, counted_by}
 use Rattle.dc_media.specs.Firsts.{sooner}
-use Rattle.dc_memmedia.specs.Due.{IsAtHand, due_after, due_at, next_after}
+use Rattle.dc_media.proofs.Storing.{counted_at_most}
+use Rattle.dc_memmedia.specs.Due.{IsAtHand, due_after, due_at, is_up_to, next_after}
 use Rattle.dc_memmedia.specs.Listed.{is_call, next_call, none_made, with_call, with_fault}
 use Rattle.dc_memmedia.specs.declared.listed.Counts.{Counts}
 use Rattle.dc_memmedia.specs.declared.listed.ListedCall.{ListedCall}
@@ -125,9 +126,40 @@ module _ (calls : List ListedCall) (p made : ℕ) (fits : made < 2 ^ 64) where
       (λ (is : nat_lt made (2 ^ 64 - 1) ≡ false). let none : due_after at made ≡ None = rw is refl in let off = sym none ∙ some in absurd cc)
       (cases_Bool (nat_lt made (2 ^ 64 - 1)))
 
+-- a call that is not up to a number is behind it
+behind_of : (number at : ℕ) → not (nat_lt number at) ≡ false → number < at
+behind_of number at far = ⊎_elim (λ (is : nat_lt number at ≡ true). ltb-true number at is)
+    (λ (is : nat_lt number at ≡ false). let up : not (nat_lt number at) ≡ true = rw is refl in let off = sym up ∙ far in absurd cc)
+    (cases_Bool (nat_lt number at))
+
+far_less : (at : Option ListedCall) (number less : ℕ) → less ≤ number → is_up_to at number ≡ false → is_up_to at less ≡ false
+far_less None number less under far = refl
+far_less (Some call) number less under far = let behind = behind_of number call.call far in rw (lt-ltb less call.call (omega (arith, behind, under))) refl
+
+-- and is not due before it
+far_due : (at : Option ListedCall) (made number : ℕ) → made < number → is_up_to at number ≡ false → due_after at made ≡ None
+far_due None made number before far = elim (nat_lt made (2 ^ 64 - 1)) as (λ b. (if b then due_at None (made + 1) else None) ≡ None) [ true ↦ refl | false ↦ refl ]
+far_due (Some call) made number before far = let behind = behind_of number call.call far in
+    elim (nat_lt made (2 ^ 64 - 1)) as (λ b. (if b then due_at (Some call) (made + 1) else None) ≡ None)
+    [ true ↦ not_at call (made + 1) (call.call == made + 1) refl (λ same. absurd (omega (arith, same, behind, before))) | false ↦ refl ]
+
+-- so it stays at hand through all calls before it
+after_many : (listed : List ListedCall) (p made count : ℕ) → made < 2 ^ 64 → is_up_to (next_after listed p made) (made + count) ≡ false
+    → next_after listed p (counted_by count made) ≡ next_after listed p made
+after_many listed p made zero fits far = refl
+after_many listed p made (suc count) fits far =
+    let so_far = after_many listed p made count fits (far_less (next_after listed p made) (made + suc count) (made + count) (omega arith) far) in
+    let at_most = counted_at_most count made (omega (arith, fits)) in
+    let below : counted_by count made < made + suc count = omega (arith, at_most) in
+    after_none listed p (counted_by count made) (omega (arith, at_most)) (ap (λ at. due_after at (counted_by count made)) so_far ∙ far_due (next_after listed p made) (counted_by count made) (made + suc count) below far)
+    ∙ so_far
+
 made_after : (listed : Option ListedCall) (counts : Counts) → (with_call listed counts).made ≡ counted counts.made
 made_after None counts = refl
 made_after (Some call) counts = elim call.fault as (λ fault. (with_fault fault (record counts { made = counted counts.made })).made ≡ counted counts.made) [ Stopped ↦ refl | Failed ↦ refl ]
+
+counted_fits : (made : ℕ) → counted made < 2 ^ 64
+counted_fits made = omega arith
 
 module _ (listed : List ListedCall) (counts : List Counts) (next : List (Option ListedCall)) (p : ℕ) (hand : IsAtHand listed counts next) (below : p < 32) where
   abbrev here : Counts
@@ -138,7 +170,7 @@ module _ (listed : List ListedCall) (counts : List Counts) (next : List (Option 
   next_is = ap (λ call. if nat_lt here.made (2 ^ 64 - 1) then due_at call (here.made + 1) else None) (hand.first p below)
       ∙ ap (λ call. if nat_lt here.made (2 ^ 64 - 1) then call else None) (due listed p here.made)
 
-  module _ (after : Counts) (next' : List (Option ListedCall)) (is : after.made ≡ counted here.made) (kept : length next' ≡ 32)
+  module _ (after : Counts) (next' : List (Option ListedCall)) (is : after.made < 2 ^ 64) (kept : length next' ≡ 32)
       (mine : get_or next' p None ≡ next_after listed p after.made) (others : (q : ℕ) → q ≢ p → get_or next' q None ≡ get_or next q None) where
     set_at : get_or (set counts p after) p none_made ≡ after
     set_at = let long = hand.counted in get_or-set_same counts p after none_made (omega (arith, long, below))
@@ -152,7 +184,7 @@ module _ (listed : List ListedCall) (counts : List Counts) (next : List (Option 
       kept = kept;
       fits = λ q within. elim (eqb_tells q p) [
         | inl on ↦ subst (λ k. (get_or (set counts p after) k none_made).made < 2 ^ 64) (sym on.1)
-            (subst (λ (c : Counts). c.made < 2 ^ 64) (sym set_at) (omega (arith, is)))
+            (subst (λ (c : Counts). c.made < 2 ^ 64) (sym set_at) is)
         | inr off ↦ subst (λ (c : Counts). c.made < 2 ^ 64) (sym (set_other q off.1)) (hand.fits q within)
       ];
       first = λ q within. elim (eqb_tells q p) [
@@ -163,16 +195,22 @@ module _ (listed : List ListedCall) (counts : List Counts) (next : List (Option 
     }
 
   pub hand_none : due_after (get_or next p None) here.made ≡ None → IsAtHand listed (set counts p (with_call None here)) next
-  hand_none none = let first = hand.first p below in still_at_hand (with_call None here) next refl hand.kept
+  hand_none none = let first = hand.first p below in still_at_hand (with_call None here) next (counted_fits here.made) hand.kept
       (first ∙ sym (after_none listed p here.made (hand.fits p below) (ap (λ call. due_after call here.made) (sym first) ∙ none))) (λ q apart. refl)
 
   pub hand_some : (call : ListedCall) → due_after (get_or next p None) here.made ≡ Some call
       → IsAtHand listed (set counts p (with_call (Some call) here)) (set next p (next_after listed p call.call))
   hand_some call some = let first = hand.first p below in let long = hand.kept in let made = made_after (Some call) here in
-      still_at_hand (with_call (Some call) here) (set next p (next_after listed p call.call)) made (length-set next p _ ∙ hand.kept)
+      still_at_hand (with_call (Some call) here) (set next p (next_after listed p call.call)) (rw made (counted_fits here.made)) (length-set next p _ ∙ hand.kept)
       (get_or-set_same next p _ None (omega (arith, long, below)) ∙ ap (next_after listed p)
       (after_some listed p here.made (hand.fits p below) call (ap (λ c. due_after c here.made) (sym first) ∙ some) ∙ sym made))
       (λ q apart. get_or-set_other next p q _ None apart)
+
+  -- none of the next so many calls is listed
+  pub hand_many : (count : ℕ) → is_up_to (next_after listed p here.made) (here.made + count) ≡ false → IsAtHand listed (set counts p (record here { made = counted_by count here.made })) next
+  hand_many count far = let first = hand.first p below in still_at_hand (record here { made = counted_by count here.made }) next
+      (let at_most = counted_at_most count here.made (let fits = hand.fits p below in omega (arith, fits)) in omega (arith, at_most)) hand.kept
+      (first ∙ sym (after_many listed p here.made count (hand.fits p below) far)) (λ q apart. refl)
 
 -- before the first call
 pub at_first : (listed : List ListedCall) (next : List (Option ListedCall)) → length next ≡ 32

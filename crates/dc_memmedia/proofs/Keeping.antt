@@ -1,9 +1,9 @@
 -- What a call does to the words of a process.
-use Rattle.std.proofs.Common.{◌≡◌, ℕ, zero, suc, min, ◌+◌, ◌-◌, ◌^◌, ◌<◌, ◌≤◌, ◌==◌, ◌&&◌, ◌⊎◌, nat_lt, List, [], ◌∷◌, Bool, true, false, Option, None, Some, refl, sym, subst, ap, ◌∙◌, arith, inl, inr, ⊎_elim, get_or, slice_index, slice_set, length, replicate, length-set, length-take, get_or-take, get_or-set_same}
+use Rattle.std.proofs.Common.{◌≡◌, ◌≢◌, ℕ, zero, suc, min, ◌+◌, ◌-◌, ◌^◌, ◌<◌, ◌≤◌, ◌==◌, ◌&&◌, ◌⊎◌, nat_lt, List, [], ◌∷◌, Bool, true, false, Option, None, Some, refl, sym, subst, ap, ◌∙◌, arith, inl, inr, ⊎_elim, get_or, slice_index, slice_set, length, replicate, length-set, length-take, get_or-take, get_or-set_same}
 use Rattle.std.proofs.lemmas.Bool.{cases_Bool, lt-ltb, ltb-true}
 use Rattle.std.proofs.lemmas.List.{length-replicate, set-get_or, take_all}
 use Rattle.std.proofs.Math.Seq.{take-set-lt}
-use Rattle.dc_media.specs.Stores.{CopiesLine, SetsWord, copied}
+use Rattle.dc_media.specs.Stores.{CopiesLine, SetsWord, copied, set_words}
 use Rattle.dc_media.proofs.Copying.{length-copied}
 use Rattle.dc_media.specs.Tears.{torn_word}
 use Rattle.dc_media.specs.Told.{Becomes, TellsOn}
@@ -167,3 +167,25 @@ module _ (s : Stores) (p from to : ℕ) (source : from + 16 ≤ length (words_of
       subst (λ (words : List ℕ). CopiesLine from to (answer_of (next_call s.calls p)) (told_words s p) (unless_last (stops_of (called s.calls p) p) (faults_of (called s.calls p) p) words))
       (sym copied_after)
       (copies_line (words_of s p) from to (next_call s.calls p) (counts_of s.calls p) (counts_of (called s.calls p) p) stops faults)
+
+-- words in a row, of which there are not too many, are set as in the words that are there
+bounded_row : (k i : ℕ) (ws words : List ℕ) → i + k ≤ last → bounded (set_words k i ws words) ≡ set_words k i ws (bounded words)
+bounded_row zero i ws words few = refl
+bounded_row (suc k) i ws words few =
+    bounded_set (set_words k i ws words) (i + k) (slice_index ws k) (omega arith)
+    ∙ ap (λ old. slice_set old (i + k) (slice_index ws k)) (bounded_row k i ws words (omega arith))
+
+-- where words are set in a row, their last one is there
+pub row_within : (i n long : ℕ) → n ≢ 0 → i + n ≤ long → i + (n - 1) < long
+row_within i n long some fits = omega (arith, some, fits)
+
+-- a row of a process's words
+module _ (s : Stores) (p i n : ℕ) (ws here put : List ℕ) (calls : Calls) (is : here ≡ get_or s.words p []) (put_is : put ≡ set_words n i ws here)
+    (within : p < length s.words) (fits : i + n ≤ length (words_of s p)) where
+  pub row_after : words_of (record { words = slice_set s.words p put; calls = calls }) p ≡ set_words n i ws (words_of s p)
+  row_after = ap bounded (get_or-set_same s.words p put [] within ∙ put_is ∙ ap (set_words n i ws) is)
+      ∙ bounded_row n i ws (get_or s.words p []) (omega (arith, bounded_last (get_or s.words p []), fits))
+
+  pub row_sets : stops_of s.calls p ≤ stops_of calls p → faults_of s.calls p ≤ faults_of calls p
+      → Becomes (told_words s p) (told_words (record { words = slice_set s.words p put; calls = calls }) p) (λ before after. after ≡ set_words n i ws before)
+  row_sets stops faults = told_becomes (counts_of s.calls p) (counts_of calls p) (words_of s p) _ _ stops faults row_after

@@ -1,10 +1,10 @@
 -- Stores in memory as contracts see them, and what a call does to them.
 use Rattle.std.specs.Prelude.{ℕ, ◌-◌, ◌^◌, List, [], Option, None, Some, get_or, take, min, length, slice_index, slice_set}
-use Rattle.dc_media.specs.Stores.{copied}
+use Rattle.dc_media.specs.Stores.{copied, set_words}
 use Rattle.dc_media.specs.Tears.{torn_word}
 use Rattle.dc_media.specs.Told.{Device}
 use Rattle.dc_memmedia.specs.Calls.{unless_last}
-use Rattle.dc_memmedia.specs.Listed.{Calls, called, counting, faults_of, next_call, stops_of}
+use Rattle.dc_memmedia.specs.Listed.{Calls, called, counting, faults_of, next_call, passed, stops_of}
 use Rattle.dc_memmedia.specs.declared.listed.ListedCall.{ListedCall}
 
 -- the words of each process, and its calls
@@ -51,4 +51,11 @@ abbrev pub after : ℕ → (Option ListedCall → List ℕ → List ℕ) → Sto
 after p change stores = record {
   words = slice_set stores.words p (change (next_call stores.calls p) (get_or stores.words p []));
   calls = called stores.calls p;
+}
+
+-- after so many calls of a process, of which none is listed, that set words in a row
+abbrev pub after_words : ℕ → ℕ → List ℕ → Stores → Stores
+after_words p i ws stores = record {
+  words = slice_set stores.words p (set_words (length ws) i ws (get_or stores.words p []));
+  calls = passed (length ws) stores.calls p;
 }

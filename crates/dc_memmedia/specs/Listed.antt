@@ -1,6 +1,6 @@
 -- The calls of a process's device, which are numbered from 1, and those that are listed: they are stopped or fail.
 use Rattle.std.specs.Prelude.{ℕ, ◌+◌, ◌-◌, ◌^◌, ◌==◌, ◌&&◌, nat_lt, List, Bool, Option, None, Some, Result, Ok, Err, find, get_or, slice_set, if◌then◌else◌}
-use Rattle.dc_media.specs.Causes.{IsCaused, counted}
+use Rattle.dc_media.specs.Causes.{IsCaused, counted, counted_by}
 use Rattle.dc_media.specs.Told.{Device, showing}
 use Rattle.dc_media.specs.declared.TheConstants.{STORES}
 use Rattle.dc_media.specs.declared.faults.DeviceFault.{DeviceFault}
@@ -60,6 +60,11 @@ with_call (Some call) counts = with_fault call.fault (record counts { made = cou
 -- after the next call of a process
 abbrev pub called : Calls → ℕ → Calls
 called calls p = record calls { counts = slice_set calls.counts p (with_call (next_call calls p) (counts_of calls p)) }
+
+-- after so many calls of a process, of which none is listed
+abbrev pub passed : ℕ → Calls → ℕ → Calls
+passed count calls p = let counts = counts_of calls p in
+    record calls { counts = slice_set calls.counts p (record counts { made = counted_by count counts.made }) }
 
 -- a listed call is refused, each other one is not
 abbrev pub answer_of : Option ListedCall → Result (Unit {0}) DeviceFault

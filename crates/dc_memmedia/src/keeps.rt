@@ -1,9 +1,10 @@
-ghost use Rattle.std.specs.Prelude.{◌≡◌, ◌≢◌, ◌+◌, ◌<◌, ◌≤◌, [], ℕ, IfOk, IfSome, IsErrOf, IsOk, OnErr, OnOk, replicate, slice_index, length};
-ghost use Rattle.dc_media.specs.Causes.{IsCaused, IsMade, counted};
-ghost use Rattle.dc_media.specs.Stores.{AreSameOrApart, CopiesLine, SetsWord};
+ghost use Rattle.std.specs.Prelude.{◌≡◌, ◌≢◌, ◌+◌, ◌<◌, ◌≤◌, [], ℕ, false, IfOk, IfSome, IsErrOf, IsOk, OnErr, OnOk, replicate, slice_index, length};
+ghost use Rattle.dc_media.specs.Causes.{AreCounted, IsCaused, IsMade, counted};
+ghost use Rattle.dc_media.specs.Stores.{AreSameOrApart, CopiesLine, SetsWord, SetsWords};
 ghost use Rattle.dc_media.specs.Told.{IsSameStore, TellsOn};
-ghost use Rattle.dc_memmedia.specs.Keeps.{after, copied_line, in_memory, stored, told_words, with_words, words_of};
+ghost use Rattle.dc_memmedia.specs.Keeps.{after, after_words, copied_line, in_memory, stored, told_words, with_words, words_of};
 ghost use Rattle.dc_memmedia.specs.Listed.{answer_of, calls_of, faults_of, next_call, none_made, stops_of};
+ghost use Rattle.dc_memmedia.specs.Due.{is_near};
 ghost use Rattle.dc_memmedia.specs.Extents.{words_fit, words_told};
 
 use crate::listed::{Calls, ListedCall, answer};
@@ -99,6 +100,29 @@ impl MemKeeps {
     }
 }
 
+impl MemKeeps {
+    /// Sets words in a row by a store of each, until one is refused.
+    fn store_each(&mut self, p: u32, i: u32, words: &[u32]) -> Result<(), DeviceFault>
+        requires { i + length words.now ≤ length (words_of self.old p) }
+        ensures extent { length (words_of self.new p) ≡ length (words_of self.old p) }
+        ensures words { SetsWords i words.now result (told_words self.old p) (told_words self.new p) }
+        ensures tells { TellsOn (stops_of self.new.calls p) (faults_of self.new.calls p) (told_words self.old p) (told_words self.new p) }
+        ensures cause { IsCaused (stops_of self.old.calls p) (stops_of self.new.calls p) (faults_of self.old.calls p) (faults_of self.new.calls p) result }
+        ensures calls { AreCounted (length words.now) result (calls_of self.old.calls p) (calls_of self.new.calls p) }
+        ensures others { (q : ℕ) → q ≢ p → IsSameStore in_memory self.old self.new q }
+    {
+        let mut at = i;
+        for word in words {
+            let done = self.store(p, at, *word);
+            if done.is_err() {
+                return done;
+            }
+            at += 1;
+        }
+        Ok(())
+    }
+}
+
 impl Keeps for MemKeeps {
     ghost told = { told_words };
 
@@ -170,6 +194,33 @@ impl Keeps for MemKeeps {
         let listed = self.calls.call(p);
         put(&mut self.words[p as usize], i, w, listed);
         answer(listed)
+    }
+
+    /// Where none of its calls is listed, they are counted and the words are set at once; else by a store of each.
+    fn store_words(&mut self, p: u32, i: u32, words: &[u32]) -> Result<(), DeviceFault>
+        requires { i + length words.now ≤ length (words_of self.old p) }
+        ensures extent { length (words_of self.new p) ≡ length (words_of self.old p) }
+        ensures words { SetsWords i words.now result (told_words self.old p) (told_words self.new p) }
+        ensures tells { TellsOn (stops_of self.new.calls p) (faults_of self.new.calls p) (told_words self.old p) (told_words self.new p) }
+        ensures cause { IsCaused (stops_of self.old.calls p) (stops_of self.new.calls p) (faults_of self.old.calls p) (faults_of self.new.calls p) result }
+        ensures calls { AreCounted (length words.now) result (calls_of self.old.calls p) (calls_of self.new.calls p) }
+        ensures others { (q : ℕ) → q ≢ p → IsSameStore in_memory self.old self.new q }
+        ensures continues { Unit {0} }
+
+        // where none is listed: all that it changes
+        ensures stored { p < STORES → is_near self.old.calls p (length words.now) ≡ false → IsOk result × (self.new ≡ after_words p i words.now self.old) }
+        ensures calm { self.old.calls.listed ≡ [] → IsOk result }
+    {
+        if words.is_empty() {
+            return Ok(());
+        }
+        let count = words.len() as u64;
+        if self.calls.is_near(p, count) {
+            return self.store_each(p, i, words);
+        }
+        self.calls.pass(p, count);
+        self.words[p as usize].store_words(i as usize, words);
+        Ok(())
     }
 
     fn copy_line(&mut self, p: u32, from: u32, to: u32) -> Result<(), DeviceFault>

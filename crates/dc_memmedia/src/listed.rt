@@ -1,8 +1,8 @@
 //! Calls that are counted, some of which are listed to be refused.
-ghost use Rattle.std.specs.Prelude.{◌≡◌, ◌<◌, None, Some, replicate};
-ghost use Rattle.dc_memmedia.specs.Listed.{HasCause, answer_of, called, calls_of, counts_of, next_call, none_made, with_call, with_fault};
-ghost use Rattle.dc_media.specs.Causes.{IsCaused, counted};
-ghost use Rattle.dc_memmedia.specs.Due.{due_after, next_after};
+ghost use Rattle.std.specs.Prelude.{◌≡◌, ◌+◌, ◌<◌, None, Some, false, replicate};
+ghost use Rattle.dc_memmedia.specs.Listed.{HasCause, answer_of, called, calls_of, counts_of, next_call, none_made, passed, with_call, with_fault};
+ghost use Rattle.dc_media.specs.Causes.{IsCaused, counted, counted_by};
+ghost use Rattle.dc_memmedia.specs.Due.{due_after, is_near, is_up_to, next_after};
 ghost use Rattle.dc_media.specs.Firsts.{sooner};
 
 use dc_media::{DeviceFault, STORES, Tear};
@@ -52,6 +52,16 @@ impl Counts {
         }
     }
 
+    /// The counts after so many more calls, of which none is listed.
+    fn after_many(self, count: u64) -> Counts
+        ensures { result ≡ record self { made = counted_by count self.made } }
+    {
+        Counts {
+            made: self.made.saturating_add(count),
+            ..self
+        }
+    }
+
     fn refused(self, fault: DeviceFault) -> Counts
         ensures { result ≡ with_fault fault self }
     {
@@ -90,6 +100,9 @@ impl Model for Calls {
 }
 
 /// The listed call of a process that comes first after so many calls.
+///
+/// It is looked for only where a call was listed, so it stands out of the way of all others.
+#[inline(never)]
 fn next_after(listed: &[ListedCall], p: u32, made: u64) -> Option<ListedCall>
     ensures { result ≡ next_after listed.now p made }
 {
@@ -121,6 +134,16 @@ fn due(next: Option<ListedCall>, made: u64) -> Option<ListedCall>
 {
     let number = made.checked_add(1)?;
     next.filter(|call| call.call == number)
+}
+
+/// Whether the call that is at hand is one of the next so many after those that were made.
+fn is_up_to(next: &Option<ListedCall>, made: u64, count: u64) -> bool
+    ensures { result ≡ is_up_to next.now (made + count) }
+{
+    match next {
+        None => false,
+        Some(call) => call.call <= made.saturating_add(count),
+    }
 }
 
 /// What a call answers that is listed or not.
@@ -188,5 +211,26 @@ impl Calls {
                 Some(call)
             }
         }
+    }
+
+    /// Whether one of the next so many calls of a process is listed.
+    pub fn is_near(&self, p: u32, count: u64) -> bool
+        requires { p < STORES }
+        ensures { result ≡ is_near self.now p count }
+    {
+        let i = p as usize;
+        is_up_to(&self.next[i], self.counts[i].made, count)
+    }
+
+    /// Counts so many calls of a process, of which none is listed.
+    pub fn pass(&mut self, p: u32, count: u64)
+        requires process { p < STORES }
+        requires none { is_near self.old p count ≡ false }
+        ensures counts { self.new ≡ passed count self.old p }
+        ensures made { calls_of self.new p ≡ counted_by count (calls_of self.old p) }
+        ensures cause { HasCause self.old self.new p (answer_of None) }
+    {
+        let i = p as usize;
+        self.counts[i] = self.counts[i].after_many(count);
     }
 }

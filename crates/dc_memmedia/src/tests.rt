@@ -148,6 +148,17 @@ impl StoreRig {
         9
     }
 
+    fn words(&mut self, alloc: Global, p: u32, i: u32, list: &[u64]) -> Result<u64, Fail> {
+        let mut words = Vec::new(alloc);
+        for n in list {
+            words.push(small(*n))?;
+        }
+        if p < 2 && i <= 40 && words.len() <= (40 - i) as usize {
+            return Ok(code(self.stores.store_words(p, i, &words)));
+        }
+        Ok(9)
+    }
+
     fn load(&self, p: u32, i: u32) -> u64 {
         if p < 2 && i < 40 {
             return u64::from(self.stores.load(p, i));
@@ -185,6 +196,10 @@ impl Rig for StoreRig {
         let (p, i, w) = (small(at(args, 0)), small(at(args, 1)), small(at(args, 2)));
         match verb {
             "store" => Ok(vec![in alloc; self.store(p, i, w)]?),
+            "words" => {
+                let list = args.get(2..).unwrap_or(&[]);
+                Ok(vec![in alloc; self.words(alloc, p, i, list)?]?)
+            }
             "load" => Ok(vec![in alloc; self.load(p, i)]?),
             "copy" => Ok(vec![in alloc; self.copy(p, i, w)]?),
             "format" => Ok(vec![in alloc; self.format(alloc, p)]?),

@@ -1,6 +1,6 @@
 //! A region: a row of words that can be read, set and copied by the line.
 ghost use Rattle.std.specs.Prelude.{◌≡◌, ◌+◌, ◌*◌, ◌^◌, ◌<◌, ◌≤◌, Some, length, replicate, IfOk, slice_index, slice_set};
-ghost use Rattle.dc_media.specs.Stores.{AreSameOrApart, copied};
+ghost use Rattle.dc_media.specs.Stores.{AreSameOrApart, copied, set_words};
 
 use crate::block::{Base, Deed, Words, allocate, deallocate};
 use std::alloc::{AllocError, Global};
@@ -86,6 +86,18 @@ impl Region {
         ensures { self.new ≡ slice_set self.old i word }
     {
         self.words.put(self.base, i, word);
+    }
+
+    /// Sets words in a row from an index on.
+    pub fn store_words(&mut self, i: usize, words: &[u32])
+        requires { i + length words.now ≤ length self.old }
+        ensures { self.new ≡ set_words (length words.now) i words.now self.old }
+    {
+        // so the indices below fit
+        prove!(i <= self.len && words.len() <= self.len - i);
+        for k in 0..words.len() {
+            self.store(i + k, words[k]);
+        }
     }
 
     /// Copies a line of 16 words to a place that is the same or lies apart.

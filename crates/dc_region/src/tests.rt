@@ -49,6 +49,18 @@ fn a_line_is_copied(rt: HostRuntime) -> Result<(), Fail> {
 }
 
 #[test]
+fn words_are_set_in_a_row(rt: HostRuntime) -> Result<(), Fail> {
+    let mut region = numbered(rt.alloc(), 8)?;
+    region.store_words(5, &[70, 60, 50]);
+    region.store_words(8, &[]);
+    region.store_words(1, &[20]);
+    holds(
+        region.words() == [0, 20, 2, 3, 4, 70, 60, 50].as_slice(),
+        "words",
+    )
+}
+
+#[test]
 fn a_copied_line_has_16_words(rt: HostRuntime) -> Result<(), Fail> {
     let mut region = numbered(rt.alloc(), 50)?;
     region.copy_line(33, 1);

@@ -1,11 +1,12 @@
 -- The kernel's text, and what a commit leaves.
-use Rattle.std.proofs.Common.{nat_lt, ◌≡◌, ◌⊎◌, ℕ, ◌+◌, ◌*◌, ◌<◌, Bool, true, false, List, map, length, get_or, set, refl, sym, ◌∙◌, ap, subst, arith, inl, inr, ⊎_elim, Option, None, Some, IfSome, Result, Ok, Err, cond, length-set, take, drop, length-drop, replicate, slice_get}
+use Rattle.std.proofs.Common.{nat_lt, ◌≡◌, ◌⊎◌, ℕ, zero, suc, ◌+◌, ◌*◌, ◌<◌, ◌≤◌, Bool, true, false, List, map, length, get_or, set, refl, sym, ◌∙◌, ap, subst, arith, inl, inr, ⊎_elim, Option, None, Some, IfSome, Result, Ok, Err, cond, length-set, take, drop, length-drop, replicate, slice_get}
 use Rattle.std.specs.List.{count_by}
 use Rattle.std.proofs.lemmas.Option.{slice_get_within, get_or_from_slice_get}
-use Rattle.std.proofs.lemmas.List.{length-replicate, get_or-replicate, take-set-le, drop-set-add, take_more_set, take_more, take_all}
+use Rattle.std.proofs.lemmas.List.{length-replicate, get_or-replicate, take-set-le, drop-set-add, take_more_set, take_more, take_all, get_or-take, get_or-drop, length-take-le}
 use Rattle.std.proofs.lemmas.List.Folds.{sum_by-replicate}
 use Rattle.std.proofs.Math.Seq.{take-set-lt}
 use Rattle.dc_kernel.specs.Layout.{kernel_words}
+use Rattle.dc_media.specs.Stores.{set_words}
 use Rattle.dc_media.specs.Told.{Becomes}
 use Rattle.dc_checkpoint.specs.States.{Reading, IsSaved, number_in, unlogged}
 use Rattle.dc_vista.specs.Parts.{Parts, Turns}
@@ -25,13 +26,31 @@ written_more m j w text before after low within read was = record {
   length_same = length-set after (m + j) w ∙ was.length_same;
 }
 
-pub written_told : (q m j i w : ℕ) (text : List ℕ) (old mid new : Option Parts) → i ≡ m + j → i < 16 * q → j < length text → w ≡ get_or text j 0 → IfSome old (λ b. length b.body ≡ 16 * q)
-    → Becomes old mid (λ b a. IsWritten m j text b.body a.body) → Becomes mid new (λ b a. a.body ≡ set b.body i w) → Becomes old new (λ b a. IsWritten m (j + 1) text b.body a.body)
-written_told q m j i w text old mid None at low within read long first then_ = tt
-written_told q m j i w text old None (Some z) at low within read long first then_ = absurd then_
-written_told q m j i w text None (Some y) (Some z) at low within read long first then_ = absurd first
-written_told q m j i w text (Some x) (Some y) (Some z) at low within read long first then_ =
-    rw (then_, at) (written_more m j w text x.body y.body (omega (arith, long)) within read first)
+-- a word of a row of the text
+row_word : (j n k : ℕ) (text : List ℕ) → k < n → get_or (take n (drop j text)) k 0 ≡ get_or text (j + k) 0
+row_word j n k text low = get_or-take n (drop j text) k 0 low ∙ get_or-drop j text k 0
+
+-- the first words of a row more of the text
+written_row : (m j n k : ℕ) (text before after : List ℕ) → m + (j + n) ≤ length before → j + n ≤ length text → k ≤ n → IsWritten m j text before after
+    → IsWritten m (j + k) text before (set_words k (m + j) (take n (drop j text)) after)
+written_row m j n zero text before after low within few was = let same : j ≡ j + 0 = omega arith in subst (λ x. IsWritten m x text before after) same was
+written_row m j n (suc k) text before after low within few was =
+    let row = take n (drop j text) in
+    let so_far = written_row m j n k text before after low within (omega (arith, few)) was in
+    let read : get_or row k 0 ≡ get_or text (j + k) 0 = row_word j n k text (omega (arith, few)) in
+    let place : m + (j + k) ≡ m + j + k = omega arith in
+    let count : j + k + 1 ≡ j + suc k = omega arith in
+    rw (place, count) at (written_more m (j + k) (get_or row k 0) text before (set_words k (m + j) row after) (omega (arith, low, few)) (omega (arith, within, few)) read so_far)
+
+-- a row more, where the words are told
+pub written_told : (q m j n i : ℕ) (text row : List ℕ) (old mid new : Option Parts) → i ≡ m + j → row ≡ take n (drop j text) → m + (j + n) ≤ 16 * q → j + n ≤ length text → IfSome old (λ b. length b.body ≡ 16 * q)
+    → Becomes old mid (λ b a. IsWritten m j text b.body a.body) → Becomes mid new (λ b a. a.body ≡ set_words (length row) i row b.body) → Becomes old new (λ b a. IsWritten m (j + n) text b.body a.body)
+written_told q m j n i text row old mid None at is low within long first next = tt
+written_told q m j n i text row old None (Some z) at is low within long first next = absurd next
+written_told q m j n i text row None (Some y) (Some z) at is low within long first next = absurd first
+written_told q m j n i text row (Some x) (Some y) (Some z) at is low within long first next =
+    let count : length (take n (drop j text)) ≡ n = length-take-le n (drop j text) (omega (arith, length-drop j text, within)) in
+    rw (next, at, is, count) (written_row m j n n text x.body y.body (omega (arith, long, low)) within (omega arith) first)
 
 pub long_body : (sh : Shape) (since : Since) (told : Option Parts) → IsReady sh since told → IfSome told (λ b. length b.body ≡ 16 * sh.lines)
 long_body sh since None ready = tt

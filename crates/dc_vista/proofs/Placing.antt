@@ -1,10 +1,12 @@
 -- Where a word stands in a segment, and what a write of it changes.
 use Rattle.std.proofs.Common.{refl, ◌≡◌, ◌≢◌, ℕ, zero, suc, ◌+◌, ◌-◌, ◌*◌, ◌<◌, ◌≤◌, List, length, get_or, set, take, drop, sym, ◌∙◌, ap, subst, arith, get_or-set_other, get_or-set_same, length-drop, length-set}
-use Rattle.std.proofs.Common.{Option, None, Some, inl, inr, ⊎_elim, Result, Ok, Err, IfSome}
+use Rattle.std.proofs.Common.{Option, None, Some, inl, inr, ⊎_elim, Result, Ok, Err, IfSome, MatchResult}
 use Rattle.std.proofs.lemmas.List.{length-take-le, get_or-take, get_or-drop, drop-set-lt, drop-set-add, take-set-le}
 use Rattle.std.proofs.Math.Seq.{take-set-lt}
-use Rattle.dc_media.specs.Stores.{SetsWord, CopiesLine, copied}
-use Rattle.dc_vista.specs.Parts.{Parts, parts_of, parts, Turns, Copies, HasLengths, IsWord, laid, index_of, word_of, with_word, with_line, with_undo}
+use Rattle.dc_media.specs.Stores.{SetsWord, copied, set_words}
+use Rattle.dc_media.specs.Told.{Becomes}
+use Rattle.dc_media.proofs.Storing.{length-set_words}
+use Rattle.dc_vista.specs.Parts.{Parts, parts_of, parts, Turns, Copies, HasLengths, IsWord, laid, index_of, word_of, with_word, with_line, with_row, with_undo}
 use Rattle.dc_vista.specs.declared.words.Word.{Word}
 use Rattle.dc_vista.specs.declared.words.Word.TheVariants as word
 
@@ -95,14 +97,15 @@ turned q k w f (Err e) total old None sum place size word = tt
 turned q k w f (Err e) total None (Some after) sum place size word = word
 turned q k w f (Err e) total (Some before) (Some after) sum place size word = ⊎_elim (λ still. inl (ap (parts_of q) still)) (λ done. inr (ap (parts_of q) done ∙ place before (size ∙ sum))) word
 
--- and from the line to the parts
-pub lined : {T E : Type 0} (q from to : ℕ) (f : ℕ → Parts → Parts) (result : Result T E) (total : ℕ) (old new : Option (List ℕ)) → total ≡ 1424 + 33 * q → ((k : ℕ) (ws : List ℕ) → k ≤ 16 → length ws ≡ 1424 + 33 * q → parts_of q (copied k from to ws) ≡ f k (parts_of q ws)) → IfSome old (λ ws. length ws ≡ total) → CopiesLine from to result old new → Copies f result (parts q old) (parts q new)
-lined q from to f (Ok x) total old None sum place size word = tt
-lined q from to f (Ok x) total None (Some after) sum place size word = word
-lined q from to f (Ok x) total (Some before) (Some after) sum place size word = ap (parts_of q) word ∙ place 16 before (omega arith) (size ∙ sum)
-lined q from to f (Err e) total old None sum place size word = tt
-lined q from to f (Err e) total None (Some after) sum place size word = word
-lined q from to f (Err e) total (Some before) (Some after) sum place size word = (word.0, word.1, ap (parts_of q) word.2 ∙ place word.0 before word.1 (size ∙ sum))
+-- and from words in a row to the parts
+pub lined : {T E : Type 0} (q most : ℕ) (g : ℕ → List ℕ → List ℕ) (f : ℕ → Parts → Parts) (result : Result T E) (total : ℕ) (old new : Option (List ℕ)) → total ≡ 1424 + 33 * q → ((k : ℕ) (ws : List ℕ) → k ≤ most → length ws ≡ 1424 + 33 * q → parts_of q (g k ws) ≡ f k (parts_of q ws)) → IfSome old (λ ws. length ws ≡ total)
+    → MatchResult result (λ _. Becomes old new (λ before after. after ≡ g most before)) (λ _. Becomes old new (λ before after. (k : ℕ) × (k ≤ most) × (after ≡ g k before))) → Copies most f result (parts q old) (parts q new)
+lined q most g f (Ok x) total old None sum place size row = tt
+lined q most g f (Ok x) total None (Some after) sum place size row = row
+lined q most g f (Ok x) total (Some before) (Some after) sum place size row = ap (parts_of q) row ∙ place most before (omega arith) (size ∙ sum)
+lined q most g f (Err e) total old None sum place size row = tt
+lined q most g f (Err e) total None (Some after) sum place size row = row
+lined q most g f (Err e) total (Some before) (Some after) sum place size row = (row.0, row.1, ap (parts_of q) row.2 ∙ place row.0 before row.1 (size ∙ sum))
 
 body_word : (q i : ℕ) (ws : List ℕ) → i < 16 * q → get_or (parts_of q ws).body i 0 ≡ get_or ws (16 + i) 0
 unfolding parts_of
@@ -145,6 +148,16 @@ back_at q line j low (suc k) ws few size =
     ∙ body_at q now w (copied_length k (1424 + 17 * q + 16 * j) (16 + 16 * line) ws ∙ size) (16 * line + k) (omega (arith, low, few))
     ∙ ap (λ (b : Parts). record b { body = set b.body (16 * line + k) w }) (back_at q line j low k ws (omega (arith, few)) size)
     ∙ ap (λ (x : ℕ). record (parts_of q ws) { body = set (laid k (16 * j) (parts_of q ws).lines (16 * line) (parts_of q ws).body) (16 * line + k) x }) is
+
+-- a row that is set behind the header is set in the body
+pub row_at : (q i : ℕ) (row : List ℕ) → i + length row ≤ 16 * q → (k : ℕ) (ws : List ℕ) → k ≤ length row → length ws ≡ 1424 + 33 * q → parts_of q (set_words k (16 + i) row ws) ≡ with_row i row k (parts_of q ws)
+row_at q i row within zero ws few size = refl
+row_at q i row within (suc k) ws few size =
+    let now = set_words k (16 + i) row ws in
+    let w = get_or row k 0 in
+    ap (λ (x : ℕ). parts_of q (set now x w)) (omega arith)
+    ∙ body_at q now w (length-set_words k (16 + i) row ws ∙ size) (i + k) (omega (arith, within, few))
+    ∙ ap (λ (b : Parts). record b { body = set b.body (i + k) w }) (row_at q i row within k ws (omega (arith, few)) size)
 
 -- the parts have their lengths
 pub lengths : (q total : ℕ) (told : Option (List ℕ)) → total ≡ 1424 + 33 * q → IfSome told (λ ws. length ws ≡ total) → IfSome (parts q told) (HasLengths q)

@@ -1,12 +1,12 @@
 -- What each write of a part does to what the segment stands for.
-use Rattle.std.proofs.Common.{nat_lt, ◌≡◌, ◌≢◌, ℕ, suc, ◌+◌, ◌*◌, ◌/◌, ◌%◌, ◌<◌, ◌≤◌, Bool, true, false, List, length, get_or, set, refl, sym, ◌∙◌, ap, subst, arith, inl, inr, get_or-set_other, get_or-set_same, ⊎_elim, Option, None, Some, IfSome, OnOk, Result, Ok, Err, add-one, cond, length-set, slice_get}
+use Rattle.std.proofs.Common.{nat_lt, ◌≡◌, ◌≢◌, ℕ, zero, suc, ◌+◌, ◌*◌, ◌/◌, ◌%◌, ◌<◌, ◌≤◌, Bool, true, false, List, length, get_or, set, refl, sym, ◌∙◌, ap, subst, arith, inl, inr, get_or-set_other, get_or-set_same, ⊎_elim, Option, None, Some, IfSome, OnOk, Result, Ok, Err, add-one, cond, length-set, slice_get}
 use Rattle.std.specs.List.{count_by}
 use Rattle.std.proofs.lemmas.Option.{slice_get_within, slice_get-get_or, get_or_from_slice_get}
 use Rattle.std.proofs.lemmas.List.Sums.{sum_by-set, count_by-le-length}
 use Rattle.std.proofs.lemmas.Bool.{cases_eq, le-ltb}
 use Rattle.dc_media.specs.Told.{Becomes}
 use Rattle.dc_vista.specs.Laws.{not_new}
-use Rattle.dc_vista.specs.Parts.{Parts, Turns, Copies, laid, with_undo}
+use Rattle.dc_vista.specs.Parts.{Parts, Turns, Copies, laid, with_row, with_undo}
 use Rattle.dc_vista.specs.Undo.{undo_fault, first_wrong, undone, back}
 use Rattle.dc_vista.specs.Whole.{Agrees, IsReady, IsWhole, Same, Since, Stays, more}
 use Rattle.dc_vista.specs.Standing.{Shape, reading, settled, read_as, standing, least, is_new}
@@ -51,12 +51,13 @@ module _ (sh : Shape) where
   stay P f (Err e) (Some b) (Some a) same turns has d s left =
       ⊎_elim (λ still. left ∙ ap (λ (x : Parts). reading sh x d) still) (λ done. left ∙ ap (λ (x : Parts). reading sh x d) done ∙ same b has d) turns
 
-  pub stay_copy : {T E : Type 0} (P : Parts → Type 0) (f : ℕ → Parts → Parts) (result : Result T E) (old new : Option Parts) → ((k : ℕ) (b : Parts) → k ≤ 16 → P b → Same sh b (f k b)) → Copies f result old new → IfSome old P → Stays sh old new
-  stay_copy P f result old None same turns has d s left = absurd left
-  stay_copy P f (Ok x) None (Some a) same turns has d s left = absurd turns
-  stay_copy P f (Err e) None (Some a) same turns has d s left = absurd turns
-  stay_copy P f (Ok x) (Some b) (Some a) same turns has d s left = left ∙ ap (λ (x : Parts). reading sh x d) turns ∙ same 16 b (omega arith) has d
-  stay_copy P f (Err e) (Some b) (Some a) same turns has d s left = left ∙ ap (λ (x : Parts). reading sh x d) turns.2 ∙ same turns.0 b turns.1 has d
+  -- nor do words in a row, however many of them
+  pub stay_copy : {T E : Type 0} (P : Parts → Type 0) (most : ℕ) (f : ℕ → Parts → Parts) (result : Result T E) (old new : Option Parts) → ((k : ℕ) (b : Parts) → k ≤ most → P b → Same sh b (f k b)) → Copies most f result old new → IfSome old P → Stays sh old new
+  stay_copy P most f result old None same turns has d s left = absurd left
+  stay_copy P most f (Ok x) None (Some a) same turns has d s left = absurd turns
+  stay_copy P most f (Err e) None (Some a) same turns has d s left = absurd turns
+  stay_copy P most f (Ok x) (Some b) (Some a) same turns has d s left = left ∙ ap (λ (x : Parts). reading sh x d) turns ∙ same most b (omega arith) has d
+  stay_copy P most f (Err e) (Some b) (Some a) same turns has d s left = left ∙ ap (λ (x : Parts). reading sh x d) turns.2 ∙ same turns.0 b turns.1 has d
 
   -- what the reading is made of
   pub same_reading : (b a : Parts) (d : ℕ) → a.ready ≡ b.ready → a.id ≡ b.id → undo_fault sh.lines a.count a.numbers ≡ undo_fault sh.lines b.count b.numbers → least a d ≡ least b d → standing a d ≡ standing b d → a.log ≡ b.log → reading sh a d ≡ reading sh b d
@@ -173,6 +174,22 @@ module _ (sh : Shape) (since : Since) where
     long = record { body_length = length-set b.body i w ∙ agrees.long.body_length; log_length = agrees.long.log_length; numbers_length = agrees.long.numbers_length; lines_length = agrees.long.lines_length };
   }
 
+  -- words of a row stand in one line
+  row_marked : (i k : ℕ) → i % 16 + suc k ≤ 16 → slice_get since.touched (i / 16) ≡ Some true → slice_get since.touched ((i + k) / 16) ≡ Some true
+  row_marked i k few marked = let line : (i + k) / 16 ≡ i / 16 = omega (arith, few) in rw line marked
+
+  -- the first words of a row in a line that is marked
+  pub row_agrees : (i : ℕ) (ws : List ℕ) → slice_get since.touched (i / 16) ≡ Some true → (k : ℕ) (b : Parts) → i % 16 + k ≤ 16 → Agrees sh since b → Agrees sh since (with_row i ws k b)
+  row_agrees i ws marked zero b few agrees = agrees
+  row_agrees i ws marked (suc k) b few agrees = body_agrees (i + k) (get_or ws k 0) (row_marked i k few marked) (with_row i ws k b) (row_agrees i ws marked k b (omega (arith, few)) agrees)
+
+  -- and they change nothing of what the words stand for
+  pub row_same : (i : ℕ) (ws : List ℕ) → slice_get since.touched (i / 16) ≡ Some true → (k : ℕ) (b : Parts) → i % 16 + k ≤ 16 → Agrees sh since b → Same sh b (with_row i ws k b)
+  row_same i ws marked zero b few agrees d = refl
+  row_same i ws marked (suc k) b few agrees d =
+      let less : i % 16 + k ≤ 16 = omega (arith, few) in
+      body_same (i + k) (get_or ws k 0) (row_marked i k few marked) (with_row i ws k b) (row_agrees i ws marked k b less agrees) d ∙ row_same i ws marked k b less agrees d
+
 pub room : (sh : Shape) (since : Since) (i : ℕ) (told : Option Parts) → IsReady sh since told → slice_get since.touched i ≡ Some false → since.count < sh.lines
 room sh since i told ready free =
     omega (arith, ready.sized, ready.counts, room_left since.touched i free, count_by-le-length (λ (t : Bool). t) (set since.touched i true), length-set since.touched i true)
@@ -199,4 +216,14 @@ body_ready sh since i w (Ok x) old new marked turns ready = record {
   sized = ready.sized;
   counts = ready.counts;
   agrees = step (Agrees sh since) (Agrees sh since) (λ b. record b { body = set b.body i w }) old new (body_agrees sh since i w marked) turns ready.agrees;
+}
+
+-- a row was set in a line that is marked
+pub row_ready : {T E : Type 0} (sh : Shape) (since : Since) (i : ℕ) (ws : List ℕ) (result : Result T E) (old new : Option Parts) → slice_get since.touched (i / 16) ≡ Some true → i % 16 + length ws ≤ 16 → Copies (length ws) (with_row i ws) result old new
+    → IsReady sh since old → OnOk result (IsReady sh since new)
+row_ready sh since i ws (Err e) old new marked few turns ready = tt
+row_ready sh since i ws (Ok x) old new marked few turns ready = record {
+  sized = ready.sized;
+  counts = ready.counts;
+  agrees = step (Agrees sh since) (Agrees sh since) (with_row i ws (length ws)) old new (λ b agrees. row_agrees sh since i ws marked (length ws) b few agrees) turns ready.agrees;
 }

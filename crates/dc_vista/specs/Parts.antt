@@ -1,6 +1,7 @@
 -- The words of a segment by their parts: a header of 16 words, the body in lines of 16 words (the memory, then the kernel's text and its pad), 64 places of
 -- the log, the numbers of the undo lines, and the undo lines. With q lines of body these are 1424 + 33 q words.
 use Rattle.std.specs.Prelude.{◌≡◌, ◌⊎◌, ◌<◌, ◌≤◌, ◌+◌, ◌*◌, ℕ, zero, suc, length, List, take, drop, Option, None, Some, Result, MatchResult, slice_index, slice_set}
+use Rattle.dc_media.specs.Stores.{set_words}
 use Rattle.dc_media.specs.Told.{Becomes}
 use Rattle.dc_vista.specs.declared.words.Word.{Word}
 use Rattle.dc_vista.specs.declared.words.Word.TheVariants as word
@@ -113,11 +114,11 @@ Turns f result old new = MatchResult result
     (λ _. Becomes old new (λ before after. after ≡ f before))
     (λ _. Becomes old new (λ before after. (after ≡ before) ⊎ (after ≡ f before)))
 
--- what a copy of a line does: at Ok all 16 words are there, refused the first of them
-abbrev pub Copies : {T E : Type 0} → (ℕ → Parts → Parts) → Result T E → Option Parts → Option Parts → Type 0
-Copies f result old new = MatchResult result
-    (λ _. Becomes old new (λ before after. after ≡ f 16 before))
-    (λ _. Becomes old new (λ before after. (k : ℕ) × (k ≤ 16) × (after ≡ f k before)))
+-- what a write of so many words in a row does: at Ok all of them are there, refused the first of them
+abbrev pub Copies : {T E : Type 0} → ℕ → (ℕ → Parts → Parts) → Result T E → Option Parts → Option Parts → Type 0
+Copies most f result old new = MatchResult result
+    (λ _. Becomes old new (λ before after. after ≡ f most before))
+    (λ _. Becomes old new (λ before after. (k : ℕ) × (k ≤ most) × (after ≡ f k before)))
 
 -- the first k words from one place of a list, laid in order at a place of another
 abbrev pub laid : ℕ → ℕ → List ℕ → ℕ → List ℕ → List ℕ
@@ -131,3 +132,7 @@ with_undo line j k b = record b { lines = laid k (16 * line) b.body (16 * j) b.l
 -- the first k words of an undo line are copied to a line of the body
 abbrev pub with_line : ℕ → ℕ → ℕ → Parts → Parts
 with_line line j k b = record b { body = laid k (16 * j) b.lines (16 * line) b.body }
+
+-- the first k of some words are set in the body, in order from a place on
+abbrev pub with_row : ℕ → List ℕ → ℕ → Parts → Parts
+with_row i ws k b = record b { body = set_words k i ws b.body }

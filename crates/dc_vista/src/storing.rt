@@ -1,6 +1,7 @@
 //! Stores to the words of the body: a line is kept before it is first stored to.
 
-ghost use Rattle.std.specs.Prelude.{◌≡◌, ◌+◌, ◌*◌, ◌/◌, ◌<◌, ◌≤◌, ℕ, Some, OnOk, false, length, slice_get, slice_set, true};
+ghost use Rattle.std.specs.Prelude.{◌≡◌, ◌+◌, ◌*◌, ◌/◌, ◌%◌, ◌<◌, ◌≤◌, ℕ, Some, OnOk, false, length, slice_get, slice_set, true};
+ghost use Rattle.dc_media.specs.Stores.{set_words};
 ghost use Rattle.dc_media.specs.Told.{Becomes};
 ghost use Rattle.dc_vista.specs.Calls.{IsCall};
 ghost use Rattle.dc_vista.specs.Handles.{IsLent, IsSameCommit, seen, shape_of, since_of};
@@ -9,7 +10,7 @@ ghost use Rattle.dc_vista.specs.Whole.{HasHeader, IsReady, IsWritten, Stays};
 
 use crate::frame::Frame;
 use crate::marks::Marks;
-use crate::words::{Word, keep_line, put};
+use crate::words::{Word, keep_line, put, put_row};
 use dc_media::{DeviceFault, Keeps};
 
 impl Frame {
@@ -48,6 +49,28 @@ impl Frame {
         put(dev, self.place, self.lines, Word::Body(i), w)
     }
 
+    /// Stores to words in a row, all in one line that is kept.
+    fn write_row<K: Keeps>(
+        &self,
+        dev: &mut K,
+        marks: &Marks,
+        i: u32,
+        words: &[u32],
+    ) -> Result<(), DeviceFault>
+        requires at { i + length words.now ≤ 16 * self.now.lines }
+        requires line { i % 16 + length words.now ≤ 16 }
+        requires kept { slice_get marks.now.touched.items (i / 16) ≡ Some true }
+        requires lent { IsLent K.Keeps self.now dev.old }
+        requires ready { IsReady (shape_of self.now) (since_of marks.now) (seen K.Keeps self.now dev.old) }
+        ensures ready { OnOk result (IsReady (shape_of self.now) (since_of marks.now) (seen K.Keeps self.now dev.new)) }
+        ensures stands { Stays (shape_of self.now) (seen K.Keeps self.now dev.old) (seen K.Keeps self.now dev.new) }
+        ensures body { OnOk result (Becomes (seen K.Keeps self.now dev.old) (seen K.Keeps self.now dev.new) (λ b a. a.body ≡ set_words (length words.now) i words.now b.body)) }
+        ensures header { Becomes (seen K.Keeps self.now dev.old) (seen K.Keeps self.now dev.new) (λ b a. HasHeader b a) }
+        ensures call { IsCall K.Keeps self.now.place dev.old dev.new result }
+    {
+        put_row(dev, self.place, self.lines, i, words)
+    }
+
     /// Stores to a word of the body.
     pub fn store<K: Keeps>(
         &self,
@@ -74,7 +97,35 @@ impl Frame {
         self.write(dev, marks, i, w)
     }
 
-    /// Stores the text of a kernel: all its words, in order.
+    /// Stores to words in a row, all in one line of the body.
+    fn store_row<K: Keeps>(
+        &self,
+        dev: &mut K,
+        marks: &mut Marks,
+        i: u32,
+        words: &[u32],
+    ) -> Result<(), DeviceFault>
+        requires at { i < 16 * self.now.lines }
+        requires fits { i + length words.now ≤ 16 * self.now.lines }
+        requires line { i % 16 + length words.now ≤ 16 }
+        requires lent { IsLent K.Keeps self.now dev.old }
+        requires ready { IsReady (shape_of self.now) (since_of marks.old) (seen K.Keeps self.now dev.old) }
+        ensures ready { OnOk result (IsReady (shape_of self.now) (since_of marks.new) (seen K.Keeps self.now dev.new)) }
+        ensures same { IsSameCommit marks.old marks.new }
+        ensures stands { Stays (shape_of self.now) (seen K.Keeps self.now dev.old) (seen K.Keeps self.now dev.new) }
+        ensures body { OnOk result (Becomes (seen K.Keeps self.now dev.old) (seen K.Keeps self.now dev.new) (λ b a. a.body ≡ set_words (length words.now) i words.now b.body)) }
+        ensures header { Becomes (seen K.Keeps self.now dev.old) (seen K.Keeps self.now dev.new) (λ b a. HasHeader b a) }
+        ensures call { IsCall K.Keeps self.now.place dev.old dev.new result }
+    {
+        let line = i / 16;
+        if marks.touched[line as usize] {
+            return self.write_row(dev, marks, i, words);
+        }
+        self.keep(dev, marks, line)?;
+        self.write_row(dev, marks, i, words)
+    }
+
+    /// Stores the text of a kernel: all its words, in order, those of a line in one call.
     pub fn put_kernel<K: Keeps>(
         &self,
         dev: &mut K,
@@ -92,9 +143,12 @@ impl Frame {
         ensures call { IsCall K.Keeps self.now.place dev.old dev.new result }
     {
         let mut i = self.size;
-        for w in kernel {
-            self.store(dev, marks, i, *w)?;
-            i += 1;
+        let mut done = 0;
+        while done < kernel.len() {
+            let count = (kernel.len() - done).min((16 - i % 16) as usize);
+            self.store_row(dev, marks, i, &kernel[done..done + count])?;
+            i += count as u32;
+            done += count;
         }
         Ok(())
     }

@@ -1,8 +1,8 @@
 //! Reads and writes of the words of a segment by what they hold. `q` is the number of its lines.
 
-ghost use Rattle.std.specs.Prelude.{◌≡◌, ◌+◌, ◌*◌, ◌<◌, ◌^◌, IfSome};
+ghost use Rattle.std.specs.Prelude.{◌≡◌, ◌+◌, ◌*◌, ◌<◌, ◌≤◌, ◌^◌, IfSome, length};
 ghost use Rattle.dc_vista.specs.Calls.{IsCall};
-ghost use Rattle.dc_vista.specs.Parts.{Copies, HasLengths, IsWord, Turns, index_of, parts, segment_words, with_line, with_undo, with_word, word_of};
+ghost use Rattle.dc_vista.specs.Parts.{Copies, HasLengths, IsWord, Turns, index_of, parts, segment_words, with_line, with_row, with_undo, with_word, word_of};
 
 use dc_media::{DeviceFault, Keeps};
 
@@ -77,6 +77,23 @@ pub fn put<K: Keeps>(dev: &mut K, p: u32, q: u32, word: Word, w: u32) -> Result<
     dev.store(p, index(q, word), w)
 }
 
+/// Writes words of the body in a row.
+pub fn put_row<K: Keeps>(
+    dev: &mut K,
+    p: u32,
+    q: u32,
+    i: u32,
+    words: &[u32],
+) -> Result<(), DeviceFault>
+    requires extent { K.extent dev.old p ≡ segment_words q }
+    requires row { i + length words.now ≤ 16 * q }
+    ensures part { Copies (length words.now) (with_row i words.now) result (parts q (K.told dev.old p)) (parts q (K.told dev.new p)) }
+    ensures long { IfSome (parts q (K.told dev.new p)) (HasLengths q) }
+    ensures call { IsCall K.Keeps p dev.old dev.new result }
+{
+    dev.store_words(p, 16 + i, words)
+}
+
 /// Reads a word.
 pub fn get<K: Keeps>(dev: &K, p: u32, q: u32, word: Word) -> u32
     requires extent { K.extent dev.now p ≡ segment_words q }
@@ -97,7 +114,7 @@ pub fn keep_line<K: Keeps>(
     requires extent { K.extent dev.old p ≡ segment_words q }
     requires line { line < q }
     requires at { j < q }
-    ensures part { Copies (with_undo line j) result (parts q (K.told dev.old p)) (parts q (K.told dev.new p)) }
+    ensures part { Copies 16 (with_undo line j) result (parts q (K.told dev.old p)) (parts q (K.told dev.new p)) }
     ensures long { IfSome (parts q (K.told dev.new p)) (HasLengths q) }
     ensures call { IsCall K.Keeps p dev.old dev.new result }
 {
@@ -109,7 +126,7 @@ pub fn put_back<K: Keeps>(dev: &mut K, p: u32, q: u32, line: u32, j: u32) -> Res
     requires extent { K.extent dev.old p ≡ segment_words q }
     requires line { line < q }
     requires at { j < q }
-    ensures part { Copies (with_line line j) result (parts q (K.told dev.old p)) (parts q (K.told dev.new p)) }
+    ensures part { Copies 16 (with_line line j) result (parts q (K.told dev.old p)) (parts q (K.told dev.new p)) }
     ensures long { IfSome (parts q (K.told dev.new p)) (HasLengths q) }
     ensures call { IsCall K.Keeps p dev.old dev.new result }
 {

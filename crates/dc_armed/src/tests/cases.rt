@@ -148,4 +148,49 @@ store 0 1 7 = ok
 copy 0 0 20 = stopped
 load 0 21 = 5
 lines = 0
+# words in a row are one call where no stop waits
+words 0 3 6 7 8 = ok
+load 0 2 = 5
+load 0 3 = 6
+load 0 4 = 7
+load 0 5 = 8
+load 0 6 = 5
+rows = 1
+calls 0 = 3
+# a stop at the third word keeps the first two
+stop 0 0 3 0
+words 0 3 6 7 8 9 = stopped
+load 0 3 = 6
+load 0 4 = 7
+load 0 5 = 5
+load 0 6 = 5
+rows = 0
+calls 0 = 3
+words 0 5 8 9 = ok
+load 0 6 = 9
+rows = 1
+calls 0 = 5
+# a stop at the last word that keeps a byte sets it
+stop 0 0 3 1
+words 0 3 6 7 8 = stopped
+load 0 4 = 7
+load 0 5 = 8
+load 0 6 = 5
+rows = 0
+calls 0 = 3
+# a stop behind the row comes at its own call
+stop 0 0 5 0
+words 0 3 6 7 8 = ok
+rows = 1
+store 0 0 9 = ok
+store 0 1 9 = stopped
+load 0 0 = 9
+load 0 1 = 5
+calls 0 = 5
+# a row of nothing is no call
+stop 0 0 1 0
+words 0 3 = ok
+rows = 1
+calls 0 = 0
+store 0 0 8 = stopped
 ";

@@ -84,11 +84,12 @@ impl Disks for FakeDisk {
     }
 }
 
-/// Forty words for all processes, which count the lines that are copied by one call.
+/// Forty words for all processes, which count the lines and the rows that are made by one call.
 #[derive(Drop)]
 pub struct FakeWords {
     pub words: [u32; 40],
     pub lines: u32,
+    pub rows: u32,
 }
 
 impl FakeWords {
@@ -96,6 +97,7 @@ impl FakeWords {
         FakeWords {
             words: [5; 40],
             lines: 0,
+            rows: 0,
         }
     }
 }
@@ -135,6 +137,14 @@ impl Keeps for FakeWords {
 
     fn store(&mut self, _p: u32, i: u32, w: u32) -> Result<(), DeviceFault> {
         self.words[i as usize] = w;
+        Ok(())
+    }
+
+    #[tactic(auto, using(dc_media::proofs::Storing::counted_at_most))]
+    fn store_words(&mut self, _p: u32, i: u32, words: &[u32]) -> Result<(), DeviceFault> {
+        self.rows = self.rows.saturating_add(1);
+        let at = i as usize;
+        self.words[at..at + words.len()].copy_from_slice(words);
         Ok(())
     }
 

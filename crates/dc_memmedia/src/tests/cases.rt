@@ -59,6 +59,42 @@ load 0 36 = 0
 copy 0 20 20 = ok
 load 0 23 = 7
 calls 0 = 5
+# sets words in a row, each by a call
+words 0 38 5 6 = ok
+words 0 0 7 = ok
+words 0 40 = ok
+words 1 1 = ok
+load 0 38 = 5
+load 0 39 = 6
+load 0 0 = 7
+load 1 1 = 0
+calls 0 = 3
+calls 1 = 0
+# sets the first words of a row in which a call is listed
+listed 0 4 stopped 0
+listed 0 6 failed 1
+listed 1 2 stopped 0
+words 0 3 11 12 = ok
+words 0 5 13 14 15 = stopped
+load 0 5 = 13
+load 0 6 = 0
+load 0 7 = 0
+calls 0 = 4
+words 0 6 24 25 26 = failed
+load 0 6 = 24
+load 0 7 = 25
+load 0 8 = 0
+calls 0 = 6
+refused 0 = 1 1
+words 0 0 1 2 3 4 = ok
+calls 0 = 10
+# sets all words of a row behind which a call is listed
+listed 0 3 stopped 1
+words 0 1 8 9 = ok
+load 0 2 = 9
+words 0 3 10 11 = stopped
+load 0 3 = 10
+load 0 4 = 0
 # copies the first words of a line at a listed call
 listed 0 3 stopped 3
 listed 0 4 failed 99
