@@ -2,6 +2,7 @@
 #![tactic(auto)]
 
 mod armed;
+mod arming;
 mod disks;
 mod keeps;
 mod plan;

@@ -1,11 +1,12 @@
-ghost use Rattle.std.specs.Prelude.{◌≡◌, ◌<◌, ◌≤◌, ◌+◌, ◌-◌, List, ◌∷◌, ◌++◌, ℕ, false, None, Some, Err, IsSome, OnOk, OnErr, [], length, take, get_or, replicate};
-ghost use Rattle.std.specs.Option.{option_map};
+//! The planned stops of a device, and how its calls are counted against them.
+
+ghost use Rattle.std.specs.Prelude.{◌≡◌, ◌<◌, ◌-◌, ℕ, false, None, Err, IsSome, OnOk, OnErr, get_or};
 ghost use Rattle.dc_media.specs.declared.faults.DeviceFault.TheVariants.{Stopped};
 ghost use Rattle.dc_media.specs.Causes.{counted_by};
-ghost use Rattle.dc_armed.specs.Turns.{ComesNone, WaitFirst, WaitNone};
-ghost use Rattle.dc_armed.specs.declared.stop.PlannedStop.{PlannedStop};
-ghost use Rattle.dc_armed.specs.Stops.{after_answer, calls_to, came_to, due, due_of, fewer_by, first_stop, is_of, one_fewer, sooner_waiting, waiting_for, waiting_of, waits_within, Calls, CallsInRow, Comes, Waits};
+ghost use Rattle.dc_armed.specs.Turns.{WaitFirst, WaitNone};
+ghost use Rattle.dc_armed.specs.Stops.{after_answer, calls_to, came_to, due, due_of, fewer_by, one_fewer, waiting_for, waits_within, Calls, CallsInRow, Comes, Waits};
 
+use crate::arming::{arm, next_turn, none_waiting};
 use crate::stop::{PlannedStop, Waiting};
 use dc_media::{DeviceFault, STORES, Tear};
 use std::marker::Model;
@@ -36,85 +37,11 @@ impl Model for StopPlan {
     ghost invariant = { λ s. ComesNone s.stops.items s.quiet_from s.quiet_until × (s.armed ≡ false → WaitNone s.waiting) };
 }
 
-/// No stop waits.
-fn none_waiting() -> [Option<Waiting>; STORES as usize]
-    ensures { WaitNone result }
-{
-    [None; STORES as usize]
-}
-
 /// Nothing is counted yet.
 fn none_counted() -> [u64; STORES as usize]
     ensures { (p : ℕ) → get_or result p 0 ≡ 0 }
 {
     [0; STORES as usize]
-}
-
-/// Whether a stop comes in a turn: its calls and processes are numbered, and the turn is its own.
-fn comes_in(turn: u32, stop: &PlannedStop) -> bool
-    ensures { result ≡ is_of turn stop.now.process stop.now }
-{
-    stop.turn == turn && stop.process < STORES && stop.call > 0
-}
-
-/// The sooner of a stop that waits and one that is planned after it.
-fn sooner(waiting: Option<Waiting>, stop: &PlannedStop) -> Waiting
-    ensures { result ≡ sooner_waiting waiting stop.now }
-{
-    match waiting {
-        Some(waiting) if waiting.calls <= stop.call => waiting,
-        _ => Waiting {
-            calls: stop.call,
-            tear: stop.tear,
-        },
-    }
-}
-
-/// Lets a stop wait if it comes in a turn, and says whether it does.
-fn arm_one(waiting: &mut [Option<Waiting>; STORES as usize], stop: &PlannedStop, turn: u32) -> bool
-    ensures waits { (stops : List PlannedStop) → WaitFirst stops turn waiting.old → WaitFirst (stops ++ stop.now ∷ []) turn waiting.new }
-    ensures none { result ≡ false → waiting.new ≡ waiting.old }
-{
-    if comes_in(turn, stop) {
-        let place = stop.process as usize;
-        waiting[place] = Some(sooner(waiting[place], stop));
-        return true;
-    }
-    false
-}
-
-/// Lets the first stop of a turn wait for each process, and says whether there is any.
-fn arm(waiting: &mut [Option<Waiting>; STORES as usize], stops: &[PlannedStop], turn: u32) -> bool
-    requires { WaitNone waiting.old }
-    ensures waits { WaitFirst stops.now turn waiting.new }
-    ensures none { result ≡ false → WaitNone waiting.new }
-{
-    let mut armed = false;
-    for stop in stops {
-        armed |= arm_one(waiting, stop, turn);
-    }
-    armed
-}
-
-/// The sooner of a turn and that of a stop which is planned for a turn after this one.
-fn sooner_turn(next: u64, stop: &PlannedStop, turn: u32) -> u64
-    ensures { (stops : List PlannedStop) → ComesNone stops (turn + 1) next → ComesNone (stops ++ stop.now ∷ []) (turn + 1) result }
-{
-    if stop.turn > turn {
-        return next.min(u64::from(stop.turn));
-    }
-    next
-}
-
-/// The first turn after this one for which a stop is planned, or one past the last turn.
-fn next_turn(stops: &[PlannedStop], turn: u32) -> u64
-    ensures { ComesNone stops.now (turn + 1) result }
-{
-    let mut next = 1 << 32;
-    for stop in stops {
-        next = sooner_turn(next, stop, turn);
-    }
-    next
 }
 
 /// Counts a call down, and gives the tear of a stop that comes at it.

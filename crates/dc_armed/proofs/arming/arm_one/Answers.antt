@@ -1,6 +1,6 @@
 use Rattle.std.proofs.Common.{sym, arith}
 use Rattle.dc_armed.proofs.Firsts.{waits-taken, waits-passed}
-use Rattle.dc_armed.proofs.plan.arm_one.Goals as goal
+use Rattle.dc_armed.proofs.arming.arm_one.Goals as goal
 
 pub returns-then-comes_in-clause-waits : goal.returns-then-comes_in-clause-waits
 returns-then-comes_in-clause-waits c = λ stops before.

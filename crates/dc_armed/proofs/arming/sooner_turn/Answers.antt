@@ -1,6 +1,6 @@
 use Rattle.std.proofs.Common.{arith, inl, inr}
 use Rattle.dc_armed.proofs.Firsts.{ComesNone-push, ComesNone-sooner}
-use Rattle.dc_armed.proofs.plan.sooner_turn.Goals as goal
+use Rattle.dc_armed.proofs.arming.sooner_turn.Goals as goal
 
 pub returns-then-stop-turn : goal.returns-then-stop-turn
 returns-then-stop-turn c = λ stops before.

@@ -1,6 +1,6 @@
 use Rattle.std.proofs.Common.{◌≡◌, false, take}
 use Rattle.dc_armed.specs.Turns.{WaitFirst, WaitNone}
-use Rattle.dc_armed.proofs.plan.arm.Given as goal
+use Rattle.dc_armed.proofs.arming.arm.Given as goal
 
 abbrev pub invariant-loop-stop : goal.invariant-loop-stop
 invariant-loop-stop l = record {

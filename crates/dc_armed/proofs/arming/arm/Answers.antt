@@ -1,6 +1,6 @@
 use Rattle.std.proofs.Common.{arith}
 use Rattle.dc_armed.proofs.Firsts.{WaitFirst-more, neither}
-use Rattle.dc_armed.proofs.plan.arm.Goals as goal
+use Rattle.dc_armed.proofs.arming.arm.Goals as goal
 
 pub loop-stop-preserved : goal.loop-stop-preserved
 loop-stop-preserved c = record {
