@@ -15,8 +15,6 @@ mod rejoining;
 mod slot;
 mod stopping;
 mod taking;
-#[cfg(test)]
-mod tests;
 mod together;
 mod turning;
 mod world;

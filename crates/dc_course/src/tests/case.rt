@@ -1,12 +1,13 @@
-//! A case: a name, and then lines `key=value`. In a value `~` stands for a line feed.
+//! A case: a name, and then lines `key=value`. In a value `~` stands for a line feed and `@` for 512 zeros.
 
-use std::alloc::Global;
+use std::alloc::{AllocError, Global};
 use std::test::Fail;
 
-/// What a case may say. Of the run: the protocol, the guests, the schedule, the planned stops, which store call of the device is refused, and
-/// which calls of the output fail. Of what comes: the lines, the marks, the turns of the acts, how many whole lines, and the ending.
+/// What a case may say. Of the run: the protocol, the pages of a memory, the guests and their inputs, the schedule, the stops, and which calls
+/// of the output fail. Of what comes of it: the lines, the marks or some of them, the turns of the acts, lines of the report, the counts of
+/// the marks, the acts and the lines, and the ending.
 const KEYS: &str =
-    "protocol guests schedule stops refused unwritten lines marks turns whole ending";
+    "protocol pages guests inputs schedule stops unwritten lines marks some turns has counts ending";
 
 /// Fails with the name of a case and what does not hold of it.
 pub fn holds(ok: bool, case: &str, what: &str) -> Result<(), Fail> {
@@ -26,6 +27,13 @@ pub fn value<'a>(case: &'a str, key: &str, other: &'a str) -> &'a str {
         }
     }
     other
+}
+
+/// The value of a key as text.
+pub fn text(alloc: Global, case: &str, key: &str) -> Result<String, AllocError> {
+    let zeros = "0".repeat(alloc, 512)?;
+    let lines = value(case, key, "").replace(alloc, "~", "\n")?;
+    lines.replace(alloc, "@", &zeros)
 }
 
 /// The numbers of a text.

@@ -1,7 +1,7 @@
 use Rattle.std.specs.Prelude.{All}
 use Rattle.dc_plain.specs.Playing.{CanStart}
 use Rattle.dc_world.specs.Opened.{CanOpen}
-use Rattle.dc_world.proofs.tests.guests.images.Given as goal
+use Rattle.dc_course.proofs.tests.guests.images.Given as goal
 
 -- guests can begin in those so far
 abbrev pub invariant-loop-name : goal.invariant-loop-name

@@ -1,10 +1,10 @@
 //! Long runs that a generator draws, with stops of all kinds: the acts are a run of the guests by themselves, and the lines are what
 //! that shows, but for repeats.
 
-use crate::TurnFault;
 use crate::tests::case::holds;
+use crate::tests::runs::run_refused;
 use crate::tests::setting::setup;
-use crate::tests::stops::{Ran, run};
+use crate::{Course, Ending};
 use dc_acts::line_of;
 use dc_media::{DeviceFault, Tear};
 use dc_memmedia::ListedCall;
@@ -147,19 +147,26 @@ fn lines_are(out: &str, visibles: &[Visible]) -> Result<(), Fail> {
 }
 
 /// A run came to what its acts lead the guests to by themselves.
-fn is_plain(alloc: Global, case: &str, ran: &Ran) -> Result<(), Fail> {
+fn is_plain(alloc: Global, case: &str, acts: &[Taken], out: &[u8]) -> Result<(), Fail> {
     let setup = setup(alloc, case)?;
     let mut plain = Plain::open(alloc, &setup.images, &setup.inputs)?;
-    apply_all(&mut plain, ran.course.world.acts().as_slice())?;
-    let Ok(out) = str::from_utf8(ran.out.bytes()) else {
+    apply_all(&mut plain, acts)?;
+    let Ok(out) = str::from_utf8(out) else {
         return Err(Fail::new(case));
     };
     lines_are(out, plain.visibles())
 }
 
-/// How many entries came to a mark.
-fn count(told: &[Result<Mark, TurnFault>], mark: Mark) -> usize {
-    told.iter().filter(|one| **one == Ok(mark)).count()
+/// A run came to the end of its schedule, behind many stops.
+fn is_stopped_often(case: &str, course: &Course) -> Result<(), Fail> {
+    let stops = course
+        .marks
+        .as_slice()
+        .iter()
+        .filter(|mark| **mark == Mark::Stopped)
+        .count();
+    holds(course.ending == Ending::Unfinished, case, "a fault")?;
+    holds(stops > 20, case, "few stops")
 }
 
 /// The case of a protocol.
@@ -174,16 +181,17 @@ fn walked(alloc: Global, protocol: &str, seed: u64) -> Result<(), Fail> {
     let case = case(alloc, protocol)?;
     let mut draws = Draws { state: seed };
     let entries = entries(alloc, &mut draws)?;
-    let opened = run(alloc, &case, &[], &[])?;
+    let opened = run_refused(alloc, &case, &[], &[])?;
     let mut refused = Vec::new(alloc);
     for p in 0..3 {
         plan(&mut refused, &mut draws, p, opened.keeps.calls(p))?;
     }
-    let ran = run(alloc, &case, &entries, &refused)?;
-    let told = ran.course.told.as_slice();
-    holds(told.len() == entries.len(), &case, "a fault")?;
-    holds(count(told, Mark::Stopped) > 20, &case, "few stops")?;
-    is_plain(alloc, &case, &ran)
+    let ran = run_refused(alloc, &case, &entries, &refused)?;
+    let Ok(course) = &ran.answer else {
+        return Err(Fail::new(protocol));
+    };
+    is_stopped_often(&case, course)?;
+    is_plain(alloc, &case, course.acts.as_slice(), ran.out.bytes())
 }
 
 #[test]

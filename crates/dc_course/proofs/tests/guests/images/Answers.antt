@@ -3,7 +3,7 @@ use Rattle.std.proofs.lemmas.List.Elements.{All-append, All-cons, All-nil}
 use Rattle.dc_elf.specs.declared.image.Image.{Image}
 use Rattle.dc_plain.specs.Playing.{CanStart}
 use Rattle.dc_world.specs.Opened.{CanOpen}
-use Rattle.dc_world.proofs.tests.guests.images.Goals as goal
+use Rattle.dc_course.proofs.tests.guests.images.Goals as goal
 
 -- one more of which it holds
 one_more : (P : Image → Type 0) (old new : List Image) (image : Image) → new ≡ old ++ image ∷ [] → All P old → P image → All P new
