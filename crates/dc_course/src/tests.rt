@@ -18,14 +18,14 @@ use coming::comes_to;
 use dc_armed::PlannedStop;
 use dc_memmedia::ListedCall;
 use dc_model::Entry;
-use runs::{run_planned, run_refused};
+use runs::{run_lent, run_refused};
 use setting::schedule;
 use spoiled::run_spoiled;
 use std::alloc::{AllocError, Global};
 use std::test::Fail;
 use stops::{Tried, stops};
 
-/// The run of a case through its entries, over memory that refuses these calls, comes to what it says.
+/// The run of a case through its entries comes to what it says over memory that refuses these calls, and over such memory that is lent.
 fn refused(
     alloc: Global,
     case: &str,
@@ -33,18 +33,20 @@ fn refused(
     refused: &[ListedCall],
 ) -> Result<(), Fail> {
     let ran = run_refused(alloc, case, entries, refused)?;
-    comes_to(alloc, case, &ran, entries.len().min(1_000_000) as u32)
+    comes_to(alloc, case, &ran, entries.len())?;
+    let ran = run_lent(alloc, case, entries, refused, &[])?;
+    comes_to(alloc, case, &ran, entries.len())
 }
 
-/// The same with these stops planned.
+/// The same over memory that is lent, with these stops planned.
 fn planned(
     alloc: Global,
     case: &str,
     entries: &[Entry],
     stops: &[PlannedStop],
 ) -> Result<(), Fail> {
-    let ran = run_planned(alloc, case, entries, stops)?;
-    comes_to(alloc, case, &ran, entries.len().min(1_000_000) as u32)
+    let ran = run_lent(alloc, case, entries, &[], stops)?;
+    comes_to(alloc, case, &ran, entries.len())
 }
 
 /// The calls that are refused where the last of the stops is tried at this one.
@@ -110,8 +112,7 @@ fn tried(alloc: Global, case: &str) -> Result<(), Fail> {
     let entries = schedule(alloc, case)?;
     let stops = stops(alloc, case, &entries)?;
     let Some((last, before)) = stops.split_last() else {
-        refused(alloc, case, &entries, &[])?;
-        return planned(alloc, case, &entries, &[]);
+        return refused(alloc, case, &entries, &[]);
     };
     for call in last.first..last.last.saturating_add(1) {
         stopped(alloc, case, &entries, before, last, call)?;
@@ -178,10 +179,5 @@ fn openings(rt: HostRuntime) -> Result<(), Fail> {
 fn a_store_that_another_hand_changed(rt: HostRuntime) -> Result<(), Fail> {
     let entries = schedule(rt.alloc(), SPOILED)?;
     let ran = run_spoiled(rt.alloc(), SPOILED, &entries)?;
-    comes_to(
-        rt.alloc(),
-        SPOILED,
-        &ran,
-        entries.len().min(1_000_000) as u32,
-    )
+    comes_to(rt.alloc(), SPOILED, &ran, entries.len())
 }

@@ -64,10 +64,10 @@ fn some_are(alloc: Global, case: &str, marks: &[Mark]) -> Result<(), Fail> {
 }
 
 /// Whether a turn is one of the text: numbers and ranges of them, as `0-3 7`.
-fn is_turn(text: &str, turn: u32) -> Result<bool, Fail> {
+fn is_turn(text: &str, turn: usize) -> Result<bool, Fail> {
     for part in text.split_whitespace() {
         let (first, last) = part.split_once('-').unwrap_or((part, part));
-        if first.parse::<u32>()? <= turn && turn <= last.parse::<u32>()? {
+        if first.parse::<usize>()? <= turn && turn <= last.parse::<usize>()? {
             return Ok(true);
         }
     }
@@ -75,7 +75,7 @@ fn is_turn(text: &str, turn: u32) -> Result<bool, Fail> {
 }
 
 /// The acts are at the turns that the case says, if it says any.
-fn turns_are(case: &str, acts: &[Taken], entries: u32) -> Result<(), Fail> {
+fn turns_are(case: &str, acts: &[Taken], entries: usize) -> Result<(), Fail> {
     let text = value(case, "turns", "any");
     if text == "any" {
         return Ok(());
@@ -88,7 +88,7 @@ fn turns_are(case: &str, acts: &[Taken], entries: u32) -> Result<(), Fail> {
         let Some(act) = acts.get(place) else {
             return holds(false, case, "fewer acts");
         };
-        holds(act.t == turn, case, "the turns of the acts")?;
+        holds(act.t as usize == turn, case, "the turns of the acts")?;
         place = place.saturating_add(1);
     }
     holds(place == acts.len(), case, "more acts")
@@ -132,7 +132,7 @@ fn ends(alloc: Global, case: &str, ending: Ending) -> Result<(), Fail> {
 }
 
 /// A course is that of its case.
-fn course_is(alloc: Global, case: &str, course: &Course, entries: u32) -> Result<(), Fail> {
+fn course_is(alloc: Global, case: &str, course: &Course, entries: usize) -> Result<(), Fail> {
     let marks = course.marks.as_slice();
     marks_are(alloc, case, marks)?;
     some_are(alloc, case, marks)?;
@@ -143,7 +143,7 @@ fn course_is(alloc: Global, case: &str, course: &Course, entries: u32) -> Result
 }
 
 /// A run through so many entries came to what its case says.
-pub fn comes_to(alloc: Global, case: &str, ran: &Ran, entries: u32) -> Result<(), Fail> {
+pub fn comes_to(alloc: Global, case: &str, ran: &Ran, entries: usize) -> Result<(), Fail> {
     let lines = text(alloc, case, "lines")?;
     holds(ran.out.bytes() == lines.as_bytes(), case, "the lines")?;
     match &ran.answer {

@@ -1,4 +1,4 @@
-//! A run of a case, over memory that refuses calls and over memory that is lent with planned stops.
+//! A run of a case: over memory that refuses calls, and over memory that is lent, which may do so too, with planned stops.
 
 ghost use Rattle.std.specs.Prelude.{◌≡◌, ◌<◌, ◌≤◌, All, IfOk, length};
 ghost use Rattle.dc_plain.specs.Playing.{CanStart};
@@ -67,16 +67,17 @@ pub fn run_refused(
     })
 }
 
-/// The same over memory that is lent, with these stops planned.
-pub fn run_planned(
+/// The same over memory that is lent, with these stops planned besides.
+pub fn run_lent(
     alloc: Global,
     case: &str,
     entries: &[Entry],
+    refused: &[ListedCall],
     stops: &[PlannedStop],
 ) -> Result<Ran, Fail> {
     let setup = setup_for(alloc, case, entries)?;
     let mut out = output_of(alloc, case)?;
-    let mut keeps = MemKeeps::new(alloc, Vec::new(alloc))?;
+    let mut keeps = MemKeeps::new(alloc, refused.to_vec(alloc)?)?;
     let stops = stops.to_vec(alloc)?;
     let answer = run_on_memory(alloc, setup, entries, stops, &mut keeps, &mut out);
     Ok(Ran { answer, keeps, out })
