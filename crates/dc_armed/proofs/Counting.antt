@@ -38,7 +38,7 @@ pub TellsOn-twice : {A : Type 0} (s s' f f' : ℕ) (a b c : Option A)
 TellsOn-twice s s' f f' a b c later later' one two = λ below below' told. two below below' (one (omega arith) (omega arith) told)
 
 -- counted on some times and then some more
-counted_by-more : (j k n : ℕ) → counted_by (j + k) n ≡ counted_by k (counted_by j n)
+pub counted_by-more : (j k n : ℕ) → counted_by (j + k) n ≡ counted_by k (counted_by j n)
 counted_by-more j zero n = let none : j + 0 ≡ j = omega arith in ap (λ m. counted_by m n) none
 counted_by-more j (suc k) n = let more : j + suc k ≡ suc (j + k) = omega arith in ap (λ m. counted_by m n) more ∙ ap counted (counted_by-more j k n)
 

@@ -1,3 +1,4 @@
+mod Coming
 mod Copies
 mod Counting
 mod Firsts

@@ -1,5 +1,6 @@
 pub mod Armed
 pub mod Stops
 pub mod Torn
+pub mod Rows
 pub mod Turns
 pub mod Laws

@@ -5,6 +5,7 @@ ghost use Rattle.dc_media.specs.Devices.{of_words};
 ghost use Rattle.dc_media.specs.Told.{TellsOn, IsSameStore, showing};
 ghost use Rattle.dc_armed.specs.Armed.{all_calls, all_stops, armed, within, ComesOrRefused, IsOwn, IsPlannedAlone, IsLater};
 ghost use Rattle.dc_armed.specs.Torn.{at_once, copy_calls, kept_words, torn_store};
+ghost use Rattle.dc_armed.specs.Rows.{AreCountedDown, ComesInRow, due_within, row_calls};
 ghost use Rattle.dc_armed.specs.Stops.{after_answer, calls_to, came_to, due, fewer_by, one_fewer, waiting_for, waits_within, Waits};
 ghost use Rattle.dc_armed.specs.Laws.{later_on, later_self};
 
@@ -108,6 +109,15 @@ impl<K: Keeps> Keeps for Armed<K> {
         ensures others { (q : ℕ) → q ≢ p → IsSameStore (armed (of_words K.Keeps)) self.old self.new q }
         ensures continues { IsLater K.continues (of_words K.Keeps) self.old self.new }
 
+        // the device within
+        ensures untouched { (q : ℕ) → q ≢ p → IsSameStore (of_words K.Keeps) self.old.device self.new.device q }
+
+        // what a planned stop does, and what waits after it
+        ensures stops { IfSome (due_within (length words.now) (waiting_for self.old.plan p)) (λ stop. ComesInRow (of_words K.Keeps) p stop (record { index = i; words = words.now }) result self.old self.new) }
+        ensures parts { IfSome (due_within (length words.now) (waiting_for self.old.plan p)) (λ stop. (made : ℕ) × (made ≤ row_calls stop) × (K.calls self.new.device p ≡ counted_by made (K.calls self.old.device p))) }
+        ensures left { IfSome (due_within (length words.now) (waiting_for self.old.plan p)) (λ stop. AreCountedDown stop.calls p result self.old.plan self.new.plan) }
+        ensures elsewhere { (q : ℕ) → q ≢ p → came_to self.new.plan q ≡ came_to self.old.plan q }
+
         // where no stop waits for one of them: the device's own answer and calls, and what waits then
         ensures passes { waits_within (length words.now) (waiting_for self.old.plan p) ≡ false → IsOwn (of_words K.Keeps) p result self.old self.new }
         ensures once { waits_within (length words.now) (waiting_for self.old.plan p) ≡ false → AreCounted (length words.now) result (K.calls self.old.device p) (K.calls self.new.device p) }
@@ -176,6 +186,15 @@ impl<K: Keeps> Armed<K> {
         ensures calls { AreCounted (length words.now) result (calls_to self.old.plan p) (calls_to self.new.plan p) }
         ensures others { (q : ℕ) → q ≢ p → IsSameStore (armed (of_words K.Keeps)) self.old self.new q }
         ensures continues { IsLater K.continues (of_words K.Keeps) self.old self.new }
+
+        // the device within
+        ensures untouched { (q : ℕ) → q ≢ p → IsSameStore (of_words K.Keeps) self.old.device self.new.device q }
+
+        // what a planned stop does, and what waits after it
+        ensures stops { IfSome (due_within (length words.now) (waiting_for self.old.plan p)) (λ stop. ComesInRow (of_words K.Keeps) p stop (record { index = i; words = words.now }) result self.old self.new) }
+        ensures parts { IfSome (due_within (length words.now) (waiting_for self.old.plan p)) (λ stop. (made : ℕ) × (made ≤ row_calls stop) × (K.calls self.new.device p ≡ counted_by made (K.calls self.old.device p))) }
+        ensures left { IfSome (due_within (length words.now) (waiting_for self.old.plan p)) (λ stop. AreCountedDown stop.calls p result self.old.plan self.new.plan) }
+        ensures elsewhere { (q : ℕ) → q ≢ p → came_to self.new.plan q ≡ came_to self.old.plan q }
     {
         let mut at = i;
         for word in words {

@@ -1,6 +1,6 @@
 -- What a call does to the words of a process.
 use Rattle.std.proofs.Common.{◌≡◌, ◌≢◌, ℕ, zero, suc, min, ◌+◌, ◌-◌, ◌^◌, ◌<◌, ◌≤◌, ◌==◌, ◌&&◌, ◌⊎◌, nat_lt, List, [], ◌∷◌, Bool, true, false, Option, None, Some, refl, sym, subst, ap, ◌∙◌, arith, inl, inr, ⊎_elim, get_or, slice_index, slice_set, length, replicate, length-set, length-take, get_or-take, get_or-set_same}
-use Rattle.std.proofs.lemmas.Bool.{cases_Bool, lt-ltb, ltb-true}
+use Rattle.std.proofs.lemmas.Bool.{and_parts, cases_Bool, lt-ltb, ltb-true}
 use Rattle.std.proofs.lemmas.List.{length-replicate, set-get_or, take_all}
 use Rattle.std.proofs.Math.Seq.{take-set-lt}
 use Rattle.dc_media.specs.Stores.{CopiesLine, SetsWord, copied, set_words}
@@ -69,17 +69,12 @@ stored_in : (words : List ℕ) (i w : ℕ) (listed : Option ListedCall) → i < 
 stored_in words i w None few = bounded_set words i w few
 stored_in words i w (Some call) few = bounded_set words i _ few ∙ ap (λ old. slice_set (bounded words) i (torn_word call.tear old w)) (sym (bounded_get words i few))
 
-both_of : (a b : Bool) → (a && b) ≡ true → (a ≡ true) × (b ≡ true)
-both_of true true is = (refl, refl)
-both_of true false is = absurd cc
-both_of false b is = absurd cc
-
 -- what is told now was told before, as counts do not fall
 pub told_becomes : {A : Type 0} (before now : Counts) (x y : A) (R : A → A → Type 0)
     → before.stops ≤ now.stops → before.faults ≤ now.faults → R x y → Becomes (unless_last before.stops before.faults x) (unless_last now.stops now.faults y) R
 told_becomes before now x y R stops faults holds = ⊎_elim
     (λ (is : (nat_lt now.stops (2 ^ 64 - 1) && nat_lt now.faults (2 ^ 64 - 1)) ≡ true).
-    let both = both_of (nat_lt now.stops (2 ^ 64 - 1)) (nat_lt now.faults (2 ^ 64 - 1)) is in
+    let both = and_parts (nat_lt now.stops (2 ^ 64 - 1)) (nat_lt now.faults (2 ^ 64 - 1)) is in
     rw (is, lt-ltb before.stops (2 ^ 64 - 1) (omega (arith, stops, ltb-true now.stops (2 ^ 64 - 1) both.0)), lt-ltb before.faults (2 ^ 64 - 1) (omega (arith, faults, ltb-true now.faults (2 ^ 64 - 1) both.1))) holds)
     (λ (is : (nat_lt now.stops (2 ^ 64 - 1) && nat_lt now.faults (2 ^ 64 - 1)) ≡ false). rw is tt)
     (cases_Bool (nat_lt now.stops (2 ^ 64 - 1) && nat_lt now.faults (2 ^ 64 - 1)))

@@ -1,10 +1,11 @@
 -- Stores in memory as contracts see them, and what a call does to them.
-use Rattle.std.specs.Prelude.{ℕ, ◌-◌, ◌^◌, List, [], Option, None, Some, get_or, take, min, length, slice_index, slice_set}
+use Rattle.std.specs.Prelude.{◌≡◌, ◌<◌, ◌+◌, ℕ, ◌-◌, ◌^◌, Result, MatchResult, List, [], Option, None, Some, get_or, take, min, length, slice_index, slice_set}
 use Rattle.dc_media.specs.Stores.{copied, set_words}
 use Rattle.dc_media.specs.Tears.{torn_word}
 use Rattle.dc_media.specs.Told.{Device}
 use Rattle.dc_memmedia.specs.Calls.{unless_last}
-use Rattle.dc_memmedia.specs.Listed.{Calls, called, counting, faults_of, next_call, passed, stops_of}
+use Rattle.dc_media.specs.declared.faults.DeviceFault.{DeviceFault}
+use Rattle.dc_memmedia.specs.Listed.{Calls, NoneListed, answer_of, called, counting, faults_of, next_call, passed, stops_of}
 use Rattle.dc_memmedia.specs.declared.listed.ListedCall.{ListedCall}
 
 -- the words of each process, and its calls
@@ -59,3 +60,17 @@ after_words p i ws stores = record {
   words = slice_set stores.words p (set_words (length ws) i ws (get_or stores.words p []));
   calls = passed (length ws) stores.calls p;
 }
+
+-- a row of words is refused at the first of its calls that is listed: the words before it are set, and it leaves what a listed call leaves
+pub record IsRefusedInRow (p i : ℕ) (ws : List ℕ) (result : Result (Unit {0}) DeviceFault) (old new : Stores) : Type 0 where
+  pub made : ℕ
+  pub within : made < length ws
+  pub none_before : NoneListed made old.calls p
+  pub answer : result ≡ answer_of (next_call (passed made old.calls p) p)
+  pub left : new ≡ after p (stored (i + made) (slice_index ws made)) (after_words p i (take made ws) old)
+
+-- a row of words: set where none of its calls is listed, and refused at the first that is
+abbrev pub StoresRow : ℕ → ℕ → List ℕ → Result (Unit {0}) DeviceFault → Stores → Stores → Type 0
+StoresRow p i ws result old new = MatchResult result
+    (λ _. NoneListed (length ws) old.calls p × (new ≡ after_words p i ws old))
+    (λ _. IsRefusedInRow p i ws result old new)

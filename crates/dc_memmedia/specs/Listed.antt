@@ -1,5 +1,5 @@
 -- The calls of a process's device, which are numbered from 1, and those that are listed: they are stopped or fail.
-use Rattle.std.specs.Prelude.{ℕ, ◌+◌, ◌-◌, ◌^◌, ◌==◌, ◌&&◌, nat_lt, List, Bool, Option, None, Some, Result, Ok, Err, find, get_or, slice_set, if◌then◌else◌}
+use Rattle.std.specs.Prelude.{◌≡◌, ◌<◌, ℕ, ◌+◌, ◌-◌, ◌^◌, ◌==◌, ◌&&◌, nat_lt, List, Bool, Option, None, Some, Result, Ok, Err, find, get_or, slice_set, if◌then◌else◌}
 use Rattle.dc_media.specs.Causes.{IsCaused, counted, counted_by}
 use Rattle.dc_media.specs.Told.{Device, showing}
 use Rattle.dc_media.specs.declared.TheConstants.{STORES}
@@ -65,6 +65,10 @@ called calls p = record calls { counts = slice_set calls.counts p (with_call (ne
 abbrev pub passed : ℕ → Calls → ℕ → Calls
 passed count calls p = let counts = counts_of calls p in
     record calls { counts = slice_set calls.counts p (record counts { made = counted_by count counts.made }) }
+
+-- none of the next n calls of a process is listed
+abbrev pub NoneListed : ℕ → Calls → ℕ → Type 0
+NoneListed n calls p = (k : ℕ) → k < n → next_call (passed k calls p) p ≡ None
 
 -- a listed call is refused, each other one is not
 abbrev pub answer_of : Option ListedCall → Result (Unit {0}) DeviceFault

@@ -2,7 +2,7 @@ ghost use Rattle.std.specs.Prelude.{◌≡◌, ◌≢◌, ◌+◌, ◌<◌, ◌�
 ghost use Rattle.dc_media.specs.Causes.{AreCounted, IsCaused, IsMade, counted};
 ghost use Rattle.dc_media.specs.Stores.{AreSameOrApart, CopiesLine, SetsWord, SetsWords};
 ghost use Rattle.dc_media.specs.Told.{IsSameStore, TellsOn};
-ghost use Rattle.dc_memmedia.specs.Keeps.{after, after_words, copied_line, in_memory, stored, told_words, with_words, words_of};
+ghost use Rattle.dc_memmedia.specs.Keeps.{StoresRow, after, after_words, copied_line, in_memory, stored, told_words, with_words, words_of};
 ghost use Rattle.dc_memmedia.specs.Listed.{answer_of, calls_of, faults_of, next_call, none_made, stops_of};
 ghost use Rattle.dc_memmedia.specs.Due.{is_near};
 ghost use Rattle.dc_memmedia.specs.Extents.{words_fit, words_told};
@@ -110,6 +110,9 @@ impl MemKeeps {
         ensures cause { IsCaused (stops_of self.old.calls p) (stops_of self.new.calls p) (faults_of self.old.calls p) (faults_of self.new.calls p) result }
         ensures calls { AreCounted (length words.now) result (calls_of self.old.calls p) (calls_of self.new.calls p) }
         ensures others { (q : ℕ) → q ≢ p → IsSameStore in_memory self.old self.new q }
+
+        // exactly when it is refused, and all that it changes
+        ensures row { StoresRow p i words.now result self.old self.new }
     {
         let mut at = i;
         for word in words {
@@ -207,7 +210,8 @@ impl Keeps for MemKeeps {
         ensures others { (q : ℕ) → q ≢ p → IsSameStore in_memory self.old self.new q }
         ensures continues { Unit {0} }
 
-        // where none is listed: all that it changes
+        // exactly when it is refused, and all that it changes
+        ensures row { StoresRow p i words.now result self.old self.new }
         ensures stored { p < STORES → is_near self.old.calls p (length words.now) ≡ false → IsOk result × (self.new ≡ after_words p i words.now self.old) }
         ensures calm { self.old.calls.listed ≡ [] → IsOk result }
     {

@@ -1,6 +1,6 @@
 //! Calls that are counted, some of which are listed to be refused.
 ghost use Rattle.std.specs.Prelude.{◌≡◌, ◌+◌, ◌<◌, None, Some, false, replicate};
-ghost use Rattle.dc_memmedia.specs.Listed.{HasCause, answer_of, called, calls_of, counts_of, next_call, none_made, passed, with_call, with_fault};
+ghost use Rattle.dc_memmedia.specs.Listed.{HasCause, NoneListed, answer_of, called, calls_of, counts_of, next_call, none_made, passed, with_call, with_fault};
 ghost use Rattle.dc_media.specs.Causes.{IsCaused, counted, counted_by};
 ghost use Rattle.dc_memmedia.specs.Due.{due_after, is_near, is_up_to, next_after};
 ghost use Rattle.dc_media.specs.Firsts.{sooner};
@@ -227,6 +227,7 @@ impl Calls {
         requires process { p < STORES }
         requires none { is_near self.old p count ≡ false }
         ensures counts { self.new ≡ passed count self.old p }
+        ensures none { NoneListed count self.old p }
         ensures made { calls_of self.new p ≡ counted_by count (calls_of self.old p) }
         ensures cause { HasCause self.old self.new p (answer_of None) }
     {

@@ -5,6 +5,7 @@ use Rattle.dc_media.specs.Stores.{set_words}
 use Rattle.dc_media.specs.Told.{Becomes, IsSameStore, TellsOn}
 use Rattle.dc_armed.specs.Armed.{IsLater, all_stops, armed}
 use Rattle.dc_armed.specs.Stops.{calls_to}
+use Rattle.dc_armed.proofs.Coming.{IsSoFar}
 use Rattle.dc_armed.proofs.armed.Armed.store_each.Given as goal
 
 -- so many words are set, each by one store, and none was refused
@@ -19,4 +20,6 @@ invariant-loop-word g l = let K = g.K.Keeps in let old = l.fn.self in let now = 
   calls : calls_to now.plan l.p ≡ counted_by l.word-index (calls_to old.plan l.p);
   others : (q : ℕ) → q ≢ l.p → IsSameStore (armed (of_words K)) old now q;
   continues : IsLater K.continues (of_words K) old now;
+  untouched : (q : ℕ) → q ≢ l.p → IsSameStore (of_words K) old.device now.device q;
+  so_far : IsSoFar (of_words K) l.p l.word-index old now;
 }

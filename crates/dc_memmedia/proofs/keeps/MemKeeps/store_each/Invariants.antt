@@ -3,7 +3,8 @@ use Rattle.dc_media.specs.Causes.{counted_by}
 use Rattle.dc_media.specs.Stores.{set_words}
 use Rattle.dc_media.specs.Told.{Becomes, IsSameStore, TellsOn}
 use Rattle.dc_memmedia.specs.Keeps.{in_memory, told_words, words_of}
-use Rattle.dc_memmedia.specs.Listed.{calls_of, faults_of, stops_of}
+use Rattle.dc_memmedia.specs.Listed.{NoneListed, calls_of, faults_of, stops_of}
+use Rattle.dc_memmedia.proofs.Rows.{front}
 use Rattle.dc_memmedia.proofs.keeps.MemKeeps.store_each.Given as goal
 
 -- so many words are set, each by one store, and none was refused
@@ -17,4 +18,6 @@ invariant-loop-word l = record {
   faults : faults_of l.self.calls l.p ≡ faults_of l.fn.self.calls l.p;
   calls : calls_of l.self.calls l.p ≡ counted_by l.word-index (calls_of l.fn.self.calls l.p);
   others : (q : ℕ) → q ≢ l.p → IsSameStore in_memory l.fn.self l.self q;
+  state : l.self ≡ front l.p l.i l.word-index l.words l.fn.self;
+  none : NoneListed l.word-index l.fn.self.calls l.p;
 }
