@@ -3,11 +3,11 @@
 use std::alloc::{AllocError, Global};
 use std::test::Fail;
 
-/// What a case may say. Of the run: the protocol, the pages of a memory, the guests and their inputs, the schedule, the stops, and which calls
-/// of the output fail. Of what comes of it: the lines, the marks or some of them, the turns of the acts, lines of the report, the counts of
-/// the marks, the acts and the lines, and the ending.
+/// What a case may say. Of the run: the protocol, the guests and their inputs, the schedule, the stops, and which calls of the output fail.
+/// Of what comes of it: the lines, the marks or some of them, the turns of the acts, lines of the report, the counts of the marks, the acts
+/// and the lines, and the ending.
 const KEYS: &str =
-    "protocol pages guests inputs schedule stops unwritten lines marks some turns has counts ending";
+    "protocol guests inputs schedule stops unwritten lines marks some turns has counts ending";
 
 /// Fails with the name of a case and what does not hold of it.
 pub fn holds(ok: bool, case: &str, what: &str) -> Result<(), Fail> {

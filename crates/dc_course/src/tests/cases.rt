@@ -115,7 +115,6 @@ some=6 Stopped, 7 Recovered(6)
 counts=18 10 2
 ending=Unfinished
 * each call of a prepare, kept back
-pages=1
 protocol=cpv-2pc
 guests=clock hi
 schedule=7 x 0 0 65, 11 x 0 0 66
@@ -125,7 +124,6 @@ some=6 Stopped, 7 Recovered(0)
 counts=18 10 2
 ending=Unfinished
 * each call of a finish, kept
-pages=1
 protocol=cpv-2pc
 guests=clock hi
 schedule=7 x 0 0 65, 11 x 0 0 66
@@ -135,7 +133,6 @@ some=6 Stopped, 7 Recovered(6)
 counts=18 10 2
 ending=Unfinished
 * each call of a recovery of both
-pages=1
 protocol=cpv-2pc
 guests=clock hi
 schedule=7 x 0 0 65, stop 0, 2 x 0 0 65, 11 x 0 0 66
@@ -196,7 +193,6 @@ turns=8-17
 counts=18 10 2
 ending=Done
 * each call of a commit, kept back
-pages=1
 guests=clock
 schedule=8 x 0 0 65, 10 x 0 0 66
 stops=6 0 1..L 0
@@ -206,7 +202,6 @@ turns=8-17
 counts=18 10 2
 ending=Done
 * each call of a commit but the last, kept
-pages=1
 guests=clock
 schedule=8 x 0 0 65, 10 x 0 0 66
 stops=6 0 1..L-1 1
@@ -380,7 +375,6 @@ turns=0-5
 counts=6 6 1
 ending=Device(0)
 * each call of a commit fails
-pages=1
 guests=clock
 schedule=8 x 0 0 65
 stops=6 0 1..L 0 failed
@@ -399,31 +393,26 @@ ending=Sink
 /// Stores that are refused a call as they are made.
 pub const OPENINGS: &str = "\
 * one of the first two calls of process 0 fails
-pages=1
 guests=hi clock
 schedule=1 0 0, 0 0 0
 stops=open 0 1..2 0 failed
 ending=Failed(0)
 * one of the last two calls of process 0 fails
-pages=1
 guests=hi clock
 schedule=1 0 0, 0 0 0
 stops=open 0 L-1..L 0 failed
 ending=Failed(0)
 * one of the first two calls of process 1 fails
-pages=1
 guests=hi clock
 schedule=1 0 0, 0 0 0
 stops=open 1 1..2 0 failed
 ending=Failed(1)
 * one of the last two calls of process 1 fails
-pages=1
 guests=hi clock
 schedule=1 0 0, 0 0 0
 stops=open 1 L-1..L 0 failed
 ending=Failed(1)
 * one of the first two calls of process 1 is stopped, so it alone is down
-pages=1
 guests=hi clock
 schedule=1 0 0, 0 0 0
 stops=open 1 1..2 0
@@ -432,7 +421,6 @@ some=0 Recovered(0)
 counts=2 1 0
 ending=Unfinished
 * the same where both commit together, so both are down
-pages=1
 protocol=cpv-2pc
 guests=hi clock
 schedule=0 0 0, 1 0 0
@@ -442,7 +430,6 @@ some=0 Recovered(0)
 counts=2 1 0
 ending=Unfinished
 * one of the last two calls of process 1 is stopped, so it alone is down
-pages=1
 guests=hi clock
 schedule=1 0 0, 0 0 0
 stops=open 1 L-1..L 0
@@ -451,7 +438,6 @@ some=0 Recovered(0)
 counts=2 1 0
 ending=Unfinished
 * the same where both commit together, so both are down
-pages=1
 protocol=cpv-2pc
 guests=hi clock
 schedule=0 0 0, 1 0 0

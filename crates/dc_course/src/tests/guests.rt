@@ -33,6 +33,9 @@ gossip=loop:;addi x17,x0,7;addi x10,x0,512;addi x11,x0,64;ecall;blt x10,x0,ask;a
 poller=addi x17,x0,3;loop:;addi x10,x0,512;addi x11,x0,64;ecall;jal x0,loop
 ";
 
+/// How many pages of memory each guest has.
+const PAGES: u32 = 16;
+
 /// The image of a guest in a memory of so many pages of 4096 bytes.
 fn image(alloc: Global, name: &str, pages: u32) -> Result<Image, Fail>
     requires pages { (0 < pages) × (pages ≤ 256) }
@@ -52,14 +55,13 @@ fn image(alloc: Global, name: &str, pages: u32) -> Result<Image, Fail>
 }
 
 /// The images of guests.
-pub fn images(alloc: Global, names: &str, pages: u32) -> Result<Vec<Image>, Fail>
-    requires pages { (0 < pages) × (pages ≤ 256) }
+pub fn images(alloc: Global, names: &str) -> Result<Vec<Image>, Fail>
     ensures good { IfOk result (λ images. All CanOpen images.items) }
     ensures start { IfOk result (λ images. All CanStart images.items) }
 {
     let mut images = Vec::new(alloc);
     for name in names.split_whitespace() {
-        images.push(image(alloc, name, pages)?)?;
+        images.push(image(alloc, name, PAGES)?)?;
     }
     Ok(images)
 }

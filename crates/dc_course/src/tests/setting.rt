@@ -61,11 +61,7 @@ pub fn setup(alloc: Global, case: &str) -> Result<Setup, Fail>
     ensures start { IfOk result (λ setup. All CanStart setup.images.items) }
 {
     let protocol = protocol(value(case, "protocol", "cpvs"))?;
-    let pages = value(case, "pages", "16").parse::<u32>()?;
-    if pages == 0 || pages > 256 {
-        return Err(Fail::new(case));
-    }
-    let images = images(alloc, value(case, "guests", "hi"), pages)?;
+    let images = images(alloc, value(case, "guests", "hi"))?;
     let inputs = inputs(alloc, value(case, "inputs", ""), images.len())?;
     if images.is_empty() || images.len() > 8 || inputs.len() != images.len() {
         return Err(Fail::new(case));
