@@ -7,10 +7,11 @@ use Rattle.dc_media.specs.declared.tear.Tear.{Tear}
 use Rattle.dc_media.specs.Causes.{counted, counted_by}
 use Rattle.dc_media.specs.Stores.{set_words}
 use Rattle.dc_media.specs.Told.{Becomes, Device}
+use Rattle.dc_media.proofs.Becoming.{Becomes-then}
 use Rattle.dc_media.proofs.Storing.{counted_more}
 use Rattle.dc_armed.specs.declared.stop.Waiting.{Waiting}
 use Rattle.dc_armed.specs.Armed.{Armed, ComesOrRefused, IsOwn, IsPlanned}
-use Rattle.dc_armed.specs.Stops.{Waits, after_answer, calls_to, came_to, due, due_of, one_fewer, waiting_for, waits_within}
+use Rattle.dc_armed.specs.Stops.{Waits, after_answer, calls_to, came_to, due, due_of, one_fewer, waiting_for}
 use Rattle.dc_armed.specs.Torn.{at_once, torn_store}
 use Rattle.dc_armed.specs.Rows.{AreCountedDown, ComesInRow, IsPlannedInRow, counted_down, due_within, row_calls}
 use Rattle.dc_armed.proofs.Counting.{counted_by-more}
@@ -27,10 +28,6 @@ of_due n (Some stop) P holds = ⊎_elim
     (λ (is : (nat_lt 0 stop.calls && not (nat_lt n stop.calls)) ≡ true). rw is (holds stop refl (grind (arith, is)) (grind (arith, is))))
     (λ (is : (nat_lt 0 stop.calls && not (nat_lt n stop.calls)) ≡ false). rw is tt)
     (cases_Bool (nat_lt 0 stop.calls && not (nat_lt n stop.calls)))
-
--- none comes at a call for which none waits
-pub none_due : (n : ℕ) (waiting : Option Waiting) (P : Waiting → Type 0) → waits_within n waiting ≡ false → IfSome (due_within n waiting) P
-none_due n waiting P none = of_due n waiting P (λ stop is some within. absurd (let here : waits_within n (Some stop) ≡ false = rw is at none in grind (arith, here, within)))
 
 -- what waits after some calls before that of the stop
 left_is : (j : ℕ) (stop : Waiting) → j < stop.calls → counted_down j (Some stop) ≡ Some (record stop { calls = stop.calls - j })
@@ -111,15 +108,6 @@ module _ {D : Type 0} (device : Device D (List ℕ)) (p j i w : ℕ) (old now ne
     });
   }
 
--- words that are set, and then one that is torn
-torn_content : (tear : Tear) (j i : ℕ) (ws : List ℕ) (a b c : Option (List ℕ)) → Becomes a b (λ before after. after ≡ set_words j i ws before)
-    → Becomes b c (λ before after. after ≡ torn_store tear (i + j) (slice_index ws j) before)
-    → Becomes a c (λ before after. after ≡ torn_store tear (i + j) (slice_index ws j) (set_words j i ws before))
-torn_content tear j i ws a b None one two = tt
-torn_content tear j i ws a None (Some z) one two = absurd two
-torn_content tear j i ws None (Some y) (Some z) one two = absurd one
-torn_content tear j i ws (Some x) (Some y) (Some z) one two = two ∙ ap (torn_store tear (i + j) (slice_index ws j)) one
-
 -- a word that is refused, where a stop waited for one of the row
 module _ {D : Type 0} (device : Device D (List ℕ)) (p i j : ℕ) (ws : List ℕ) (old now new : Armed D) (so_far : IsSoFar device p j old now)
     (set : Becomes (device.told old.device p) (device.told now.device p) (λ before after. after ≡ set_words j i ws before))
@@ -155,7 +143,7 @@ module _ {D : Type 0} (device : Device D (List ℕ)) (p i j : ℕ) (ws : List �
         };
         stops_same = it.stops_same ∙ so_far.stops_same;
         faults_same = it.faults_same ∙ so_far.faults_same;
-        content = rw before (torn_content stop.tear j i ws (device.told old.device p) (device.told now.device p) (device.told new.device p) set it.content);
+        content = rw before (Becomes-then (device.told old.device p) (device.told now.device p) (device.told new.device p) _ _ _ (λ x y z one two. two ∙ ap (torn_store stop.tear (i + j) (slice_index ws j)) one) set it.content);
         calls = rw before (it.calls ∙ ap (counted_by (at_once stop.tear.keep)) so_far.calls ∙ sym (counted_by-more j (at_once stop.tear.keep) (device.calls old.device p)));
       };
       last = rw here counts_next;

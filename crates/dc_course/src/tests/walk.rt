@@ -1,7 +1,7 @@
 //! Long runs that a generator draws, with stops of all kinds: the acts are a run of the guests by themselves, and the lines are what
 //! that shows, but for repeats.
 
-use crate::tests::case::holds;
+use crate::tests::case::{holds, is_read};
 use crate::tests::runs::run_refused;
 use crate::tests::setting::setup;
 use crate::{Course, Ending};
@@ -172,13 +172,14 @@ fn is_stopped_often(case: &str, course: &Course) -> Result<(), Fail> {
 /// The case of a protocol.
 fn case(alloc: Global, protocol: &str) -> Result<String, Fail> {
     Ok(format!(in alloc;
-        "walk\npages=1\nprotocol={protocol}\nguests=talker gossip teller\ninputs=/one two three four five six seven\n"
+        "walk\nprotocol={protocol}\nguests=talker gossip teller\ninputs=/one two three four five six seven\n"
     )?)
 }
 
 /// A run that is drawn from a seed.
 fn walked(alloc: Global, protocol: &str, seed: u64) -> Result<(), Fail> {
     let case = case(alloc, protocol)?;
+    is_read(&case)?;
     let mut draws = Draws { state: seed };
     let entries = entries(alloc, &mut draws)?;
     let opened = run_refused(alloc, &case, &[], &[])?;
