@@ -9,8 +9,6 @@ mod line;
 mod reading;
 mod report;
 mod reserved;
-#[cfg(test)]
-mod tests;
 
 pub use acts::Acts;
 pub use fault::{ReadError, ReportFault, ReportKind};

@@ -7,8 +7,6 @@ mod disks;
 mod keeps;
 mod plan;
 mod stop;
-#[cfg(test)]
-mod tests;
 mod torn;
 
 pub use armed::Armed;

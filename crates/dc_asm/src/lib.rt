@@ -10,8 +10,6 @@ mod names;
 mod operands;
 mod source;
 mod table;
-#[cfg(test)]
-mod tests;
 
 pub use assembling::assemble;
 pub use faults::{AsmError, AsmFault, AsmKind};

@@ -9,8 +9,6 @@ mod laws;
 mod playing;
 mod records;
 mod seen;
-#[cfg(test)]
-mod tests;
 
 pub use checking::check;
 pub use finding::{Difference, Finding};

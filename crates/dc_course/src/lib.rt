@@ -7,8 +7,6 @@ mod ending;
 mod memory;
 mod planned;
 mod running;
-#[cfg(test)]
-mod tests;
 
 pub use course::{Course, run};
 pub use ending::Ending;

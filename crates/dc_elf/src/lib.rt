@@ -7,8 +7,6 @@ mod header;
 mod image;
 mod part;
 mod parts;
-#[cfg(test)]
-mod tests;
 
 pub use faults::{ElfFault, LoadFault};
 pub use image::{Image, load};

@@ -6,8 +6,6 @@ mod encoding;
 mod instr;
 mod laws;
 mod regs;
-#[cfg(test)]
-mod tests;
 
 pub use decoding::decode;
 pub use encoding::encode;

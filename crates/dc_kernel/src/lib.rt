@@ -11,8 +11,6 @@ mod layout;
 mod records;
 mod saved;
 mod status;
-#[cfg(test)]
-mod tests;
 
 pub use faults::{CheckFault, KernelFault, StoreFault};
 pub use kernel::Kernel;

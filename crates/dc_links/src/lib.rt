@@ -4,8 +4,6 @@
 mod link;
 mod links;
 mod message;
-#[cfg(test)]
-mod tests;
 
 pub use links::Links;
 pub use message::{MESSAGE_ROOM, Message};

@@ -1,23 +1,13 @@
 //! The program: runs a command over real files and streams.
 #![tactic(auto)]
 
-mod files;
-mod late;
-mod stream;
-#[cfg(test)]
-mod tests;
-mod words;
-
+use dc_host::{FileLibrary, LateFile, StreamSink};
 use dc_memmedia::{MemDisks, MemKeeps};
-use dc_run::{Outcome, Verdict, conclude, dc};
-use files::FileLibrary;
-use late::LateFile;
+use dc_run::{Outcome, Verdict, conclude, dc, words_of};
 use std::alloc::AllocError;
 use std::io::Write;
 use std::process::ExitCode;
 use std::rt::Files;
-use stream::StreamSink;
-use words::words_of;
 
 /// Carries out the command of these words over stores and disks in memory, with the report in the file `dc.report`.
 fn carry_out<R: Files + AllocGlobal + Clone + Drop, W: Write + Drop>(

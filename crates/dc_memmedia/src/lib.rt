@@ -8,8 +8,6 @@ mod keeps;
 mod library;
 mod listed;
 mod sink;
-#[cfg(test)]
-mod tests;
 
 pub use disks::MemDisks;
 pub use keeps::MemKeeps;

@@ -6,8 +6,6 @@ mod memory;
 mod plain;
 mod playing;
 mod process;
-#[cfg(test)]
-mod tests;
 
 pub use hosted::HostedGuest;
 pub use memory::words_in;

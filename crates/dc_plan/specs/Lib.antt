@@ -2,6 +2,7 @@ pub mod Keys
 pub mod Values
 pub mod Built
 pub mod Stops
+pub mod Tables
 pub mod Plans
 pub mod Parts
 pub mod Allowed

@@ -5,17 +5,17 @@ mod built;
 mod fault;
 mod inputs;
 mod keys;
+mod laws;
 mod parts;
 mod plan;
 mod planned;
 mod reading;
 mod rows;
 mod stops;
-#[cfg(test)]
-mod tests;
 mod values;
 
 pub use fault::{PlanError, PlanFault};
 pub use keys::Key;
+pub use laws::a_stop_says_its_numbers;
 pub use plan::{Medium, Plan, ScheduleSource, Seed};
 pub use reading::read_plan;

@@ -14,8 +14,6 @@ mod logging;
 mod noting;
 mod shown;
 mod stepping;
-#[cfg(test)]
-mod tests;
 mod turning;
 mod up;
 

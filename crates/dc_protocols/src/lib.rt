@@ -4,8 +4,6 @@
 
 mod protocol;
 mod rules;
-#[cfg(test)]
-mod tests;
 
 pub use protocol::{Protocol, Rule, Since, is_global};
 pub use rules::rule;

@@ -7,7 +7,5 @@
 #![tactic(auto)]
 
 mod laws;
-#[cfg(test)]
-mod tests;
 
 pub use laws::{processes_recover, runs_recover};

@@ -3,8 +3,6 @@
 
 mod block;
 mod region;
-#[cfg(test)]
-mod tests;
 
 // A crate can name a region in a contract only if the types of its fields are exported.
 #[doc(hidden)]

@@ -11,6 +11,7 @@ mod program;
 mod refusal;
 mod setting;
 mod verdict;
+mod words;
 
 pub use dc_acts::{Acts, ReportFault, ReportKind, Reserved};
 pub use dc_asm::{AsmFault, AsmKind};
@@ -22,3 +23,4 @@ pub use dc_schedule::{ScheduleFault, ScheduleKind};
 pub use outcome::{Outcome, conclude};
 pub use program::dc;
 pub use verdict::{Did, Outlet, Verdict, Which};
+pub use words::words_of;

@@ -6,8 +6,6 @@ mod generator;
 mod laws;
 mod lines;
 mod reading;
-#[cfg(test)]
-mod tests;
 
 pub use fault::{ReadError, ScheduleFault, ScheduleKind};
 pub use generator::generate;

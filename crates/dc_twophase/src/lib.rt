@@ -7,8 +7,6 @@
 mod commit;
 mod faults;
 mod recover;
-#[cfg(test)]
-mod tests;
 
 pub use commit::commit_all;
 pub use faults::{JointFault, joint_fault};

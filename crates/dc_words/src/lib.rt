@@ -3,8 +3,6 @@
 
 mod hex;
 mod numbers;
-#[cfg(test)]
-mod tests;
 mod texts;
 mod words;
 

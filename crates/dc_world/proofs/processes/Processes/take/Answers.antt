@@ -205,11 +205,8 @@ returns-in-Ok-clause-others g c =
     let u0 = c.requires.next.up in
     let slots0 = c.args.self.now.slots.items in
     let there : slot_at slots0 p ≡ Some (Up u0) = c.requires.next.there in
-    let of : IsOf c.args.self.now.protocol (length slots0) p (Up u0) = c.requires.well.each p (Up u0) c.requires.process there in
     let t = c.in-Ok.ensures.taken u0 (there_read slots0 p c.index_mut-slot.result.now (Some (Up u0)) c.requires.process c.index_mut-slot.ensures.value there) in
     let u1 = t.up in
-    let p_same : u1.kernel.p ≡ p = t.same.p_same ∙ of.2 in
-    let n_is : u1.kernel.n ≡ length slots0 = t.same.n_same ∙ of.1 in
     let put_is : slice_set slots0 p c.take_in.new.slot ≡ slice_set slots0 p (Some (Up u1)) = ap (slice_set slots0 p) t.there in
     let slots_note : c.note_exposed.new.self.slots.items ≡ slice_set slots0 p (Some (Up u1)) = ap (λ (w : Processes). w.slots.items) c.note_exposed.ensures.rest ∙ put_is in
     let commit_is : c.commit_of-commit.result ≡ u0.kernel.commit = c.commit_of-commit.ensures ∙ ap (λ s. (held_in s).kernel.commit) there in
@@ -222,11 +219,8 @@ returns-in-Err-clause-others g c =
     let u0 = c.requires.next.up in
     let slots0 = c.args.self.now.slots.items in
     let there : slot_at slots0 p ≡ Some (Up u0) = c.requires.next.there in
-    let of : IsOf c.args.self.now.protocol (length slots0) p (Up u0) = c.requires.well.each p (Up u0) c.requires.process there in
     let t = c.in-Err.ensures.taken u0 (there_read slots0 p c.index_mut-slot.result.now (Some (Up u0)) c.requires.process c.index_mut-slot.ensures.value there) in
     let u1 = t.up in
-    let p_same : u1.kernel.p ≡ p = t.same.p_same ∙ of.2 in
-    let n_is : u1.kernel.n ≡ length slots0 = t.same.n_same ∙ of.1 in
     let put_is : slice_set slots0 p c.take_in.new.slot ≡ slice_set slots0 p (Some (Up u1)) = ap (slice_set slots0 p) t.there in
     others_fallen slots0 (slice_set slots0 p c.take_in.new.slot) c.fall.new.self.slots.items p u1 c.requires.process put_is c.fall.ensures.learns c.fall.ensures.long
 
@@ -236,11 +230,8 @@ returns-in-Err-clause-handled g c =
     let u0 = c.requires.next.up in
     let slots0 = c.args.self.now.slots.items in
     let there : slot_at slots0 p ≡ Some (Up u0) = c.requires.next.there in
-    let of : IsOf c.args.self.now.protocol (length slots0) p (Up u0) = c.requires.well.each p (Up u0) c.requires.process there in
     let t = c.in-Err.ensures.taken u0 (there_read slots0 p c.index_mut-slot.result.now (Some (Up u0)) c.requires.process c.index_mut-slot.ensures.value there) in
     let u1 = t.up in
-    let p_same : u1.kernel.p ≡ p = t.same.p_same ∙ of.2 in
-    let n_is : u1.kernel.n ≡ length slots0 = t.same.n_same ∙ of.1 in
     let put_is : slice_set slots0 p c.take_in.new.slot ≡ slice_set slots0 p (Some (Up u1)) = ap (slice_set slots0 p) t.there in
     let still : slot_at (slice_set slots0 p c.take_in.new.slot) p ≡ Some (Up u1) = still_there slots0 (slice_set slots0 p c.take_in.new.slot) c.fall.new.self.slots.items p u1 c.requires.process put_is in
     handled_down g.C.Checkpoint (c.args.self.now.left - 1) c.take_in.new.store c.fall.new.store c.take_in.new.dev (slot_at (slice_set slots0 p c.take_in.new.slot) p) (slot_at c.fall.new.self.slots.items p) c.fall.ensures.falls (subst IsSome (sym still) refl) c.fall.ensures.store

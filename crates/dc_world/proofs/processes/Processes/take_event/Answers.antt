@@ -70,8 +70,6 @@ power-requires-clause-well g c =
     let stores0 = c.args.stores.now in
     let dev0 = c.args.dev.now in
     let store0 = get_or stores0 p c.index-stores-p.result in
-    let store1 = c.take_in.new.store in
-    let dev1 = c.take_in.new.dev in
     let stood : slice_get stores0 p ≡ Some store0 = slice_get-get_or stores0 p c.index-stores-p.result (subst (λ m. p < m) (sym c.requires.stores) c.requires.process) in
     let may = may_there G store0 dev0 (answer_of c.args.answer.now) (slot_at slots0 p) (c.requires.may store0 stood) in
     let u0 = may.up in
@@ -91,8 +89,6 @@ returns-in-Ok-clause-well g c =
     let stores0 = c.args.stores.now in
     let dev0 = c.args.dev.now in
     let store0 = get_or stores0 p c.index-stores-p.result in
-    let store1 = c.take_in.new.store in
-    let dev1 = c.take_in.new.dev in
     let stood : slice_get stores0 p ≡ Some store0 = slice_get-get_or stores0 p c.index-stores-p.result (subst (λ m. p < m) (sym c.requires.stores) c.requires.process) in
     let may = may_there G store0 dev0 (answer_of c.args.answer.now) (slot_at slots0 p) (c.requires.may store0 stood) in
     let u0 = may.up in
@@ -123,14 +119,9 @@ returns-in-Ok-clause-stores g c =
 
 pub returns-in-Ok-clause-others : goal.returns-in-Ok-clause-others
 returns-in-Ok-clause-others g c q none =
-    let G = g.C.Checkpoint in
     let p = c.args.p in
-    let slots0 = c.args.self.now.slots.items in
     let stores0 = c.args.stores.now in
-    let dev0 = c.args.dev.now in
     let store0 = get_or stores0 p c.index-stores-p.result in
-    let store1 = c.take_in.new.store in
-    let dev1 = c.take_in.new.dev in
     let stood : slice_get stores0 p ≡ Some store0 = slice_get-get_or stores0 p c.index-stores-p.result (subst (λ m. p < m) (sym c.requires.stores) c.requires.process) in
     c.in-Ok.ensures.call.others q (none p store0 stood)
 
@@ -138,26 +129,19 @@ pub returns-in-Ok-clause-joint : goal.returns-in-Ok-clause-joint
 returns-in-Ok-clause-joint g c =
     let G = g.C.Checkpoint in
     let p = c.args.p in
-    let slots0 = c.args.self.now.slots.items in
     let stores0 = c.args.stores.now in
     let dev0 = c.args.dev.now in
     let store0 = get_or stores0 p c.index-stores-p.result in
     let store1 = c.take_in.new.store in
     let dev1 = c.take_in.new.dev in
-    let stood : slice_get stores0 p ≡ Some store0 = slice_get-get_or stores0 p c.index-stores-p.result (subst (λ m. p < m) (sym c.requires.stores) c.requires.process) in
     let one : One _ _ = record { stores = stores0; k = p; before = store0; after = store1; old = dev0; new = dev1 } in
     joint_ok G (record { told_still = g.met.C.Checkpoint.told_still; counts_same = g.met.C.Checkpoint.counts_same }) one c.in-Ok.done c.in-Ok.done c.in-Ok.ensures.call.others c.in-Ok.ensures.call.counts
 
 pub returns-in-Err-clause-others : goal.returns-in-Err-clause-others
 returns-in-Err-clause-others g c q none =
-    let G = g.C.Checkpoint in
     let p = c.args.p in
-    let slots0 = c.args.self.now.slots.items in
     let stores0 = c.args.stores.now in
-    let dev0 = c.args.dev.now in
     let store0 = get_or stores0 p c.index-stores-p.result in
-    let store1 = c.take_in.new.store in
-    let dev1 = c.take_in.new.dev in
     let stood : slice_get stores0 p ≡ Some store0 = slice_get-get_or stores0 p c.index-stores-p.result (subst (λ m. p < m) (sym c.requires.stores) c.requires.process) in
     c.in-Err.ensures.call.others q (none p store0 stood)
 
@@ -165,7 +149,6 @@ pub returns-in-Err-clause-joint : goal.returns-in-Err-clause-joint
 returns-in-Err-clause-joint g c =
     let G = g.C.Checkpoint in
     let p = c.args.p in
-    let slots0 = c.args.self.now.slots.items in
     let stores0 = c.args.stores.now in
     let dev0 = c.args.dev.now in
     let store0 = get_or stores0 p c.index-stores-p.result in
@@ -200,8 +183,6 @@ returns-in-Ok-clause-shown g c b at =
     let stores0 = c.args.stores.now in
     let dev0 = c.args.dev.now in
     let store0 = get_or stores0 p c.index-stores-p.result in
-    let store1 = c.take_in.new.store in
-    let dev1 = c.take_in.new.dev in
     let stood : slice_get stores0 p ≡ Some store0 = slice_get-get_or stores0 p c.index-stores-p.result (subst (λ m. p < m) (sym c.requires.stores) c.requires.process) in
     let same : store0 ≡ b = one_only stores0 p b store0 at stood in
     λ u is. subst (λ z. IfSome (G.contents z dev0) (λ words. c.in-Ok.done ≡ shown_of (effect_of (event_of (next_of (over u.guest words)) (machine_over u.guest words))) u.kernel.visible)) same
@@ -236,11 +217,8 @@ returns-in-Ok-clause-fit g c q x at =
     let stood : slice_get stores0 p ≡ Some store0 = slice_get-get_or stores0 p c.index-stores-p.result (subst (λ m. p < m) (sym c.requires.stores) c.requires.process) in
     let may = may_there G store0 dev0 (answer_of c.args.answer.now) (slot_at slots0 p) (c.requires.may store0 stood) in
     let u0 = may.up in
-    let of : IsOf c.args.self.now.protocol (length slots0) p (Up u0) = c.requires.well.each p (Up u0) c.requires.process may.there in
     let t = c.in-Ok.ensures.taken u0 (there_read slots0 p c.index_mut-slot.result.now (Some (Up u0)) c.requires.process c.index_mut-slot.ensures.value may.there) in
     let u1 = t.up in
-    let p_same : u1.kernel.p ≡ p = t.same.p_same ∙ of.2 in
-    let n_is : u1.kernel.n ≡ length slots0 = t.same.n_same ∙ of.1 in
     let put_is : slice_set slots0 p c.take_in.new.slot ≡ slice_set slots0 p (Some (Up u1)) = ap (slice_set slots0 p) t.there in
     let slots_note : c.note_exposed.new.self.slots.items ≡ slice_set slots0 p (Some (Up u1)) = ap (λ (w : Processes). w.slots.items) c.note_exposed.ensures.rest ∙ put_is in
     let slot_new : (r : ℕ) → slot_at c.note_exposed.new.self.slots.items r ≡ slot_at (slice_set slots0 p (Some (Up u1))) r = λ r. ap (λ xs. slot_at xs r) slots_note in
@@ -302,11 +280,8 @@ returns-in-Err-clause-down g c q x at =
     let stood : slice_get stores0 p ≡ Some store0 = slice_get-get_or stores0 p c.index-stores-p.result (subst (λ m. p < m) (sym c.requires.stores) c.requires.process) in
     let may = may_there G store0 dev0 (answer_of c.args.answer.now) (slot_at slots0 p) (c.requires.may store0 stood) in
     let u0 = may.up in
-    let of : IsOf c.args.self.now.protocol (length slots0) p (Up u0) = c.requires.well.each p (Up u0) c.requires.process may.there in
     let t = c.in-Err.ensures.taken u0 (there_read slots0 p c.index_mut-slot.result.now (Some (Up u0)) c.requires.process c.index_mut-slot.ensures.value may.there) in
     let u1 = t.up in
-    let p_same : u1.kernel.p ≡ p = t.same.p_same ∙ of.2 in
-    let n_is : u1.kernel.n ≡ length slots0 = t.same.n_same ∙ of.1 in
     let put_is : slice_set slots0 p c.take_in.new.slot ≡ slice_set slots0 p (Some (Up u1)) = ap (slice_set slots0 p) t.there in
     let slots1 = slice_set slots0 p c.take_in.new.slot in
     let stores1 = slice_set stores0 p store1 in

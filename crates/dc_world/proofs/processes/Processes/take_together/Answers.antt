@@ -66,15 +66,10 @@ returns-in_err-commit_if-clause-fell g c =
 pub take_event-requires-clause-own : goal.take_event-requires-clause-own
 take_event-requires-clause-own g c =
     let G = g.C.Checkpoint in
-    let p = c.args.p in
     let self0 = c.args.self.now in
     let slots0 = self0.slots.items in
     let stores0 = c.args.stores.now in
-    let dev0 = c.args.dev.now in
-    let self1 = c.commit_if.new.self in
-    let slots1 = self1.slots.items in
     let stores1 = c.commit_if.new.stores in
-    let dev1 = c.commit_if.new.dev in
     let ok1 = c.in_ok-commit_if.ensures in
     let many1 : length stores1 ≡ length stores0 = c.commit_if.ensures.as_many in
     subst (λ m. AreOwn G m stores1) (sym ok1.long) (own_same G stores0 stores1 (length slots0) many1 c.commit_if.ensures.stores c.requires.own)
@@ -106,87 +101,46 @@ take_event-requires-clause-may g c x at =
 
 pub returns-in_err-done-clause-stores : goal.returns-in_err-done-clause-stores
 returns-in_err-done-clause-stores g c =
-    let G = g.C.Checkpoint in
-    let p = c.args.p in
-    let self0 = c.args.self.now in
-    let slots0 = self0.slots.items in
     let stores0 = c.args.stores.now in
-    let dev0 = c.args.dev.now in
-    let self1 = c.commit_if.new.self in
-    let slots1 = self1.slots.items in
     let stores1 = c.commit_if.new.stores in
-    let dev1 = c.commit_if.new.dev in
-    let ok1 = c.in_ok-commit_if.ensures in
     let many1 : length stores1 ≡ length stores0 = c.commit_if.ensures.as_many in
-    let self2 = c.take_event.new.self in
-    let slots2 = self2.slots.items in
     let stores2 = c.take_event.new.stores in
-    let dev2 = c.take_event.new.dev in
-    let many2 : length stores2 ≡ length stores1 = c.take_event.ensures.as_many in
     pair_then stores0 stores1 stores2 many1 (λ i b x z was now. same_then was now) c.commit_if.ensures.stores c.take_event.ensures.stores
 
 pub returns-in_err-done-clause-room : goal.returns-in_err-done-clause-room
 returns-in_err-done-clause-room g c =
     let G = g.C.Checkpoint in
-    let p = c.args.p in
     let self0 = c.args.self.now in
     let slots0 = self0.slots.items in
-    let stores0 = c.args.stores.now in
-    let dev0 = c.args.dev.now in
     let self1 = c.commit_if.new.self in
-    let slots1 = self1.slots.items in
     let stores1 = c.commit_if.new.stores in
-    let dev1 = c.commit_if.new.dev in
-    let ok1 = c.in_ok-commit_if.ensures in
-    let many1 : length stores1 ≡ length stores0 = c.commit_if.ensures.as_many in
     let self2 = c.take_event.new.self in
-    let slots2 = self2.slots.items in
     let stores2 = c.take_event.new.stores in
-    let dev2 = c.take_event.new.dev in
     let many2 : length stores2 ≡ length stores1 = c.take_event.ensures.as_many in
     room_same G stores1 stores2 (length slots0) self1.joint self2.joint many2 c.take_event.ensures.stores (ap (λ (w : Processes). length w.joint.texts.items) c.take_event.ensures.rest) (ap (λ (w : Processes). w.joint.saved) c.take_event.ensures.rest) c.commit_if.ensures.room
 
 pub returns-in_err-done-clause-joint : goal.returns-in_err-done-clause-joint
 returns-in_err-done-clause-joint g c =
     let G = g.C.Checkpoint in
-    let p = c.args.p in
-    let self0 = c.args.self.now in
-    let slots0 = self0.slots.items in
     let stores0 = c.args.stores.now in
     let dev0 = c.args.dev.now in
-    let self1 = c.commit_if.new.self in
-    let slots1 = self1.slots.items in
     let stores1 = c.commit_if.new.stores in
     let dev1 = c.commit_if.new.dev in
     let ok1 = c.in_ok-commit_if.ensures in
     let many1 : length stores1 ≡ length stores0 = c.commit_if.ensures.as_many in
-    let self2 = c.take_event.new.self in
-    let slots2 = self2.slots.items in
-    let stores2 = c.take_event.new.stores in
     let dev2 = c.take_event.new.dev in
-    let many2 : length stores2 ≡ length stores1 = c.take_event.ensures.as_many in
     let fault = err_from_is_err_and c.from_residual-in_err-done.result c.from_residual-in_err-done.ensures.1 in
     rw (fault.1, fault.2) (joint_as G stores0 dev0 dev2 _ (joint_then G (on stores0 dev0) (on stores1 dev1) (same_stores G stores0 stores1 many1 c.commit_if.ensures.stores) ok1.joint.calm c.in_err-done.ensures.joint))
 
 pub returns-in_err-done-clause-others : goal.returns-in_err-done-clause-others
 returns-in_err-done-clause-others g c q none =
     let G = g.C.Checkpoint in
-    let p = c.args.p in
-    let self0 = c.args.self.now in
-    let slots0 = self0.slots.items in
     let stores0 = c.args.stores.now in
     let dev0 = c.args.dev.now in
-    let self1 = c.commit_if.new.self in
-    let slots1 = self1.slots.items in
     let stores1 = c.commit_if.new.stores in
     let dev1 = c.commit_if.new.dev in
-    let ok1 = c.in_ok-commit_if.ensures in
     let many1 : length stores1 ≡ length stores0 = c.commit_if.ensures.as_many in
-    let self2 = c.take_event.new.self in
-    let slots2 = self2.slots.items in
-    let stores2 = c.take_event.new.stores in
     let dev2 = c.take_event.new.dev in
-    let many2 : length stores2 ≡ length stores1 = c.take_event.ensures.as_many in
     g.met.C.Checkpoint.untouched_on dev0 dev1 dev2 q (c.commit_if.ensures.others q none) (c.take_event.ensures.others q (no_place_then G stores0 stores1 q (same_stores G stores0 stores1 many1 c.commit_if.ensures.stores) none))
 
 pub returns-in_err-done-clause-fell : goal.returns-in_err-done-clause-fell
@@ -237,21 +191,13 @@ returns-in_err-done-clause-fell g c =
 pub commit_if-requires-2-clause-own : goal.commit_if-requires-2-clause-own
 commit_if-requires-2-clause-own g c =
     let G = g.C.Checkpoint in
-    let p = c.args.p in
     let self0 = c.args.self.now in
     let slots0 = self0.slots.items in
     let stores0 = c.args.stores.now in
-    let dev0 = c.args.dev.now in
-    let self1 = c.commit_if.new.self in
-    let slots1 = self1.slots.items in
     let stores1 = c.commit_if.new.stores in
-    let dev1 = c.commit_if.new.dev in
     let ok1 = c.in_ok-commit_if.ensures in
     let many1 : length stores1 ≡ length stores0 = c.commit_if.ensures.as_many in
-    let self2 = c.take_event.new.self in
-    let slots2 = self2.slots.items in
     let stores2 = c.take_event.new.stores in
-    let dev2 = c.take_event.new.dev in
     let many2 : length stores2 ≡ length stores1 = c.take_event.ensures.as_many in
     subst (λ m. AreOwn G m stores2) (sym (c.take_event.ensures.long ∙ ok1.long)) (own_same G stores1 stores2 (length slots0) many2 c.take_event.ensures.stores (own_same G stores0 stores1 (length slots0) many1 c.commit_if.ensures.stores c.requires.own))
 
@@ -280,70 +226,39 @@ commit_if-requires-2-clause-counts g c due =
 pub commit_if-requires-2-clause-room : goal.commit_if-requires-2-clause-room
 commit_if-requires-2-clause-room g c =
     let G = g.C.Checkpoint in
-    let p = c.args.p in
     let self0 = c.args.self.now in
     let slots0 = self0.slots.items in
-    let stores0 = c.args.stores.now in
-    let dev0 = c.args.dev.now in
     let self1 = c.commit_if.new.self in
-    let slots1 = self1.slots.items in
     let stores1 = c.commit_if.new.stores in
-    let dev1 = c.commit_if.new.dev in
     let ok1 = c.in_ok-commit_if.ensures in
-    let many1 : length stores1 ≡ length stores0 = c.commit_if.ensures.as_many in
     let self2 = c.take_event.new.self in
-    let slots2 = self2.slots.items in
     let stores2 = c.take_event.new.stores in
-    let dev2 = c.take_event.new.dev in
     let many2 : length stores2 ≡ length stores1 = c.take_event.ensures.as_many in
     subst (λ m. IsRoomFor G stores2 m self2.joint) (sym (c.take_event.ensures.long ∙ ok1.long))
     (room_same G stores1 stores2 (length slots0) self1.joint self2.joint many2 c.take_event.ensures.stores (ap (λ (w : Processes). length w.joint.texts.items) c.take_event.ensures.rest) (ap (λ (w : Processes). w.joint.saved) c.take_event.ensures.rest) c.commit_if.ensures.room)
 
 pub returns-in_err-commit_if-2-clause-stores : goal.returns-in_err-commit_if-2-clause-stores
 returns-in_err-commit_if-2-clause-stores g c =
-    let G = g.C.Checkpoint in
-    let p = c.args.p in
-    let self0 = c.args.self.now in
-    let slots0 = self0.slots.items in
     let stores0 = c.args.stores.now in
-    let dev0 = c.args.dev.now in
-    let self1 = c.commit_if.new.self in
-    let slots1 = self1.slots.items in
     let stores1 = c.commit_if.new.stores in
-    let dev1 = c.commit_if.new.dev in
-    let ok1 = c.in_ok-commit_if.ensures in
     let many1 : length stores1 ≡ length stores0 = c.commit_if.ensures.as_many in
-    let self2 = c.take_event.new.self in
-    let slots2 = self2.slots.items in
     let stores2 = c.take_event.new.stores in
-    let dev2 = c.take_event.new.dev in
     let many2 : length stores2 ≡ length stores1 = c.take_event.ensures.as_many in
-    let self3 = c.commit_if-2.new.self in
     let stores3 = c.commit_if-2.new.stores in
-    let dev3 = c.commit_if-2.new.dev in
     pair_then stores0 stores2 stores3 (many2 ∙ many1) (λ i b x z was now. same_then was now) (pair_then stores0 stores1 stores2 many1 (λ i b x z was now. same_then was now) c.commit_if.ensures.stores c.take_event.ensures.stores) c.commit_if-2.ensures.stores
 
 pub returns-in_err-commit_if-2-clause-joint : goal.returns-in_err-commit_if-2-clause-joint
 returns-in_err-commit_if-2-clause-joint g c =
     let G = g.C.Checkpoint in
-    let p = c.args.p in
-    let self0 = c.args.self.now in
-    let slots0 = self0.slots.items in
     let stores0 = c.args.stores.now in
     let dev0 = c.args.dev.now in
-    let self1 = c.commit_if.new.self in
-    let slots1 = self1.slots.items in
     let stores1 = c.commit_if.new.stores in
     let dev1 = c.commit_if.new.dev in
     let ok1 = c.in_ok-commit_if.ensures in
     let many1 : length stores1 ≡ length stores0 = c.commit_if.ensures.as_many in
-    let self2 = c.take_event.new.self in
-    let slots2 = self2.slots.items in
     let stores2 = c.take_event.new.stores in
     let dev2 = c.take_event.new.dev in
     let many2 : length stores2 ≡ length stores1 = c.take_event.ensures.as_many in
-    let self3 = c.commit_if-2.new.self in
-    let stores3 = c.commit_if-2.new.stores in
     let dev3 = c.commit_if-2.new.dev in
     let fault = err_from_is_err_and c.from_residual-in_err-commit_if-2.result c.from_residual-in_err-commit_if-2.ensures.1 in
     rw (fault.1, fault.2) (joint_as G stores0 dev0 dev3 _ (joint_then G (on stores0 dev0) (on stores2 dev2) (same_stores G stores0 stores2 (many2 ∙ many1) (pair_then stores0 stores1 stores2 many1 (λ i b x z was now. same_then was now) c.commit_if.ensures.stores c.take_event.ensures.stores)) (λ q. calm_then G dev0 dev1 dev2 q (ok1.joint.calm q) (c.in_ok-done.ensures.joint.calm q)) c.in_err-commit_if-2.ensures.joint))
@@ -351,24 +266,14 @@ returns-in_err-commit_if-2-clause-joint g c =
 pub returns-in_err-commit_if-2-clause-others : goal.returns-in_err-commit_if-2-clause-others
 returns-in_err-commit_if-2-clause-others g c q none =
     let G = g.C.Checkpoint in
-    let p = c.args.p in
-    let self0 = c.args.self.now in
-    let slots0 = self0.slots.items in
     let stores0 = c.args.stores.now in
     let dev0 = c.args.dev.now in
-    let self1 = c.commit_if.new.self in
-    let slots1 = self1.slots.items in
     let stores1 = c.commit_if.new.stores in
     let dev1 = c.commit_if.new.dev in
-    let ok1 = c.in_ok-commit_if.ensures in
     let many1 : length stores1 ≡ length stores0 = c.commit_if.ensures.as_many in
-    let self2 = c.take_event.new.self in
-    let slots2 = self2.slots.items in
     let stores2 = c.take_event.new.stores in
     let dev2 = c.take_event.new.dev in
     let many2 : length stores2 ≡ length stores1 = c.take_event.ensures.as_many in
-    let self3 = c.commit_if-2.new.self in
-    let stores3 = c.commit_if-2.new.stores in
     let dev3 = c.commit_if-2.new.dev in
     g.met.C.Checkpoint.untouched_on dev0 dev2 dev3 q (g.met.C.Checkpoint.untouched_on dev0 dev1 dev2 q (c.commit_if.ensures.others q none) (c.take_event.ensures.others q (no_place_then G stores0 stores1 q (same_stores G stores0 stores1 many1 c.commit_if.ensures.stores) none))) (c.commit_if-2.ensures.others q (no_place_then G stores0 stores2 q (same_stores G stores0 stores2 (many2 ∙ many1) (pair_then stores0 stores1 stores2 many1 (λ i b x z was now. same_then was now) c.commit_if.ensures.stores c.take_event.ensures.stores)) none))
 
@@ -429,74 +334,37 @@ returns-in_err-commit_if-2-clause-fell g c =
 
 pub returns-clause-stores : goal.returns-clause-stores
 returns-clause-stores g c =
-    let G = g.C.Checkpoint in
-    let p = c.args.p in
-    let self0 = c.args.self.now in
-    let slots0 = self0.slots.items in
     let stores0 = c.args.stores.now in
-    let dev0 = c.args.dev.now in
-    let self1 = c.commit_if.new.self in
-    let slots1 = self1.slots.items in
     let stores1 = c.commit_if.new.stores in
-    let dev1 = c.commit_if.new.dev in
-    let ok1 = c.in_ok-commit_if.ensures in
     let many1 : length stores1 ≡ length stores0 = c.commit_if.ensures.as_many in
-    let self2 = c.take_event.new.self in
-    let slots2 = self2.slots.items in
     let stores2 = c.take_event.new.stores in
-    let dev2 = c.take_event.new.dev in
     let many2 : length stores2 ≡ length stores1 = c.take_event.ensures.as_many in
-    let self3 = c.commit_if-2.new.self in
     let stores3 = c.commit_if-2.new.stores in
-    let dev3 = c.commit_if-2.new.dev in
     pair_then stores0 stores2 stores3 (many2 ∙ many1) (λ i b x z was now. same_then was now) (pair_then stores0 stores1 stores2 many1 (λ i b x z was now. same_then was now) c.commit_if.ensures.stores c.take_event.ensures.stores) c.commit_if-2.ensures.stores
 
 pub returns-clause-fit : goal.returns-clause-fit
 returns-clause-fit g c =
-    let G = g.C.Checkpoint in
-    let p = c.args.p in
     let self0 = c.args.self.now in
     let slots0 = self0.slots.items in
-    let stores0 = c.args.stores.now in
-    let dev0 = c.args.dev.now in
     let self1 = c.commit_if.new.self in
     let slots1 = self1.slots.items in
-    let stores1 = c.commit_if.new.stores in
-    let dev1 = c.commit_if.new.dev in
     let ok1 = c.in_ok-commit_if.ensures in
-    let many1 : length stores1 ≡ length stores0 = c.commit_if.ensures.as_many in
     let self2 = c.take_event.new.self in
     let slots2 = self2.slots.items in
-    let stores2 = c.take_event.new.stores in
-    let dev2 = c.take_event.new.dev in
-    let many2 : length stores2 ≡ length stores1 = c.take_event.ensures.as_many in
-    let self3 = c.commit_if-2.new.self in
-    let stores3 = c.commit_if-2.new.stores in
-    let dev3 = c.commit_if-2.new.dev in
     let gone_counts = counts_gone self0.left c.requires.left c.asked-asked.result.before slots0 slots1 slots2 ok1.counts c.in_ok-done.ensures.counts c.requires.counts c.asked-asked.result.after (c.asked-asked.ensures.once c.requires.together) in
     (c.in_ok-commit_if-2.ensures.fit, c.in_ok-commit_if-2.ensures.counts (2 * (self0.left - 1)) gone_counts)
 
 pub returns-clause-others : goal.returns-clause-others
 returns-clause-others g c q none =
     let G = g.C.Checkpoint in
-    let p = c.args.p in
-    let self0 = c.args.self.now in
-    let slots0 = self0.slots.items in
     let stores0 = c.args.stores.now in
     let dev0 = c.args.dev.now in
-    let self1 = c.commit_if.new.self in
-    let slots1 = self1.slots.items in
     let stores1 = c.commit_if.new.stores in
     let dev1 = c.commit_if.new.dev in
-    let ok1 = c.in_ok-commit_if.ensures in
     let many1 : length stores1 ≡ length stores0 = c.commit_if.ensures.as_many in
-    let self2 = c.take_event.new.self in
-    let slots2 = self2.slots.items in
     let stores2 = c.take_event.new.stores in
     let dev2 = c.take_event.new.dev in
     let many2 : length stores2 ≡ length stores1 = c.take_event.ensures.as_many in
-    let self3 = c.commit_if-2.new.self in
-    let stores3 = c.commit_if-2.new.stores in
     let dev3 = c.commit_if-2.new.dev in
     g.met.C.Checkpoint.untouched_on dev0 dev2 dev3 q (g.met.C.Checkpoint.untouched_on dev0 dev1 dev2 q (c.commit_if.ensures.others q none) (c.take_event.ensures.others q (no_place_then G stores0 stores1 q (same_stores G stores0 stores1 many1 c.commit_if.ensures.stores) none))) (c.commit_if-2.ensures.others q (no_place_then G stores0 stores2 q (same_stores G stores0 stores2 (many2 ∙ many1) (pair_then stores0 stores1 stores2 many1 (λ i b x z was now. same_then was now) c.commit_if.ensures.stores c.take_event.ensures.stores)) none))
 
@@ -547,10 +415,8 @@ returns-clause-went g c images schedule core together told now world inside give
     let ok1 = c.in_ok-commit_if.ensures in
     let many1 : length stores1 ≡ length stores0 = c.commit_if.ensures.as_many in
     let self2 = c.take_event.new.self in
-    let slots2 = self2.slots.items in
     let stores2 = c.take_event.new.stores in
     let dev2 = c.take_event.new.dev in
-    let many2 : length stores2 ≡ length stores1 = c.take_event.ensures.as_many in
     let self3 = c.commit_if-2.new.self in
     let stores3 = c.commit_if-2.new.stores in
     let dev3 = c.commit_if-2.new.dev in

@@ -30,7 +30,6 @@ answer-answer-requires-clause-of g c =
     let slots0 = c.args.self.now.slots.items in
     let u : Process = c.in-Some.up.now in
     let there : slot_at slots0 p ≡ Some (Up u) = c.in-Some.ensures.up in
-    let handled : IsHandled g.C.Checkpoint c.args.self.now.left c.args.store.now c.args.dev.now (Some (Up u)) = subst (IsHandled g.C.Checkpoint c.args.self.now.left c.args.store.now c.args.dev.now) there c.requires.handled in
     c.requires.well.each p (Up u) c.requires.process there
 
 pub take-requires-clause-next : goal.take-requires-clause-next

@@ -1,0 +1,298 @@
+//! A segment on a device in memory, whose calls are made where they may be.
+
+ghost use Rattle.std.specs.Prelude.{◌≡◌, ◌⊎◌, ◌<◌, ◌≤◌, IfOk, IfSome, true, vec_capacity};
+
+use super::calling;
+use super::inputs::{memory, saved, text};
+use super::texts::code;
+use super::trial::Trial;
+use dc_checkpoint::Checkpoint;
+use dc_kernel::{LogRecord, Saved};
+use dc_media::MakeFault;
+use dc_memmedia::{ListedCall, MemKeeps};
+use dc_vista::Segment;
+use std::alloc::Global;
+use std::test::Fail;
+
+/// A segment of process `p` of `n`, its device, and what may be called next.
+#[derive(Drop)]
+pub struct Rig {
+    pub store: Segment<MemKeeps>,
+    pub dev: MemKeeps,
+    pub n: u32,
+    pub p: u32,
+    /// The words of its memory.
+    pub size: u32,
+    /// The number of the commit that it goes on from, or that is prepared.
+    pub number: u32,
+    /// How many events were logged since.
+    pub logged: u32,
+    /// It may go on.
+    pub ready: bool,
+    /// A commit is prepared.
+    pub prepared: bool,
+    /// What the last recovery read.
+    pub saved: Saved,
+    /// How many calls the device had when that was last asked.
+    pub asked: u64,
+    /// The words of the device when they were last kept.
+    pub kept: Vec<u32>,
+    ghost few: { n ≤ 8 },
+    ghost one_of: { p < n },
+    ghost whole: { saved.kernel.n ≡ n },
+    ghost own: { saved.kernel.p ≡ p },
+    ghost room: { 64 ≤ vec_capacity saved.log },
+}
+
+impl Trial for Rig {
+    ghost fits = { λ r.
+        (⟦<Segment<MemKeeps> as Checkpoint>⟧.lent r.store r.dev)
+        × (⟦<Segment<MemKeeps> as Checkpoint>⟧.place r.store ≡ r.p)
+        × (⟦<Segment<MemKeeps> as Checkpoint>⟧.size r.store ≡ r.size)
+        × (⟦<Segment<MemKeeps> as Checkpoint>⟧.form r.store ≡ record { n = r.n; p = r.p })
+        × (r.ready ≡ true → ⟦<Segment<MemKeeps> as Checkpoint>⟧.ready r.store r.dev)
+        × (r.ready ≡ true → ⟦<Segment<MemKeeps> as Checkpoint>⟧.number r.store ≡ r.number)
+        × (r.ready ≡ true → ⟦<Segment<MemKeeps> as Checkpoint>⟧.logged r.store ≡ r.logged)
+        × (r.prepared ≡ true → ⟦<Segment<MemKeeps> as Checkpoint>⟧.prepared r.store r.dev r.number) };
+
+    fn made(
+        alloc: Global,
+        n: u32,
+        p: u32,
+        pages: u32,
+        listed: Vec<ListedCall>,
+    ) -> Result<Option<Rig>, Fail> {
+        Rig::new(alloc, n, p, pages, listed)
+    }
+
+    fn call(&mut self, alloc: Global, verb: &str, args: &[u64]) -> Result<Vec<u64>, Fail> {
+        calling::call(self, alloc, verb, args)
+    }
+
+    fn made_calls(&self) -> u64 {
+        self.dev.calls(self.p)
+    }
+}
+
+impl Rig {
+    /// Sets bits of a word of memory.
+    pub fn set(&mut self, i: u32, w: u32, mask: u32) -> Result<u64, Fail>
+        requires { ⟦<Rig as Trial>⟧.fits self.old }
+        ensures { ⟦<Rig as Trial>⟧.fits self.new }
+    {
+        if !self.ready || i >= self.size {
+            return Err(Fail::new("a store"));
+        }
+        match self.store.store(&mut self.dev, i, w, mask) {
+            Ok(()) => Ok(0),
+            Err(fault) => {
+                self.ready = false;
+                Ok(code(fault))
+            }
+        }
+    }
+
+    /// Commits under a number.
+    pub fn commit(&mut self, alloc: Global, number: u32) -> Result<u64, Fail>
+        requires { ⟦<Rig as Trial>⟧.fits self.old }
+        ensures { ⟦<Rig as Trial>⟧.fits self.new }
+    {
+        if !self.ready || number <= self.number {
+            return Err(Fail::new("a commit"));
+        }
+        let text = text(alloc, self.n, self.p, number)?;
+        match self.store.commit(&mut self.dev, &text) {
+            Ok(()) => {
+                self.number = number;
+                self.logged = 0;
+                Ok(0)
+            }
+            Err(fault) => {
+                self.ready = false;
+                Ok(code(fault))
+            }
+        }
+    }
+
+    /// Logs an event of its first process.
+    pub fn log(&mut self, rec: &LogRecord) -> Result<u64, Fail>
+        requires { ⟦<Rig as Trial>⟧.fits self.old }
+        ensures { ⟦<Rig as Trial>⟧.fits self.new }
+    {
+        if !self.ready || self.logged >= 64 {
+            return Err(Fail::new("a log"));
+        }
+        if (rec.event != 3 && rec.event != 7) || rec.answer > 2 || rec.sender >= self.n {
+            return Err(Fail::new("an event"));
+        }
+        match self.store.append_log(&mut self.dev, rec) {
+            Ok(()) => {
+                self.logged += 1;
+                Ok(0)
+            }
+            Err(fault) => {
+                self.ready = false;
+                Ok(code(fault))
+            }
+        }
+    }
+
+    /// Prepares a commit under a number.
+    pub fn prepare(&mut self, alloc: Global, g: u32) -> Result<u64, Fail>
+        requires { ⟦<Rig as Trial>⟧.fits self.old }
+        ensures { ⟦<Rig as Trial>⟧.fits self.new }
+    {
+        if !self.ready || g <= self.number {
+            return Err(Fail::new("a prepare"));
+        }
+        let text = text(alloc, self.n, self.p, g)?;
+        self.ready = false;
+        match self.store.prepare(&mut self.dev, &text, g) {
+            Ok(()) => {
+                self.number = g;
+                self.prepared = true;
+                Ok(0)
+            }
+            Err(fault) => Ok(code(fault)),
+        }
+    }
+
+    /// Decides on a number, of what is prepared where something is.
+    pub fn decide(&mut self, g: u32) -> Result<u64, Fail>
+        requires { ⟦<Rig as Trial>⟧.fits self.old }
+        ensures { ⟦<Rig as Trial>⟧.fits self.new }
+    {
+        if self.p != 0 {
+            return Err(Fail::new("another process"));
+        }
+        if self.ready && !self.prepared {
+            return Ok(self.decide_on(g));
+        }
+        if self.prepared && self.number == g {
+            return Ok(self.decide_on(g));
+        }
+        Err(Fail::new("a decision"))
+    }
+
+    fn decide_on(&mut self, g: u32) -> u64
+        requires fits { ⟦<Rig as Trial>⟧.fits self.old }
+        requires first { self.old.p ≡ 0 }
+        requires awake { (self.old.ready ≡ true) ⊎ ((self.old.prepared ≡ true) × (self.old.number ≡ g)) }
+        requires same { self.old.prepared ≡ true → self.old.number ≡ g }
+        ensures { ⟦<Rig as Trial>⟧.fits self.new }
+    {
+        match self.store.decide(&mut self.dev, g) {
+            Ok(()) => 0,
+            Err(fault) => {
+                self.ready = false;
+                self.prepared = false;
+                code(fault)
+            }
+        }
+    }
+
+    /// Finishes what is prepared.
+    pub fn finish(&mut self) -> Result<u64, Fail>
+        requires { ⟦<Rig as Trial>⟧.fits self.old }
+        ensures { ⟦<Rig as Trial>⟧.fits self.new }
+    {
+        if !self.prepared {
+            return Err(Fail::new("a finish"));
+        }
+        self.prepared = false;
+        self.ready = false;
+        match self.store.finish(&mut self.dev, self.number) {
+            Ok(()) => {
+                self.logged = 0;
+                self.ready = true;
+                Ok(0)
+            }
+            Err(fault) => Ok(code(fault)),
+        }
+    }
+
+    /// The decided number.
+    pub fn decided(&mut self) -> Result<u32, Fail>
+        requires { ⟦<Rig as Trial>⟧.fits self.old }
+        ensures { ⟦<Rig as Trial>⟧.fits self.new }
+    {
+        if self.p != 0 {
+            return Err(Fail::new("another process"));
+        }
+        match self.store.decided(&mut self.dev) {
+            Ok(d) => Ok(d),
+            Err(_fault) => {
+                self.ready = false;
+                self.prepared = false;
+                Err(Fail::new("no decided number"))
+            }
+        }
+    }
+
+    /// Loses what is volatile.
+    pub fn fall(&mut self)
+        requires { ⟦<Rig as Trial>⟧.fits self.old }
+        ensures { ⟦<Rig as Trial>⟧.fits self.new }
+    {
+        self.ready = false;
+        self.prepared = false;
+        self.store.fall();
+    }
+
+    /// Reads what the store stands for under a decided number.
+    pub fn recover(&mut self, d: u32) -> u64
+        requires { ⟦<Rig as Trial>⟧.fits self.old }
+        ensures { ⟦<Rig as Trial>⟧.fits self.new }
+    {
+        self.prepared = false;
+        self.ready = false;
+        match self.store.recover(&mut self.dev, d, &mut self.saved) {
+            Ok(()) => {
+                self.number = self.saved.kernel.commit();
+                self.logged = self.saved.log.len() as u32;
+                self.ready = true;
+                0
+            }
+            Err(fault) => code(fault),
+        }
+    }
+}
+
+impl Rig {
+    /// A segment that is made with commit number 1, or none where the device failed.
+    pub fn new(
+        alloc: Global,
+        n: u32,
+        p: u32,
+        pages: u32,
+        listed: Vec<ListedCall>,
+    ) -> Result<Option<Rig>, Fail>
+        ensures { IfOk result (λ made. IfSome made ⟦<Rig as Trial>⟧.fits) }
+    {
+        if n > 8 || p >= n || pages == 0 || pages > 256 {
+            return Err(Fail::new("no segment"));
+        }
+        let memory = memory(alloc, pages)?;
+        let text = text(alloc, n, p, 1)?;
+        let saved = saved(alloc, n, p)?;
+        let mut dev = MemKeeps::new(alloc, listed)?;
+        match Segment::format(alloc, &mut dev, p, memory, text) {
+            Ok((store, stopped)) => Ok(Some(Rig {
+                store,
+                dev,
+                n,
+                p,
+                size: 1024 * pages,
+                number: 1,
+                logged: 0,
+                ready: !stopped,
+                prepared: false,
+                saved,
+                asked: 0,
+                kept: Vec::new(alloc),
+            })),
+            Err(MakeFault::Failed) => Ok(None),
+            Err(MakeFault::Memory) => Err(Fail::new("no memory")),
+        }
+    }
+}

@@ -1,0 +1,375 @@
+//! Calls of the program over files, devices and sinks in memory: each case of text comes to what it says.
+//!
+//! Of the call a case may say the words; the protocol, the planned stops, and in what else the plan differs; the guests by the names of
+//! their sources, or one guest by its source, by the words of its code, by a count of zero words, or as the file of `hi` with another byte
+//! or cut off, and the name of that file; how often a source to assemble is repeated; the schedule; the report and the output of a check;
+//! which fetch, which write and which store call fail; the room of the output and the report.
+//!
+//! Of what comes of it: the line on standard error and the status; the output as text or as the file of code; the report by its close line,
+//! the turns of its acts and those that are not plain; the marks.
+
+mod cases;
+mod devices;
+mod files;
+mod guest_files;
+mod planned;
+
+use cases::{
+    ANSWERS, CALLS, CHECKS, COMMANDS, COMMITTED_TOGETHER, DECIDED_TOGETHER, GUESTS, LONG, PLANS,
+    RECOVERED_TOGETHER, RUNS, SCHEDULES, SOURCES, STOPS, TOGETHER, TOO_LONG,
+};
+use dc_cases::{
+    coded, holds, is_read, number, numbers, passing, says, text, value, wanted_report, words,
+};
+use dc_memmedia::{MemKeeps, MemLibrary, MemSink};
+use dc_model::{Idle, Mark};
+use dc_run::{Did, Outcome, conclude};
+use devices::{called, called_aside};
+use planned::{library, refused, stopped_calls};
+use std::alloc::Global;
+use std::test::Fail;
+
+const KEYS: &str =
+    "words plan protocol stops old new guests source copies code zeros place byte cut name schedule report output fetch write \
+device room report_room said status out elf close acts act marks";
+
+/// What a call left: its outcome and its two sinks.
+#[derive(Drop)]
+struct Left {
+    outcome: Outcome,
+    out: MemSink,
+    report: MemSink,
+}
+
+/// The letter of a mark: `i` where the guest had ended, `f` where its link was full, `s` where it stepped, the number of what it showed,
+/// `x` where it was stopped in its turn, `m` where it was stopped between turns, `r` where it recovered.
+fn letter(mark: &Mark) -> u8 {
+    match *mark {
+        Mark::Idle(Idle::Ended) => b'i',
+        Mark::Idle(Idle::LinkFull) => b'f',
+        Mark::Stepped => b's',
+        Mark::Showed(k) if k < 10 => b'0' + k as u8,
+        Mark::Showed(_) => b'+',
+        Mark::Recovered(_) => b'r',
+        Mark::Stopped => b'x',
+        Mark::Marked => b'm',
+    }
+}
+
+/// The marks are those that the case says, if it says any.
+fn marks_are(case: &str, marks: &[Mark]) -> Result<(), Fail> {
+    if !says(case, "marks") {
+        return Ok(());
+    }
+    let want = value(case, "marks", "").as_bytes();
+    holds(marks.len() == want.len(), case, "as many marks")?;
+    for (mark, letter_wanted) in marks.iter().zip(want) {
+        holds(letter(mark) == *letter_wanted, case, "the marks")?;
+    }
+    Ok(())
+}
+
+/// The report is the one that the case says, cut off where there was no room; none where it says no close line.
+fn report_is(alloc: Global, case: &str, report: &MemSink) -> Result<(), Fail> {
+    if !says(case, "close") {
+        return holds(report.bytes().is_empty(), case, "no report");
+    }
+    let want = wanted_report(alloc, case)?;
+    let room = number(case, "report_room", "100000")?;
+    let front = want.as_bytes().get(..room).unwrap_or(want.as_bytes());
+    holds(report.bytes() == front, case, "the report")
+}
+
+/// The output is the one that the case says: a text, or a file cut off where there was no room.
+fn output_is(alloc: Global, case: &str, out: &MemSink) -> Result<(), Fail> {
+    if !says(case, "elf") {
+        let want = text(alloc, case, "out", "")?;
+        return holds(out.bytes() == want.as_bytes(), case, "the output");
+    }
+    let want = coded(alloc, case, "elf")?;
+    let room = number(case, "room", "100000")?;
+    let front = want.get(..room).unwrap_or(&want);
+    holds(out.bytes() == front, case, "the file")
+}
+
+/// The program ends with the status and the line that the case says.
+fn ends_so(alloc: Global, case: &str, outcome: &Outcome) -> Result<(), Fail> {
+    let mut error = MemSink::new(alloc, 200, Vec::new(alloc))?;
+    let status = conclude(outcome, &mut error);
+    holds(
+        number(case, "status", "0")? == usize::from(status),
+        case,
+        "the status",
+    )?;
+    let want = text(alloc, case, "said", "")?;
+    holds(
+        error.bytes() == want.as_bytes(),
+        case,
+        "the line on standard error",
+    )
+}
+
+/// What comes of a call besides its status is what its case says.
+fn comes_to(alloc: Global, case: &str, left: &Left) -> Result<(), Fail> {
+    let ran = left.outcome.did == Did::Run;
+    holds(ran == says(case, "close"), case, "whether it ran")?;
+    output_is(alloc, case, &left.out)?;
+    report_is(alloc, case, &left.report)?;
+    marks_are(case, left.outcome.marks.as_slice())
+}
+
+/// The output of a case, with its room and the writes that fail.
+fn output(alloc: Global, case: &str) -> Result<MemSink, Fail> {
+    let failing = numbers(alloc, value(case, "write", ""))?;
+    Ok(MemSink::new(alloc, number(case, "room", "100000")?, failing)?)
+}
+
+/// The call of a case over its files.
+fn left_by(alloc: Global, case: &str, library: &mut MemLibrary) -> Result<Left, Fail> {
+    let mut keeps = MemKeeps::new(alloc, refused(alloc, case)?)?;
+    let mut out = output(alloc, case)?;
+    let room = number(case, "report_room", "100000")?;
+    let mut report = MemSink::new(alloc, room, Vec::new(alloc))?;
+    let words = words(alloc, value(case, "words", "dc run plan"))?;
+    let outcome = called(alloc, &words, library, &mut keeps, &mut out, &mut report)?;
+    Ok(Left {
+        outcome,
+        out,
+        report,
+    })
+}
+
+/// A case comes to what it says, and what a run wrote passes the check.
+fn tried(alloc: Global, case: &str) -> Result<(), Fail> {
+    is_read(case, KEYS)?;
+    let mut library = library(alloc, case)?;
+    let left = left_by(alloc, case, &mut library)?;
+    ends_so(alloc, case, &left.outcome)?;
+    comes_to(alloc, case, &left)?;
+    if says(case, "close") && !fails(case) {
+        return passes(alloc, case, &mut library, &left);
+    }
+    Ok(())
+}
+
+/// Whether a fetch or a sink of the case fails.
+fn fails(case: &str) -> bool {
+    says(case, "fetch") || says(case, "write") || says(case, "room") || says(case, "report_room")
+}
+
+/// The words of a check of what was written.
+fn check_words(alloc: Global) -> Result<Vec<String>, Fail> {
+    let mut words = words(alloc, "dc check plan")?;
+    words.push(String::from_str(alloc, "written report")?)?;
+    words.push(String::from_str(alloc, "written")?)?;
+    Ok(words)
+}
+
+/// What a run wrote passes the check.
+fn passes(alloc: Global, case: &str, library: &mut MemLibrary, left: &Left) -> Result<(), Fail> {
+    let name = String::from_str(alloc, "written report")?;
+    library.add(name, left.report.bytes().to_vec(alloc)?)?;
+    let name = String::from_str(alloc, "written")?;
+    library.add(name, left.out.bytes().to_vec(alloc)?)?;
+    let mut out = MemSink::new(alloc, 100, Vec::new(alloc))?;
+    let words = check_words(alloc)?;
+    let outcome = called_aside(alloc, &words, library, &mut out)?;
+    holds(outcome.status() == 0, case, "the check passes")?;
+    let line = passing(alloc, case)?;
+    let is_same = out.bytes() == line.as_bytes();
+    holds(is_same, case, "the line of the check")
+}
+
+/// So it does with its last stop at each of the calls that it names, if it names several.
+fn tried_at_each(alloc: Global, case: &str) -> Result<(), Fail> {
+    let Some(calls) = stopped_calls(alloc, case)? else {
+        return tried(alloc, case);
+    };
+    holds(calls.from <= calls.to, case, "no call to stop at")?;
+    for call in calls.from..calls.to.saturating_add(1) {
+        let call = format!(in alloc; "{call}")?;
+        tried(alloc, &case.replace(alloc, calls.word, &call)?)?;
+    }
+    Ok(())
+}
+
+/// Each of some cases does, of which each begins with `* `.
+fn all(alloc: Global, cases: &str) -> Result<(), Fail> {
+    for case in cases.split("* ") {
+        if !case.is_empty() {
+            tried_at_each(alloc, case)?;
+        }
+    }
+    Ok(())
+}
+
+#[test]
+fn runs(rt: HostRuntime) -> Result<(), Fail> {
+    all(rt.alloc(), RUNS)
+}
+
+#[test]
+fn guests(rt: HostRuntime) -> Result<(), Fail> {
+    all(rt.alloc(), GUESTS)
+}
+
+#[test]
+fn calls(rt: HostRuntime) -> Result<(), Fail> {
+    all(rt.alloc(), CALLS)
+}
+
+#[test]
+fn answers(rt: HostRuntime) -> Result<(), Fail> {
+    all(rt.alloc(), ANSWERS)
+}
+
+#[test]
+fn checks(rt: HostRuntime) -> Result<(), Fail> {
+    all(rt.alloc(), CHECKS)
+}
+
+#[test]
+fn commands(rt: HostRuntime) -> Result<(), Fail> {
+    all(rt.alloc(), COMMANDS)
+}
+
+#[test]
+fn plans(rt: HostRuntime) -> Result<(), Fail> {
+    all(rt.alloc(), PLANS)
+}
+
+#[test]
+fn schedules(rt: HostRuntime) -> Result<(), Fail> {
+    all(rt.alloc(), SCHEDULES)
+}
+
+#[test]
+fn a_long_schedule(rt: HostRuntime) -> Result<(), Fail> {
+    all(rt.alloc(), LONG)
+}
+
+#[test]
+fn a_schedule_too_long(rt: HostRuntime) -> Result<(), Fail> {
+    all(rt.alloc(), TOO_LONG)
+}
+
+#[test]
+fn stops(rt: HostRuntime) -> Result<(), Fail> {
+    all(rt.alloc(), STOPS)
+}
+
+#[test]
+fn together(rt: HostRuntime) -> Result<(), Fail> {
+    all(rt.alloc(), TOGETHER)
+}
+
+#[test]
+fn committed_together(rt: HostRuntime) -> Result<(), Fail> {
+    all(rt.alloc(), COMMITTED_TOGETHER)
+}
+
+#[test]
+fn decided_together(rt: HostRuntime) -> Result<(), Fail> {
+    all(rt.alloc(), DECIDED_TOGETHER)
+}
+
+#[test]
+fn recovered_together(rt: HostRuntime) -> Result<(), Fail> {
+    all(rt.alloc(), RECOVERED_TOGETHER)
+}
+
+#[test]
+fn sources(rt: HostRuntime) -> Result<(), Fail> {
+    all(rt.alloc(), SOURCES)
+}
+
+/// A file cut off at each place is refused for the first thing that is missing.
+#[test]
+fn files_cut_off(rt: HostRuntime) -> Result<(), Fail> {
+    for cut in 0..116u32 {
+        let fault = if cut < 52 {
+            "short"
+        } else if cut < 84 {
+            "headers"
+        } else {
+            "segment 0"
+        };
+        let case = format!(in rt.alloc();
+            "cut\ncut={cut}\nstatus=4\nsaid=dc: guest 0 refused: {fault}~\n"
+        )?;
+        tried(rt.alloc(), &case)?;
+    }
+    Ok(())
+}
+
+/// A report's sink of any room holds a front of the report. No report is shorter than its first and its last line: 12 and 14 bytes.
+#[test]
+fn reports_cut_off(rt: HostRuntime) -> Result<(), Fail> {
+    for room in 0..26u32 {
+        let ran = format!(in rt.alloc();
+            "ran\nreport_room={room}\nstatus=8\nsaid=dc: sink failed: report~\nout=out 0 0 6869~end 0 1 0~\nacts=0-6\nclose=close 0 7 7 2\n"
+        )?;
+        tried(rt.alloc(), &ran)?;
+        let idle = format!(in rt.alloc();
+            "idle\nschedule=\nreport_room={room}\nstatus=8\nsaid=dc: sink failed: report~\nclose=close 1 0 0 0\n"
+        )?;
+        tried(rt.alloc(), &idle)?;
+    }
+    Ok(())
+}
+
+/// A report that is cut off lacks its close line, or ends in a line without its line feed.
+#[test]
+fn checked_reports_cut_off(rt: HostRuntime) -> Result<(), Fail> {
+    let report = "dc-report 1~act 0 0 plain~act 1 0 plain~close 1 2 2 0~";
+    for cut in 0..report.len() {
+        let Some(front) = report.get(..cut) else {
+            return Err(Fail::new("a front"));
+        };
+        let line = front.split("~").count();
+        let kind = if front.is_empty() || front.ends_with("~") {
+            "cut"
+        } else {
+            "form"
+        };
+        let case = format!(in rt.alloc();
+            "cut\nwords=dc check plan report output\nreport={front}\noutput=\nstatus=13\nsaid=dc: report line {line} refused: {kind}~\n"
+        )?;
+        tried(rt.alloc(), &case)?;
+    }
+    Ok(())
+}
+
+/// An output that is cut off differs where its line is cut off, or where the next is missing. The last line feed may be missing.
+#[test]
+fn checked_outputs_cut_off(rt: HostRuntime) -> Result<(), Fail> {
+    let output = "out 0 0 6869~end 0 1 0~";
+    for cut in 0..output.len() - 1 {
+        let Some(front) = output.get(..cut) else {
+            return Err(Fail::new("a front"));
+        };
+        let line = if cut < 12 { 1 } else { 2 };
+        let case = format!(in rt.alloc();
+            "cut\nwords=dc check plan report output\nreport=%close 0 7 7 2~\noutput={front}\nstatus=9\nsaid=dc: differs: line {line}~\n"
+        )?;
+        tried(rt.alloc(), &case)?;
+    }
+    Ok(())
+}
+
+/// A report with one byte changed is refused in the line of that byte.
+#[test]
+fn checked_reports_changed(rt: HostRuntime) -> Result<(), Fail> {
+    let report = "dc-report 1~act 0 0 plain~act 1 0 plain~close 1 2 2 0~";
+    for place in 0..report.len() {
+        let (Some(front), Some(rest)) = (report.get(..place), report.get(place + 1..)) else {
+            return Err(Fail::new("two parts"));
+        };
+        let line = front.split("~").count();
+        let case = format!(in rt.alloc();
+            "changed\nwords=dc check plan report output\nreport={front}x{rest}\noutput=\nstatus=13\nsaid=dc: report line {line} refused: form~\n"
+        )?;
+        tried(rt.alloc(), &case)?;
+    }
+    Ok(())
+}

@@ -1,0 +1,87 @@
+//! Logged events and their texts. A text of words is given by those that are not 0, as in the tests of kernels.
+
+use super::set;
+use crate::holding::holds;
+use dc_kernel::{LogRecord, RECORD_WORDS};
+use dc_links::Message;
+use std::test::Fail;
+
+/// Of two processes: an input of two bytes, no input, the end of the input, a message from process 1 that fills its slot, none.
+const TEXTS: &str = "\
+0=7 1=3 2=1 4=2 5=6968
+1=3
+0=ffffffff 1=3 2=2
+0=8 1=7 2=1 3=1 4=40 5=4030201 6=8070605 7=c0b0a09 8=100f0e0d 9=14131211 10=18171615 11=1c1b1a19 12=201f1e1d 13=24232221 14=28272625 15=2c2b2a29 16=302f2e2d 17=34333231 18=38373635 19=3c3b3a39 20=403f3e3d
+1=7
+";
+
+/// No events: of another call, of none, with another answer, from a process that there is not, with a body of 65 bytes.
+const NONE: &str = "\
+1=4
+0=1
+1=3 2=3
+1=7 3=2
+1=3 4=41
+";
+
+/// What is behind the bytes of a body counts for nothing.
+const BEHIND: &str = "1=3 2=1 4=1 5=ffffff61 20=ffffffff";
+
+fn text_of(places: &str) -> Result<[u32; RECORD_WORDS], Fail> {
+    let mut text = [0; RECORD_WORDS];
+    set(&mut text, places)?;
+    Ok(text)
+}
+
+fn decoded(places: &str) -> Result<Option<LogRecord>, Fail> {
+    Ok(LogRecord::decode(2, &text_of(places)?))
+}
+
+/// The event that a text tells, whose text is this one again.
+fn there_and_back(places: &str) -> Result<(), Fail> {
+    let Some(rec) = decoded(places)? else {
+        return Err(Fail::new(places));
+    };
+    let mut text = [9; RECORD_WORDS];
+    rec.encode(&mut text);
+    holds(text == text_of(places)?, places)
+}
+
+#[test]
+fn texts_are_read_as_written() -> Result<(), Fail> {
+    for places in TEXTS.lines() {
+        there_and_back(places)?;
+    }
+    Ok(())
+}
+
+#[test]
+fn other_words_are_no_events() -> Result<(), Fail> {
+    for places in NONE.lines() {
+        holds(decoded(places)?.is_none(), places)?;
+    }
+    Ok(())
+}
+
+fn is_input(rec: &LogRecord) -> bool {
+    rec.position == 7 && rec.event == 3 && rec.answer == 1 && rec.sender == 0
+}
+
+#[test]
+fn an_input_is_told() -> Result<(), Fail> {
+    match decoded("0=7 1=3 2=1 4=2 5=6968")? {
+        Some(rec) => holds(
+            is_input(&rec) && rec.body == Message::new(b"hi"),
+            "an input",
+        ),
+        None => Err(Fail::new("no input")),
+    }
+}
+
+#[test]
+fn only_the_bytes_of_a_body_count() -> Result<(), Fail> {
+    match decoded(BEHIND)? {
+        Some(rec) => holds(rec.body == Message::new(b"a"), BEHIND),
+        None => Err(Fail::new(BEHIND)),
+    }
+}

@@ -1,4 +1,0 @@
-use Rattle.dc_vista.proofs.tests.hostile.put_run.Given as goal
-
-abbrev pub invariant-loop-k : goal.invariant-loop-k
-invariant-loop-k g l = g.T.Trial.fits l.trial
