@@ -2,7 +2,7 @@
 //! device of such a process takes, made by a plain loop.
 
 ghost use Rattle.std.specs.Prelude.{◌≡◌, ◌<◌, ◌≤◌, ◌+◌, ◌-◌, ◌*◌, ◌^◌, IfSome, OnOk, length};
-ghost use Rattle.dc_checkpoint.specs.Calls.{IsSameStore};
+ghost use Rattle.dc_checkpoint.specs.Handles.{IsSame};
 ghost use Rattle.dc_proc.specs.Events.{HasCountsFor};
 ghost use Rattle.dc_proc.specs.Ups.{IsFit};
 
@@ -31,7 +31,7 @@ fn write<C: Checkpoint>(
     requires size { 4 ≤ C.size store.old }
     requires lent { C.lent store.old dev.old }
     requires ready { C.ready store.old dev.old }
-    ensures same { IsSameStore C.place C.size C.form store.old store.new }
+    ensures same { IsSame C.Checkpoint store.old store.new }
     ensures lent { C.lent store.new dev.new }
     ensures ready { OnOk result (C.ready store.new dev.new) }
     ensures number { OnOk result ((C.number store.new ≡ C.number store.old) × (C.logged store.new ≡ C.logged store.old)) }

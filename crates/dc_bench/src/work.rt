@@ -1,7 +1,7 @@
 //! What is measured: loads of a store and of a vector, and commits after so many lines were stored to.
 
 ghost use Rattle.std.specs.Prelude.{◌≡◌, ◌+◌, ◌*◌, ◌<◌, ◌≤◌, ◌^◌, IfOk, IfSome, OnOk, length};
-ghost use Rattle.dc_checkpoint.specs.Calls.{IsSameStore};
+ghost use Rattle.dc_checkpoint.specs.Handles.{IsSame};
 ghost use Rattle.dc_kernel.specs.Layout.{kernel_words};
 
 use dc_checkpoint::Checkpoint;
@@ -40,7 +40,7 @@ fn touch<C: Checkpoint>(store: &mut C, dev: &mut C::Device, lines: u32) -> Resul
     requires lines { 16 * lines ≤ C.size store.old }
     requires lent { C.lent store.old dev.old }
     requires ready { C.ready store.old dev.old }
-    ensures same { IsSameStore C.place C.size C.form store.old store.new }
+    ensures same { IsSame C.Checkpoint store.old store.new }
     ensures lent { C.lent store.new dev.new }
     ensures ready { OnOk result (C.ready store.new dev.new) }
     ensures number { OnOk result (C.number store.new ≡ C.number store.old) }
@@ -67,7 +67,7 @@ fn commit<C: Checkpoint>(
     requires long { length text.old ≡ kernel_words kernel.old.n }
     requires number { C.number store.old ≡ kernel.old.commit }
     requires more { kernel.old.commit + 1 < 2 ^ 32 }
-    ensures same { IsSameStore C.place C.size C.form store.old store.new }
+    ensures same { IsSame C.Checkpoint store.old store.new }
     ensures lent { C.lent store.new dev.new }
     ensures ready { OnOk result (C.ready store.new dev.new) }
     ensures process { (kernel.new.n ≡ kernel.old.n) × (kernel.new.p ≡ kernel.old.p) }

@@ -1,7 +1,9 @@
 -- What an image of a store may stand for: a state of its process, or the refusal that a recovery would answer.
-use Rattle.std.specs.Prelude.{◌≡◌, ◌<◌, ◌≤◌, ◌++◌, ℕ, List, [], ◌∷◌, Option, None, Some, Result, Ok, Err, slice_index}
+use Rattle.std.specs.Prelude.{◌≡◌, ◌<◌, ◌≤◌, ◌++◌, ℕ, All, List, [], ◌∷◌, Option, None, Some, Result, Ok, Err, length, slice_index, vec_capacity}
 use Rattle.dc_kernel.specs.Faults.{kernel_fault}
+use Rattle.dc_kernel.specs.Kernels.{IsKernel}
 use Rattle.dc_kernel.specs.Layout.{commit_at, n_at, p_at}
+use Rattle.dc_kernel.specs.Records.{IsRecord}
 use Rattle.dc_kernel.specs.Texts.{text_of}
 use Rattle.dc_kernel.specs.declared.faults.StoreFault.{StoreFault}
 use Rattle.dc_kernel.specs.declared.records.LogRecord.{LogRecord}
@@ -66,3 +68,16 @@ pub record IsGiven (memory : Option (List ℕ)) (saved : Saved) (state : State) 
 abbrev pub Gives : Option (List ℕ) → Saved → Reading → Type 0
 Gives memory saved (Ok state) = IsGiven memory saved state
 Gives memory saved (Err fault) = ⊥
+
+-- what a recovery is to fill: a kernel of that process, and room for the log
+pub record IsFit (form : Form) (saved : Saved) : Type 0 where
+  pub n : saved.kernel.n ≡ form.n
+  pub p : saved.kernel.p ≡ form.p
+  pub room : 64 ≤ vec_capacity saved.log
+
+-- what a recovery hands out is what a process may have saved: its kernel, and events that can be logged, as many as there is room for
+pub record IsRead (form : Form) (saved : Saved) : Type 0 where
+  pub kernel : IsKernel form.n form.p saved.kernel
+  pub few : length saved.log.items ≤ 64
+  pub records : All (IsRecord form.n) saved.log.items
+  pub position : saved.position ≡ saved.kernel.position

@@ -1,14 +1,13 @@
-ghost use Rattle.std.specs.Prelude.{◌≡◌, ◌≢◌, ◌⊎◌, ◌<◌, ◌≤◌, ◌+◌, ◌*◌, ℕ, List, Option, Ok, Err, false, length, IfOk, IfSome, IsErrOf, IsSome, OnOk, slice_index, slice_set, vec_capacity};
+ghost use Rattle.std.specs.Prelude.{All, ◌≡◌, ◌≢◌, ◌⊎◌, ◌<◌, ◌≤◌, ◌+◌, ◌*◌, ℕ, List, Option, Ok, Err, false, length, IfOk, IfSome, IsErrOf, IsSome, OnOk, slice_index, slice_set, vec_capacity};
 ghost use Rattle.dc_media.specs.Told.{Becomes};
-ghost use Rattle.dc_kernel.specs.Kernels.{IsKernel};
 ghost use Rattle.dc_kernel.specs.Records.{IsRecord};
 ghost use Rattle.dc_words.specs.Words.{masked};
-ghost use Rattle.dc_checkpoint.specs.Calls.{AreAll, AreAmong, AreBelow, AreNoHigher, IsCounted, IsMaking, IsSameStore, IsUnrefused, Narrows};
-ghost use Rattle.dc_checkpoint.specs.States.{Form, Gives, IsForm, IsLogged, IsSaved, IsText, Reading, form_in, number_in, unlogged};
+ghost use Rattle.dc_checkpoint.specs.Calls.{AddsNothing, AreAll, AreAmong, AreBelow, AreNoHigher, FallsStore, IsCall, IsHandle, IsMaking, IsSameStore, IsUnrefused, KeepsNumbers, Narrows, Touches, always, device, handle, on, showing};
+ghost use Rattle.dc_checkpoint.specs.States.{Form, Gives, IsFit, IsForm, IsLogged, IsRead, IsSaved, IsText, Reading, State, form_in, number_in, unlogged};
 
 use dc_kernel::{CheckFault, LogRecord, Saved, StoreFault};
 use dc_media::{MakeFault, STORES};
-use std::alloc::Global;
+use std::alloc::{AllocError, Global};
 
 /// A recoverable store of one process's state: its memory in words, the text of its kernel, and the events that were logged since
 /// its last commit. It lies on a device that is lent to each call.
@@ -36,6 +35,9 @@ pub trait Checkpoint: Sized {
     /// Whose it is.
     ghost form: { Self → Form };
 
+    /// The state that it stands for where it was never made: the one with which its handle was made.
+    ghost first: { Self → State };
+
     /// The number of its last commit.
     ghost number: { Self → ℕ };
 
@@ -44,6 +46,9 @@ pub trait Checkpoint: Sized {
 
     /// Of decided numbers below this one nothing is said.
     ghost floor: { Self → ℕ };
+
+    /// The device of this number has a store for a memory of so many words and a process, or may have one, as a handle over it needs it.
+    ghost fits: { Self.Device → ℕ → ℕ → Form → Type 0 };
 
     /// What the handle needs of the lent device at each call.
     ghost lent: { Self → Self.Device → Type 0 };
@@ -99,18 +104,33 @@ pub trait Checkpoint: Sized {
         requires text { IsText (form_in kernel.items) kernel.items }
         requires number { 1 ≤ number_in kernel.items }
         requires pages { (pages : ℕ) × (length memory.items ≡ 1024 * pages) × (pages ≤ 256) }
-        ensures same { IfOk result (λ made. (place made.0 ≡ p) × (size made.0 ≡ length memory.items) × (form made.0 ≡ form_in kernel.items)) }
-        ensures lent { IfOk result (λ made. lent made.0 dev.new) }
+        ensures handle { IfOk result (λ made. IsHandle (showing (device told stops faults untouched continues) (handle place size form first floor) lent leaves numbers steady) p memory.items kernel.items made.0 dev.new) }
         ensures ready { IfOk result (λ made. made.1 ≡ false → ready made.0 dev.new) }
         ensures memory { IfOk result (λ made. made.1 ≡ false → IfSome (contents made.0 dev.new) (λ words. words ≡ memory.items)) }
         ensures number { IfOk result (λ made. made.1 ≡ false → (number made.0 ≡ number_in kernel.items) × (logged made.0 ≡ 0)) }
-        ensures floor { IfOk result (λ made. floor made.0 ≡ 0) }
         ensures stands { IfOk result (λ made. (d : ℕ) (reading : Reading) → leaves made.0 dev.new d reading → reading ≡ Ok (unlogged memory.items kernel.items)) }
         ensures numbers { IfOk result (λ made. AreAll 0 (numbers made.0 dev.new)) }
         ensures steady { IfOk result (λ made. steady made.0 dev.new) }
-        ensures counts { IsMaking told stops faults p dev.old dev.new result }
+        ensures counts { IsMaking (device told stops faults untouched continues) p dev.old dev.new result }
         ensures others { (q : ℕ) → q ≢ p → untouched dev.old dev.new q }
         ensures continues { continues dev.old dev.new };
+
+    /// A handle over the store that is there, whoever made it. It makes no call of the device; a recovery is owed.
+    fn attach(
+        alloc: Global,
+        dev: &Self::Device,
+        p: u32,
+        memory: Vec<u32>,
+        kernel: Vec<u32>,
+    ) -> Result<Self, AllocError>
+        requires place { p < STORES }
+        requires form { IsForm (form_in kernel.items) }
+        requires process { (form_in kernel.items).p ≡ p }
+        requires text { IsText (form_in kernel.items) kernel.items }
+        requires number { 1 ≤ number_in kernel.items }
+        requires pages { (pages : ℕ) × (length memory.items ≡ 1024 * pages) × (pages ≤ 256) }
+        requires there { fits dev.now p (length memory.items) (form_in kernel.items) }
+        ensures handle { IfOk result (λ c. IsHandle (showing (device told stops faults untouched continues) (handle place size form first floor) lent leaves numbers steady) p memory.items kernel.items c dev.now) };
 
     /// The memory's word at an index.
     fn load(&self, dev: &Self::Device, i: u32) -> u32
@@ -124,20 +144,11 @@ pub trait Checkpoint: Sized {
         requires at { i < size self.old }
         requires lent { lent self.old dev.old }
         requires ready { ready self.old dev.old }
-        ensures same { IsSameStore place size form self.old self.new }
-        ensures lent { lent self.new dev.new }
+        ensures call { IsCall (showing (device told stops faults untouched continues) (handle place size form first floor) lent leaves numbers steady) (on self.old dev.old) (on self.new dev.new) result }
+        ensures adds_nothing { AddsNothing (showing (device told stops faults untouched continues) (handle place size form first floor) lent leaves numbers steady) (on self.old dev.old) (on self.new dev.new) }
         ensures ready { OnOk result (ready self.new dev.new) }
         ensures memory { OnOk result (Becomes (contents self.old dev.old) (contents self.new dev.new) (λ before after. after ≡ slice_set before i (masked (slice_index before i) w mask))) }
-        ensures number { OnOk result ((number self.new ≡ number self.old) × (logged self.new ≡ logged self.old)) }
-        ensures floor { floor self.new ≤ floor self.old }
-        ensures stands { Narrows (floor self.old) (leaves self.old dev.old) (leaves self.new dev.new) }
-        ensures steady { steady self.old dev.old → steady self.new dev.new }
-        ensures numbers { steady self.old dev.old → AreAmong (numbers self.old dev.old) (numbers self.new dev.new) }
-        ensures no_higher { AreNoHigher (numbers self.old dev.old) (numbers self.new dev.new) }
-        ensures unrefused { IsUnrefused result }
-        ensures counts { IsCounted told stops faults (place self.old) dev.old dev.new result }
-        ensures others { (q : ℕ) → q ≢ place self.old → untouched dev.old dev.new q }
-        ensures continues { continues dev.old dev.new };
+        ensures number { OnOk result ((number self.new ≡ number self.old) × (logged self.new ≡ logged self.old)) };
 
     /// Commits the memory as it is now, with this text of the kernel and nothing logged. Refused, each image stands for the old
     /// state or the new one.
@@ -146,19 +157,12 @@ pub trait Checkpoint: Sized {
         requires ready { ready self.old dev.old }
         requires text { IsText (form self.old) kernel.now }
         requires number { number self.old < number_in kernel.now }
-        ensures same { IsSameStore place size form self.old self.new }
-        ensures lent { lent self.new dev.new }
+        ensures call { IsCall (showing (device told stops faults untouched continues) (handle place size form first floor) lent leaves numbers steady) (on self.old dev.old) (on self.new dev.new) result }
         ensures ready { OnOk result (ready self.new dev.new) }
         ensures memory { OnOk result (Becomes (contents self.old dev.old) (contents self.new dev.new) (λ before after. after ≡ before)) }
         ensures number { OnOk result ((number self.new ≡ number_in kernel.now) × (logged self.new ≡ 0)) }
-        ensures floor { floor self.new ≤ floor self.old }
         ensures stands { OnOk result ((d : ℕ) (reading : Reading) → floor self.old ≤ d → leaves self.new dev.new d reading → IsSaved (contents self.old dev.old) kernel.now reading) }
-        ensures between { (d : ℕ) (reading : Reading) → floor self.old ≤ d → leaves self.new dev.new d reading → leaves self.old dev.old d reading ⊎ IsSaved (contents self.old dev.old) kernel.now reading }
-        ensures no_higher { AreNoHigher (numbers self.old dev.old) (numbers self.new dev.new) }
-        ensures unrefused { IsUnrefused result }
-        ensures counts { IsCounted told stops faults (place self.old) dev.old dev.new result }
-        ensures others { (q : ℕ) → q ≢ place self.old → untouched dev.old dev.new q }
-        ensures continues { continues dev.old dev.new };
+        ensures between { (d : ℕ) (reading : Reading) → floor self.old ≤ d → leaves self.new dev.new d reading → leaves self.old dev.old d reading ⊎ IsSaved (contents self.old dev.old) kernel.now reading };
 
     /// Logs an event. Refused, each image stands for the state without it or with it.
     fn append_log(&mut self, dev: &mut Self::Device, rec: &LogRecord) -> Result<(), CheckFault>
@@ -166,21 +170,13 @@ pub trait Checkpoint: Sized {
         requires ready { ready self.old dev.old }
         requires record { IsRecord (form self.old).n rec.now }
         requires room { logged self.old < 64 }
-        ensures same { IsSameStore place size form self.old self.new }
-        ensures lent { lent self.new dev.new }
+        ensures call { IsCall (showing (device told stops faults untouched continues) (handle place size form first floor) lent leaves numbers steady) (on self.old dev.old) (on self.new dev.new) result }
+        ensures decided_stays { KeepsNumbers (showing (device told stops faults untouched continues) (handle place size form first floor) lent leaves numbers steady) always (on self.old dev.old) (on self.new dev.new) }
         ensures ready { OnOk result (ready self.new dev.new) }
         ensures memory { OnOk result (Becomes (contents self.old dev.old) (contents self.new dev.new) (λ before after. after ≡ before)) }
         ensures number { OnOk result ((number self.new ≡ number self.old) × (logged self.new ≡ logged self.old + 1)) }
-        ensures floor { floor self.new ≤ floor self.old }
         ensures stands { OnOk result ((d : ℕ) (reading : Reading) → floor self.old ≤ d → leaves self.new dev.new d reading → IsLogged (leaves self.old dev.old d) rec.now reading) }
-        ensures between { (d : ℕ) (reading : Reading) → floor self.old ≤ d → leaves self.new dev.new d reading → leaves self.old dev.old d reading ⊎ IsLogged (leaves self.old dev.old d) rec.now reading }
-        ensures steady { steady self.old dev.old → steady self.new dev.new }
-        ensures numbers { steady self.old dev.old → AreAmong (numbers self.old dev.old) (numbers self.new dev.new) }
-        ensures no_higher { AreNoHigher (numbers self.old dev.old) (numbers self.new dev.new) }
-        ensures unrefused { IsUnrefused result }
-        ensures counts { IsCounted told stops faults (place self.old) dev.old dev.new result }
-        ensures others { (q : ℕ) → q ≢ place self.old → untouched dev.old dev.new q }
-        ensures continues { continues dev.old dev.new };
+        ensures between { (d : ℕ) (reading : Reading) → floor self.old ≤ d → leaves self.new dev.new d reading → leaves self.old dev.old d reading ⊎ IsLogged (leaves self.old dev.old d) rec.now reading };
 
     /// Prepares the memory as it is now, with this text of the kernel and nothing logged, under the number `g`: it counts once `g`
     /// is decided. Refused, the old state still counts under each number below.
@@ -189,21 +185,13 @@ pub trait Checkpoint: Sized {
         requires ready { ready self.old dev.old }
         requires text { IsText (form self.old) kernel.now }
         requires number { (number self.old < g) × (number_in kernel.now ≡ g) }
-        ensures same { IsSameStore place size form self.old self.new }
-        ensures lent { lent self.new dev.new }
+        ensures call { IsCall (showing (device told stops faults untouched continues) (handle place size form first floor) lent leaves numbers steady) (on self.old dev.old) (on self.new dev.new) result }
+        ensures decided_stays { KeepsNumbers (showing (device told stops faults untouched continues) (handle place size form first floor) lent leaves numbers steady) (AreBelow g) (on self.old dev.old) (on self.new dev.new) }
         ensures prepared { OnOk result (prepared self.new dev.new g) }
         ensures decidable { OnOk result (decidable self.new dev.new g) }
         ensures memory { OnOk result (Becomes (contents self.old dev.old) (contents self.new dev.new) (λ before after. after ≡ before)) }
-        ensures floor { floor self.new ≤ floor self.old }
         ensures old_state { (d : ℕ) (reading : Reading) → floor self.old ≤ d → d < g → leaves self.new dev.new d reading → leaves self.old dev.old d reading }
-        ensures new_state { OnOk result ((d : ℕ) (reading : Reading) → g ≤ d → leaves self.new dev.new d reading → IsSaved (contents self.old dev.old) kernel.now reading) }
-        ensures steady { steady self.old dev.old → AreBelow g (numbers self.old dev.old) → steady self.new dev.new }
-        ensures numbers { steady self.old dev.old → AreBelow g (numbers self.old dev.old) → AreAmong (numbers self.old dev.old) (numbers self.new dev.new) }
-        ensures no_higher { AreNoHigher (numbers self.old dev.old) (numbers self.new dev.new) }
-        ensures unrefused { IsUnrefused result }
-        ensures counts { IsCounted told stops faults (place self.old) dev.old dev.new result }
-        ensures others { (q : ℕ) → q ≢ place self.old → untouched dev.old dev.new q }
-        ensures continues { continues dev.old dev.new };
+        ensures new_state { OnOk result ((d : ℕ) (reading : Reading) → g ≤ d → leaves self.new dev.new d reading → IsSaved (contents self.old dev.old) kernel.now reading) };
 
     /// Decides on the number `g`, in the store of process 0. Refused, the decided number of each image is an old one or `g`.
     fn decide(&mut self, dev: &mut Self::Device, g: u32) -> Result<(), CheckFault>
@@ -211,10 +199,8 @@ pub trait Checkpoint: Sized {
         requires lent { lent self.old dev.old }
         requires awake { ready self.old dev.old ⊎ prepared self.old dev.old g }
         requires decidable { decidable self.old dev.old g }
-        ensures same { IsSameStore place size form self.old self.new }
-        ensures lent { lent self.new dev.new }
-        ensures ready { OnOk result (ready self.old dev.old → ready self.new dev.new) }
-        ensures prepared { OnOk result (prepared self.old dev.old g → prepared self.new dev.new g) }
+        ensures touches { Touches (showing (device told stops faults untouched continues) (handle place size form first floor) lent leaves numbers steady) (on self.old dev.old) (on self.new dev.new) result }
+        ensures awake { OnOk result ((ready self.old dev.old → ready self.new dev.new) × (prepared self.old dev.old g → prepared self.new dev.new g)) }
         ensures memory { OnOk result (Becomes (contents self.old dev.old) (contents self.new dev.new) (λ before after. after ≡ before)) }
         ensures number { OnOk result ((number self.new ≡ number self.old) × (logged self.new ≡ logged self.old)) }
         ensures floor { floor self.new ≤ floor self.old }
@@ -222,39 +208,28 @@ pub trait Checkpoint: Sized {
         ensures steady { steady self.old dev.old → AreBelow g (numbers self.old dev.old) → steady self.new dev.new }
         ensures decided { OnOk result (AreBelow g (numbers self.old dev.old) → AreAll g (numbers self.new dev.new)) }
         ensures between { (e : ℕ) → numbers self.new dev.new e → numbers self.old dev.old e ⊎ (e ≡ g) }
-        ensures unrefused { IsUnrefused result }
-        ensures counts { IsCounted told stops faults (place self.old) dev.old dev.new result }
-        ensures others { (q : ℕ) → q ≢ place self.old → untouched dev.old dev.new q }
-        ensures continues { continues dev.old dev.new };
+        ensures unrefused { IsUnrefused result };
 
     /// Goes on from the state that was prepared under `g`, once that is decided.
     fn finish(&mut self, dev: &mut Self::Device, g: u32) -> Result<(), CheckFault>
         requires lent { lent self.old dev.old }
         requires prepared { prepared self.old dev.old g }
-        ensures same { IsSameStore place size form self.old self.new }
-        ensures lent { lent self.new dev.new }
+        ensures touches { Touches (showing (device told stops faults untouched continues) (handle place size form first floor) lent leaves numbers steady) (on self.old dev.old) (on self.new dev.new) result }
+        ensures decided_stays { KeepsNumbers (showing (device told stops faults untouched continues) (handle place size form first floor) lent leaves numbers steady) always (on self.old dev.old) (on self.new dev.new) }
         ensures ready { OnOk result (ready self.new dev.new) }
         ensures memory { OnOk result (Becomes (contents self.old dev.old) (contents self.new dev.new) (λ before after. after ≡ before)) }
         ensures number { OnOk result ((number self.new ≡ g) × (logged self.new ≡ 0)) }
         ensures floor { OnOk result (floor self.new ≤ g) }
         ensures stands { Narrows g (leaves self.old dev.old) (leaves self.new dev.new) }
-        ensures steady { steady self.old dev.old → steady self.new dev.new }
-        ensures numbers { steady self.old dev.old → AreAmong (numbers self.old dev.old) (numbers self.new dev.new) }
         ensures no_higher { AreNoHigher (numbers self.old dev.old) (numbers self.new dev.new) }
-        ensures unrefused { IsUnrefused result }
-        ensures counts { IsCounted told stops faults (place self.old) dev.old dev.new result }
-        ensures others { (q : ℕ) → q ≢ place self.old → untouched dev.old dev.new q }
-        ensures continues { continues dev.old dev.new };
+        ensures unrefused { IsUnrefused result };
 
     /// The decided number that the store of process 0 holds, the same in each image from now on; 0 where nothing was decided.
     fn decided(&mut self, dev: &mut Self::Device) -> Result<u32, CheckFault>
         requires first { (form self.old).p ≡ 0 }
         requires lent { lent self.old dev.old }
-        ensures same { IsSameStore place size form self.old self.new }
-        ensures lent { lent self.new dev.new }
-        ensures ready { OnOk result (ready self.old dev.old → ready self.new dev.new) }
-        ensures prepared { OnOk result ((g : ℕ) → prepared self.old dev.old g → prepared self.new dev.new g) }
-        ensures decidable { OnOk result ((g : ℕ) → decidable self.old dev.old g → decidable self.new dev.new g) }
+        ensures touches { Touches (showing (device told stops faults untouched continues) (handle place size form first floor) lent leaves numbers steady) (on self.old dev.old) (on self.new dev.new) result }
+        ensures awake { OnOk result ((ready self.old dev.old → ready self.new dev.new) × ((g : ℕ) → prepared self.old dev.old g → prepared self.new dev.new g) × ((g : ℕ) → decidable self.old dev.old g → decidable self.new dev.new g)) }
         ensures memory { OnOk result (Becomes (contents self.old dev.old) (contents self.new dev.new) (λ before after. after ≡ before)) }
         ensures number { OnOk result ((number self.new ≡ number self.old) × (logged self.new ≡ logged self.old)) }
         ensures floor { floor self.new ≤ floor self.old }
@@ -262,10 +237,7 @@ pub trait Checkpoint: Sized {
         ensures stands { Narrows 0 (leaves self.old dev.old) (leaves self.new dev.new) }
         ensures steady { steady self.old dev.old → steady self.new dev.new }
         ensures numbers { AreAmong (numbers self.old dev.old) (numbers self.new dev.new) }
-        ensures unrefused { IsUnrefused result }
-        ensures counts { IsCounted told stops faults (place self.old) dev.old dev.new result }
-        ensures others { (q : ℕ) → q ≢ place self.old → untouched dev.old dev.new q }
-        ensures continues { continues dev.old dev.new };
+        ensures unrefused { IsUnrefused result };
 
     /// Reads what the store stands for under a decided number, and leaves it standing for that, whatever the device holds and
     /// whoever wrote it. Where its content is no checkpoint it says why: exactly what the store stands for.
@@ -276,34 +248,21 @@ pub trait Checkpoint: Sized {
         saved: &mut Saved,
     ) -> Result<(), CheckFault>
         requires lent { lent self.old dev.old }
-        requires process { (saved.old.kernel.n ≡ (form self.old).n) × (saved.old.kernel.p ≡ (form self.old).p) }
-        requires room { 64 ≤ vec_capacity saved.old.log }
-        ensures same { IsSameStore place size form self.old self.new }
-        ensures lent { lent self.new dev.new }
-        ensures process { (saved.new.kernel.n ≡ saved.old.kernel.n) × (saved.new.kernel.p ≡ saved.old.kernel.p) }
-        ensures room { 64 ≤ vec_capacity saved.new.log }
-        ensures ready { OnOk result (ready self.new dev.new) }
+        requires fit { IsFit (form self.old) saved.old }
+        ensures touches { Touches (showing (device told stops faults untouched continues) (handle place size form first floor) lent leaves numbers steady) (on self.old dev.old) (on self.new dev.new) result }
+        ensures decided_stays { KeepsNumbers (showing (device told stops faults untouched continues) (handle place size form first floor) lent leaves numbers steady) (AreAll decided) (on self.old dev.old) (on self.new dev.new) }
+        ensures fit { IsFit (form self.old) saved.new }
+        ensures ready { OnOk result (ready self.new dev.new × (floor self.new ≤ decided)) }
         ensures gives { OnOk result ((reading : Reading) → leaves self.new dev.new decided reading → Gives (contents self.new dev.new) saved.new reading) }
-        ensures kernel { OnOk result (IsKernel (form self.old).n (form self.old).p saved.new.kernel) }
+        ensures read { OnOk result (IsRead (form self.old) saved.new) }
         ensures number { OnOk result ((number self.new ≡ saved.new.kernel.commit) × (logged self.new ≡ length saved.new.log.items)) }
-        ensures log { OnOk result ((length saved.new.log.items ≤ 64) × (saved.new.position ≡ saved.new.kernel.position)) }
-        ensures floor { OnOk result (floor self.new ≤ decided) }
         ensures stands { (reading : Reading) → leaves self.new dev.new decided reading → leaves self.old dev.old decided reading }
-        ensures refused { (fault : StoreFault) → IsErrOf result (CheckFault.Refused fault) → (reading : Reading) → leaves self.old dev.old decided reading → reading ≡ Err fault }
-        ensures steady { steady self.old dev.old → AreAll decided (numbers self.old dev.old) → steady self.new dev.new }
-        ensures numbers { steady self.old dev.old → AreAll decided (numbers self.old dev.old) → AreAmong (numbers self.old dev.old) (numbers self.new dev.new) }
-        ensures no_higher { AreNoHigher (numbers self.old dev.old) (numbers self.new dev.new) }
-        ensures counts { IsCounted told stops faults (place self.old) dev.old dev.new result }
-        ensures others { (q : ℕ) → q ≢ place self.old → untouched dev.old dev.new q }
-        ensures continues { continues dev.old dev.new };
+        ensures refused { (fault : StoreFault) → IsErrOf result (CheckFault.Refused fault) → (reading : Reading) → leaves self.new dev.new decided reading → reading ≡ Err fault }
+        ensures no_higher { AreNoHigher (numbers self.old dev.old) (numbers self.new dev.new) };
 
     /// Drops what is volatile. It makes no call of the device, and a recovery is owed.
     fn fall(&mut self)
-        ensures same { IsSameStore place size form self.old self.new }
-        ensures lent { (dev : Self.Device) → lent self.old dev → lent self.new dev }
-        ensures stands { (dev : Self.Device) → Narrows 0 (leaves self.old dev) (leaves self.new dev) }
-        ensures steady { (dev : Self.Device) → steady self.old dev → steady self.new dev }
-        ensures numbers { (dev : Self.Device) → AreAmong (numbers self.old dev) (numbers self.new dev) };
+        ensures falls { FallsStore (showing (device told stops faults untouched continues) (handle place size form first floor) lent leaves numbers steady) self.old self.new };
 
     /// A ready store stands for the same under each decided number from its floor on.
     ghost settled: { (c : Self) (dev : Self.Device) → ready c dev → (d e : ℕ) (reading : Reading) → floor c ≤ d → floor c ≤ e → leaves c dev d reading → leaves c dev e reading };
@@ -322,6 +281,15 @@ pub trait Checkpoint: Sized {
 
     /// A ready store on a told device tells its memory.
     ghost told_contents: { (c : Self) (dev : Self.Device) → ready c dev → told dev (place c) → IsSome (contents c dev) };
+
+    /// Two handles over one store stand for the same.
+    ghost leaves_alike: { (c e : Self) (dev : Self.Device) → IsSameStore (showing (device told stops faults untouched continues) (handle place size form first floor) lent leaves numbers steady) c e → (d : ℕ) (reading : Reading) → leaves c dev d reading → leaves e dev d reading };
+
+    /// And they have the same decided numbers.
+    ghost numbers_alike: { (c e : Self) (dev : Self.Device) → IsSameStore (showing (device told stops faults untouched continues) (handle place size form first floor) lent leaves numbers steady) c e → (d : ℕ) → numbers c dev d → numbers e dev d };
+
+    /// What one was lent another may be.
+    ghost lent_fits: { (c : Self) (dev : Self.Device) → lent c dev → fits dev (place c) (size c) (form c) };
 
     /// A device is as it was where nothing was called.
     ghost untouched_self: { (dev : Self.Device) (q : ℕ) → untouched dev dev q };

@@ -51,6 +51,7 @@ module _ {C D : Type 0} (g : checkpoint.Ghosts C D) (laws : Laws g) (quiet : Qui
     -- and decided as they are
     are_decided : AreDecided g (over old x) → AreDecided g (over new x)
     are_decided is = record {
+      least = is.least;
       steady = steady_still (store_of x 0) is.steady;
       saved = λ d p s number inside l. is.saved d p s (numbers_still (store_of x 0) d number) inside (leaves_still (store_of x p) d (Ok s) l);
       held = λ d p number inside on. is.held d p (numbers_still (store_of x 0) d number) inside on;

@@ -1,29 +1,33 @@
 -- What stores over a lent memory come to.
 use Rattle.std.proofs.Common.{◌≡◌, ◌∙◌, ℕ, List, [], ◌∷◌, refl, sym, ap, subst, ⊎_elim, Ok, Err, IfErr, OnOk, Result}
+use Rattle.dc_checkpoint.specs.Calls.{IsCall, Moment}
+use Rattle.dc_checkpoint.specs.Handles.{showing_of}
 use Rattle.dc_checkpoint.specs.declared.checkpoint.Checkpoint as checkpoint
 use Rattle.dc_kernel.specs.declared.faults.CheckFault.{CheckFault}
-use Rattle.dc_proc.specs.Calls.{IsCall, Moment, Stores, done, refused}
+use Rattle.dc_proc.specs.Calls.{Stores, done, refused}
 use Rattle.dc_proc.specs.Following.{DeviceLaws, stores_none, stores_then}
 use Rattle.dc_rv32.specs.Stores.{BreakOff, Follow, OnceAtMost}
 
 -- whatever the result carries
 module _ {C D T : Type 0} (g : checkpoint.Ghosts C D) (a b : Moment C D) where
-  pub call_ok : (x : T) → IsCall g a b done → IsCall g a b (Ok x)
+  pub call_ok : (x : T) → IsCall (showing_of g) a b done → IsCall (showing_of g) a b (Ok x)
   call_ok x one = record {
-    same = one.same;
-    lent_still = one.lent_still;
-    floor_less = one.floor_less;
-    no_higher = one.no_higher;
-    counts = record {
-      stops_later = one.counts.stops_later;
-      faults_later = one.counts.faults_later;
-      stopped = λ e. absurd (is_ok e);
-      failed = λ e. absurd (is_ok e);
-      calm = one.counts.calm;
-      tells = one.counts.tells;
+    touches = let was = one.touches in record {
+      same = was.same;
+      lent = was.lent;
+      counts = record {
+        stops_later = was.counts.stops_later;
+        faults_later = was.counts.faults_later;
+        stopped = λ e. absurd (is_ok e);
+        failed = λ e. absurd (is_ok e);
+        calm = was.counts.calm;
+        tells = was.counts.tells;
+      };
+      others = was.others;
+      continues = was.continues;
     };
-    others = one.others;
-    continues = one.continues;
+    floor = one.floor;
+    no_higher = one.no_higher;
     unrefused = λ fault e. is_ok e;
   }
     where
@@ -34,22 +38,24 @@ module _ {C D T : Type 0} (g : checkpoint.Ghosts C D) (a b : Moment C D) where
       is_ok : {why : CheckFault} → Ok x ≡ Err why → ⊥
       is_ok e = subst IsDone e tt
 
-  call_err : (why : CheckFault) → IsCall g a b (refused why) → IsCall {T = T} g a b (Err why)
+  call_err : (why : CheckFault) → IsCall (showing_of g) a b (refused why) → IsCall {T = T} (showing_of g) a b (Err why)
   call_err why one = record {
-    same = one.same;
-    lent_still = one.lent_still;
-    floor_less = one.floor_less;
-    no_higher = one.no_higher;
-    counts = record {
-      stops_later = one.counts.stops_later;
-      faults_later = one.counts.faults_later;
-      stopped = λ e. one.counts.stopped (ap as_done e);
-      failed = λ e. one.counts.failed (ap as_done e);
-      calm = tt;
-      tells = one.counts.tells;
+    touches = let was = one.touches in record {
+      same = was.same;
+      lent = was.lent;
+      counts = record {
+        stops_later = was.counts.stops_later;
+        faults_later = was.counts.faults_later;
+        stopped = λ e. was.counts.stopped (ap as_done e);
+        failed = λ e. was.counts.failed (ap as_done e);
+        calm = tt;
+        tells = was.counts.tells;
+      };
+      others = was.others;
+      continues = was.continues;
     };
-    others = one.others;
-    continues = one.continues;
+    floor = one.floor;
+    no_higher = one.no_higher;
     unrefused = λ fault e. one.unrefused fault (ap as_done e);
   }
     where
@@ -58,10 +64,10 @@ module _ {C D T : Type 0} (g : checkpoint.Ghosts C D) (a b : Moment C D) where
       as_done (Err e) = refused e
 
   stores_ok : (x : T) → Stores g a b done → Stores g a b (Ok x)
-  stores_ok x one = record { call = call_ok x one.call; numbers = one.numbers; stands = one.stands; steady = one.steady; among = one.among }
+  stores_ok x one = record { call = call_ok x one.call; adds_nothing = one.adds_nothing; numbers = one.numbers }
 
   stores_err : (why : CheckFault) → Stores g a b (refused why) → Stores {T = T} g a b (Err why)
-  stores_err why one = record { call = call_err why one.call; numbers = tt; stands = one.stands; steady = one.steady; among = one.among }
+  stores_err why one = record { call = call_err why one.call; adds_nothing = one.adds_nothing; numbers = tt }
 
 -- a memory over a store: two names that stay, and the store with its device
 module _ {B N M C D : Type 0} (g : checkpoint.Ghosts C D) (laws : DeviceLaws g) (first : B → N) (second : B → M) (at : B → Moment C D) where
@@ -78,14 +84,14 @@ module _ {B N M C D : Type 0} (g : checkpoint.Ghosts C D) (laws : DeviceLaws g) 
   -- one after the other
   pub followed : (words : List ℕ) (a b : B) → g.lent (at a).store (at a).dev → Follow (λ x i y. Left x y done) words a b → Left a b done
   followed [] a b is same = subst (λ y. Left a y done) (sym same) (left_none a is)
-  followed (i ∷ words) a b is (between, made, rest) = left_then done a between b made (followed words between b made.2.call.lent_still rest)
+  followed (i ∷ words) a b is (between, made, rest) = left_then done a between b made (followed words between b made.2.call.touches.lent rest)
 
   -- one of them refused
   pub broken : (words : List ℕ) (a b : B) (why : CheckFault) → g.lent (at a).store (at a).dev → BreakOff (λ x i y. Left x y done) (λ x i y why. Left x y (refused why)) words a b why → Left a b (refused why)
   broken [] a b why is off = absurd off
   broken (i ∷ words) a b why is off = ⊎_elim
       (λ now. now)
-      (λ later. left_then (refused why) a later.0 b later.1 (broken words later.0 b why later.1.2.call.lent_still later.2))
+      (λ later. left_then (refused why) a later.0 b later.1 (broken words later.0 b why later.1.2.call.touches.lent later.2))
       off
 
   -- none, or one

@@ -1,11 +1,12 @@
 -- Calls of a store one after the other.
 use Rattle.std.proofs.Common.{◌≡◌, ◌∙◌, ℕ, Ok, Err, Result, refl, arith, OnOk, subst}
 use Rattle.std.proofs.lemmas.Result.{on_ok_weaker}
-use Rattle.dc_checkpoint.specs.Calls.{IsCounted}
+use Rattle.dc_checkpoint.specs.Calls.{IsCall, IsCounted, Moment}
+use Rattle.dc_checkpoint.specs.Handles.{same_start, same_then, showing_of}
 use Rattle.dc_checkpoint.specs.declared.checkpoint.Checkpoint as checkpoint
 use Rattle.dc_kernel.specs.declared.faults.CheckFault.{CheckFault}
 use Rattle.dc_media.specs.Causes.{Rose}
-use Rattle.dc_proc.specs.Calls.{IsCall, Moment, Stores, done}
+use Rattle.dc_proc.specs.Calls.{Stores, done}
 
 -- an Ok
 abbrev IsDone : Result (Unit {0}) CheckFault → Type 0
@@ -24,57 +25,69 @@ pub record DeviceLaws {C D : Type 0} (g : checkpoint.Ghosts C D) : Type 0 where
 
 module _ {C D : Type 0} (g : checkpoint.Ghosts C D) (laws : DeviceLaws g) where
   -- no call
-  pub call_none : (now : Moment C D) → g.lent now.store now.dev → IsCall g now now done
+  pub call_none : (now : Moment C D) → g.lent now.store now.dev → IsCall (showing_of g) now now done
   call_none now is = record {
-    same = record { place_same = refl; size_same = refl; form_same = refl };
-    lent_still = is;
-    floor_less = omega arith;
-    no_higher = λ m below e here. below e here;
-    counts = record {
-      stops_later = omega arith;
-      faults_later = omega arith;
-      stopped = λ e. absurd (never _ e);
-      failed = λ e. absurd (never _ e);
-      calm = (refl, refl);
-      tells = λ s f t. t;
+    touches = record {
+      same = same_start now.store;
+      lent = is;
+      counts = record {
+        stops_later = omega arith;
+        faults_later = omega arith;
+        stopped = λ e. absurd (never _ e);
+        failed = λ e. absurd (never _ e);
+        calm = (refl, refl);
+        tells = λ s f t. t;
+      };
+      others = λ q ne. laws.untouched_self now.dev q;
+      continues = laws.continues_self now.dev;
     };
-    others = λ q ne. laws.untouched_self now.dev q;
-    continues = laws.continues_self now.dev;
+    floor = omega arith;
+    no_higher = λ m below e here. below e here;
     unrefused = λ fault e. never _ e;
   }
 
   -- one call more
-  pub call_then : {T : Type 0} (r : Result T CheckFault) (a b c : Moment C D) → IsCall g a b done → IsCall g b c r → IsCall g a c r
-  call_then r a b c one two = record {
-    same = record { place_same = two.same.place_same ∙ one.same.place_same; size_same = two.same.size_same ∙ one.same.size_same; form_same = two.same.form_same ∙ one.same.form_same };
-    lent_still = two.lent_still;
-    floor_less = let f = one.floor_less in let k = two.floor_less in omega arith;
-    no_higher = λ m below e here. two.no_higher m (λ e2 there. one.no_higher m below e2 there) e here;
-    counts = let t = subst (λ z. IsCounted g.told g.stops g.faults z b.dev c.dev r) one.same.place_same two.counts in record {
-      stops_later = omega (arith, one.counts.calm.0, t.stops_later);
-      faults_later = omega (arith, one.counts.calm.1, t.faults_later);
-      stopped = λ h. subst (λ z. Rose z (g.stops c.dev (g.place a.store))) one.counts.calm.0 (t.stopped h);
-      failed = λ h. subst (λ z. Rose z (g.faults c.dev (g.place a.store))) one.counts.calm.1 (t.failed h);
-      calm = on_ok_weaker r (λ h. (h.0 ∙ one.counts.calm.0, h.1 ∙ one.counts.calm.1)) t.calm;
-      tells = λ s f x. t.tells s f (one.counts.tells (omega (arith, s, t.stops_later)) (omega (arith, f, t.faults_later)) x);
+  pub call_then : {T : Type 0} (r : Result T CheckFault) (a b c : Moment C D) → IsCall (showing_of g) a b done → IsCall (showing_of g) b c r → IsCall (showing_of g) a c r
+  call_then r a b c one two = let before = one.touches in let after = two.touches in record {
+    touches = record {
+      same = same_then before.same after.same;
+      lent = after.lent;
+      counts = let t = subst (λ z. IsCounted (showing_of g).on z b.dev c.dev r) before.same.place_same after.counts in record {
+        stops_later = omega (arith, before.counts.calm.0, t.stops_later);
+        faults_later = omega (arith, before.counts.calm.1, t.faults_later);
+        stopped = λ h. subst (λ z. Rose z (g.stops c.dev (g.place a.store))) before.counts.calm.0 (t.stopped h);
+        failed = λ h. subst (λ z. Rose z (g.faults c.dev (g.place a.store))) before.counts.calm.1 (t.failed h);
+        calm = on_ok_weaker r (λ h. (h.0 ∙ before.counts.calm.0, h.1 ∙ before.counts.calm.1)) t.calm;
+        tells = λ s f x. t.tells s f (before.counts.tells (omega (arith, s, t.stops_later)) (omega (arith, f, t.faults_later)) x);
+      };
+      others = λ q ne. laws.untouched_on a.dev b.dev c.dev q (before.others q ne) (after.others q (λ e. ne (e ∙ before.same.place_same)));
+      continues = laws.continues_on a.dev b.dev c.dev before.continues after.continues;
     };
-    others = λ q ne. laws.untouched_on a.dev b.dev c.dev q (one.others q ne) (two.others q (λ e. ne (e ∙ one.same.place_same)));
-    continues = laws.continues_on a.dev b.dev c.dev one.continues two.continues;
+    floor = let f = one.floor in let k = two.floor in omega arith;
+    no_higher = λ m below e here. two.no_higher m (λ e2 there. one.no_higher m below e2 there) e here;
     unrefused = two.unrefused;
   }
 
   -- no store
   pub stores_none : (now : Moment C D) → g.lent now.store now.dev → Stores g now now done
-  stores_none now is = record { call = call_none now is; numbers = (refl, refl); stands = λ d s h l. l; steady = λ s. s; among = λ s e here. here }
+  stores_none now is = record {
+    call = call_none now is;
+    adds_nothing = record { stands = λ d s h l. l; decided = record { steady = λ s so. s; among = λ s so e here. here } };
+    numbers = (refl, refl);
+  }
 
   -- stores more
   pub stores_then : {T : Type 0} (r : Result T CheckFault) (a b c : Moment C D) → Stores g a b done → Stores g b c r → Stores g a c r
-  stores_then r a b c one two = record {
+  stores_then r a b c one two = let before = one.adds_nothing in let after = two.adds_nothing in record {
     call = call_then r a b c one.call two.call;
+    adds_nothing = record {
+      stands = λ d s h l. before.stands d s h (after.stands d s (let f = one.call.floor in omega arith) l);
+      decided = record {
+        steady = λ s so. after.decided.steady (before.decided.steady s so) tt;
+        among = λ s so e here. before.decided.among s so e (after.decided.among (before.decided.steady s so) tt e here);
+      };
+    };
     numbers = on_ok_weaker r (λ h. (h.0 ∙ one.numbers.0, h.1 ∙ one.numbers.1)) two.numbers;
-    stands = λ d s h l. one.stands d s h (two.stands d s (let f = one.call.floor_less in omega arith) l);
-    steady = λ s. two.steady (one.steady s);
-    among = λ s e here. one.among s e (two.among (one.steady s) e here);
   }
 
 -- stores of which each was done, and what else holds of them

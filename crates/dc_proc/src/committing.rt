@@ -6,7 +6,8 @@ ghost use Rattle.dc_kernel.specs.Kernels.{IsKernel};
 ghost use Rattle.dc_kernel.specs.Layout.{kernel_words};
 ghost use Rattle.dc_kernel.specs.Texts.{text_of};
 ghost use Rattle.dc_media.specs.Told.{Becomes};
-ghost use Rattle.dc_proc.specs.Calls.{IsCall, on};
+ghost use Rattle.dc_checkpoint.specs.Calls.{IsCall, on};
+ghost use Rattle.dc_checkpoint.specs.Handles.{showing_of};
 ghost use Rattle.dc_proc.specs.Carried.{Carries, Leaves, process};
 ghost use Rattle.dc_proc.specs.Processes.{IsCopied, IsNumbered, IsPaired, committed_held, form_of, next_commit};
 ghost use Rattle.dc_proc.specs.Ups.{IsSameUp, IsWhole, held};
@@ -78,7 +79,7 @@ impl Up {
         requires paired { IsPaired (held self.old) (C.form store.old) (C.number store.old) (C.logged store.old) }
         requires number { self.old.kernel.commit < 2 ^ 32 - 1 }
         requires whole { IsWhole self.old }
-        ensures call { IsCall C.Checkpoint (on store.old dev.old) (on store.new dev.new) result }
+        ensures call { IsCall (showing_of C.Checkpoint) (on store.old dev.old) (on store.new dev.new) result }
         ensures ready { OnOk result (C.ready store.new dev.new) }
         ensures paired { OnOk result (IsPaired (held self.new) (C.form store.new) (C.number store.new) (C.logged store.new)) }
         ensures memory { OnOk result (Becomes (C.contents store.old dev.old) (C.contents store.new dev.new) (λ before after. after ≡ before)) }
@@ -111,7 +112,7 @@ impl Up {
         requires paired { IsPaired (held self.old) (C.form store.old) (C.number store.old) (C.logged store.old) }
         requires number { self.old.kernel.commit < 2 ^ 32 - 1 }
         requires whole { IsWhole self.old }
-        ensures call { IsCall C.Checkpoint (on store.old dev.old) (on store.new dev.new) result }
+        ensures call { IsCall (showing_of C.Checkpoint) (on store.old dev.old) (on store.new dev.new) result }
         ensures ready { OnOk result (C.ready store.new dev.new) }
         ensures paired { OnOk result (IsPaired (held self.new) (C.form store.new) (C.number store.new) (C.logged store.new)) }
         ensures number { self.new.kernel.commit ≤ self.old.kernel.commit + 1 }

@@ -1,7 +1,8 @@
 //! A process that is down: how it fell, and how it comes back.
 
-ghost use Rattle.std.specs.Prelude.{◌≡◌, ◌≢◌, ◌≤◌, ◌<◌, ◌+◌, ◌-◌, ℕ, List, Err, [], false, length, IfErr, IfOk, IfSome, IsErrOf, OnErr, OnOk, slice_index, vec_capacity};
-ghost use Rattle.dc_checkpoint.specs.Calls.{AreAll, AreAmong, AreNoHigher, IsCounted, IsSameStore, Narrows};
+ghost use Rattle.std.specs.Prelude.{◌≡◌, ◌≤◌, ◌<◌, ◌+◌, ◌-◌, ℕ, List, Err, [], false, length, IfErr, IfOk, IfSome, IsErrOf, OnErr, OnOk, slice_index, vec_capacity};
+ghost use Rattle.dc_checkpoint.specs.Calls.{AreAll, AreNoHigher, FallsStore, KeepsNumbers, Touches, on};
+ghost use Rattle.dc_checkpoint.specs.Handles.{showing_of};
 ghost use Rattle.dc_checkpoint.specs.States.{Gives, Reading};
 ghost use Rattle.dc_kernel.specs.Kernels.{IsKernel};
 ghost use Rattle.dc_kernel.specs.declared.faults.StoreFault as faults;
@@ -32,11 +33,7 @@ impl Up {
     /// Loses what is volatile: its memory, its registers and its kernel. It makes no call of the device.
     pub fn fall<C: Checkpoint>(self, store: &mut C) -> Down
         requires whole { IsWhole self }
-        ensures same { IsSameStore C.place C.size C.form store.old store.new }
-        ensures lent { (dev : C.Device) → C.lent store.old dev → C.lent store.new dev }
-        ensures stands { (dev : C.Device) → Narrows 0 (C.leaves store.old dev) (C.leaves store.new dev) }
-        ensures steady { (dev : C.Device) → C.steady store.old dev → C.steady store.new dev }
-        ensures numbers { (dev : C.Device) → AreAmong (C.numbers store.old dev) (C.numbers store.new dev) }
+        ensures falls { FallsStore (showing_of C.Checkpoint) store.old store.new }
         ensures based { based_of result ≡ (held self).based }
         ensures down { IsDown result }
         ensures of { IsOf self.kernel.n self.kernel.p self.protocol self.size result }
@@ -123,8 +120,8 @@ impl Down {
         requires lent { C.lent store.old dev.old }
         requires of { (self.saved.kernel.n ≡ (C.form store.old).n) × (self.saved.kernel.p ≡ (C.form store.old).p) }
         requires down { IsDown self }
-        ensures same { IsSameStore C.place C.size C.form store.old store.new }
-        ensures lent { C.lent store.new dev.new }
+        ensures touches { Touches (showing_of C.Checkpoint) (on store.old dev.old) (on store.new dev.new) (fault_only result) }
+        ensures decided_stays { KeepsNumbers (showing_of C.Checkpoint) (AreAll 0) (on store.old dev.old) (on store.new dev.new) }
         ensures ready { OnOk result (C.ready store.new dev.new) }
         ensures paired { IfOk result (λ up. IsPaired (held up) (C.form store.new) (C.number store.new) (C.logged store.new)) }
         ensures whole { IfOk result IsWhole }
@@ -135,13 +132,8 @@ impl Down {
         ensures number { IfOk result (λ up. IfSome (C.contents store.new dev.new) (λ words. (most : ℕ) → IsNumbered most (C.leaves store.old dev.old 0) → (held up).kernel.commit ≤ most)) }
         ensures floor { OnOk result (C.floor store.new ≤ 0) }
         ensures stands { (reading : Reading) → C.leaves store.new dev.new 0 reading → C.leaves store.old dev.old 0 reading }
-        ensures refused { (fault : faults.StoreFault) → IsErrOf (fault_only result) (CheckFault.Refused fault) → (reading : Reading) → C.leaves store.old dev.old 0 reading → reading ≡ Err fault }
-        ensures counts { IsCounted C.told C.stops C.faults (C.place store.old) dev.old dev.new (fault_only result) }
-        ensures steady { C.steady store.old dev.old → AreAll 0 (C.numbers store.old dev.old) → C.steady store.new dev.new }
-        ensures numbers { C.steady store.old dev.old → AreAll 0 (C.numbers store.old dev.old) → AreAmong (C.numbers store.old dev.old) (C.numbers store.new dev.new) }
+        ensures refused { (fault : faults.StoreFault) → IsErrOf (fault_only result) (CheckFault.Refused fault) → (reading : Reading) → C.leaves store.new dev.new 0 reading → reading ≡ Err fault }
         ensures no_higher { AreNoHigher (C.numbers store.old dev.old) (C.numbers store.new dev.new) }
-        ensures others { (q : ℕ) → q ≢ C.place store.old → C.untouched dev.old dev.new q }
-        ensures continues { C.continues dev.old dev.new }
         ensures goes { IfOk result (λ up. IfSome (C.contents store.new dev.new) (λ words. Rises (C.leaves store.old dev.old 0) (C.contents store.new dev.new) (held up) (C.leaves store.new dev.new 0))) }
     {
         let mut down = self;

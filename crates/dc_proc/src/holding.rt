@@ -1,21 +1,18 @@
 //! What a process that is up holds: how it begins, what is read of it, what it learns.
 
 ghost use Rattle.std.specs.Prelude.{◌≡◌, ◌<◌, ◌≤◌, ◌%◌, ◌+◌, ◌*◌, ◌-◌, ◌^◌, ℕ, List, Option, None, Some, [], false, true, IfOk, IfSome, drop, length, map, max, slice_get, slice_index, slice_set};
-ghost use Rattle.dc_checkpoint.specs.States.{IsText, Reading};
+ghost use Rattle.dc_checkpoint.specs.States.{Reading};
 ghost use Rattle.dc_elf.specs.Images.{Image};
 ghost use Rattle.dc_guest.specs.Guest.{guests_of};
 ghost use Rattle.dc_kernel.specs.Kernels.{IsKernel};
-ghost use Rattle.dc_kernel.specs.Layout.{kernel_words};
-ghost use Rattle.dc_kernel.specs.Texts.{text_of};
 ghost use Rattle.dc_links.specs.Links.{link_to, number_of_first, trimmed};
 ghost use Rattle.dc_model.specs.Guests.{Answer};
 ghost use Rattle.dc_proc.specs.Carried.{system};
 ghost use Rattle.dc_proc.specs.Events.{HasCountsFor};
-ghost use Rattle.dc_proc.specs.Processes.{IsCopied, IsProcess, IsSavedAs, form_of, has_ended, logged_of};
-ghost use Rattle.dc_proc.specs.Ups.{IsSameUp, IsWhole, held};
+ghost use Rattle.dc_proc.specs.Processes.{IsCopied, IsProcess, IsSavedAs, has_ended, logged_of};
+ghost use Rattle.dc_proc.specs.Ups.{IsWhole, held};
 ghost use Rattle.dc_protocols.specs.declared.protocol.Protocol as protocols;
 ghost use Rattle.dc_recovery.specs.Core.{Status as Place};
-ghost use Rattle.dc_recovery.specs.Parts.{committed};
 ghost use Rattle.dc_recovery.specs.Saves.{Save, log_end};
 
 use crate::up::{Up, copy_received};
@@ -140,13 +137,6 @@ impl Up {
         self.own
     }
 
-    /// How many records its log has room for.
-    pub fn log_left(&self) -> u32
-        ensures { result ≡ (held self.now).log_left }
-    {
-        self.log_left
-    }
-
     /// The log record that is read next, where one is unread.
     pub fn unread(&self) -> Option<&LogRecord>
         ensures none { result ≡ None → (held self.now).unread ≡ [] }
@@ -231,41 +221,5 @@ impl Up {
     {
         self.others[q as usize] = known;
         self.kernel.trim(q, known);
-    }
-
-    /// Writes the text of its kernel under this number, for a commit of all processes together.
-    pub fn write_kernel(&mut self, number: u32, to: &mut [u32])
-        requires whole { IsWhole self.old }
-        requires long { length to.old ≡ kernel_words self.old.kernel.n }
-        ensures held { held self.new ≡ record (held self.old) { kernel = record (held self.old).kernel { commit = number } } }
-        ensures text { to.new ≡ text_of (held self.new).kernel }
-        ensures faultless { IsText (form_of self.old.kernel) to.new }
-        ensures kernel { IsKernel self.old.kernel.n self.old.kernel.p (held self.new).kernel }
-        ensures same { IsSameUp self.old self.new }
-        ensures whole { IsWhole self.new }
-    {
-        self.kernel.set_commit(number);
-        self.kernel.set_regs(*self.guest.regs());
-        self.kernel.encode(to);
-    }
-
-    /// All processes committed together under this number: nothing is left to read, own is clear, the log is empty.
-    pub fn committed(&mut self, number: u32)
-        requires whole { IsWhole self.old }
-        ensures held { held self.new ≡ record (held self.old) {
-          kernel = record (held self.old).kernel { commit = number };
-          unread = [];
-          own = false;
-          log_left = 64;
-          based = self.new.based.items;
-        } }
-        ensures based { IsCopied (held self.old).kernel (held self.new).based }
-        ensures same { IsSameUp self.old self.new }
-        ensures whole { IsWhole self.new }
-        ensures goes { (images : List Image) (inputs : List (List (List ℕ))) (protocol : protocols.Protocol) (p : ℕ) (answers : List Answer) (st : Place) (memory : Option (List ℕ))
-            → IsProcess (system images inputs protocol) p answers st memory (held self.old) → IsProcess (system images inputs protocol) p answers (committed st) memory (held self.new) }
-    {
-        self.kernel.set_commit(number);
-        self.settle();
     }
 }

@@ -1,11 +1,11 @@
 //! The log of one process.
 
 ghost use Rattle.std.specs.Prelude.{◌≡◌, ◌<◌, ◌≤◌, ◌+◌, ◌-◌, ℕ, List, [], false, true, OnErr, OnOk, length, slice_index};
-ghost use Rattle.dc_checkpoint.specs.Calls.{AreAmong};
+ghost use Rattle.dc_checkpoint.specs.Calls.{AreAmong, IsCall, on};
 ghost use Rattle.dc_guest.specs.Answers.{answer_of, may_answer};
 ghost use Rattle.dc_kernel.specs.Records.{IsRecord};
 ghost use Rattle.dc_media.specs.Told.{Becomes};
-ghost use Rattle.dc_proc.specs.Calls.{IsCall, on};
+ghost use Rattle.dc_checkpoint.specs.Handles.{showing_of};
 ghost use Rattle.dc_proc.specs.Carried.{Carries, Leaves, process};
 ghost use Rattle.dc_proc.specs.Events.{IsSender};
 ghost use Rattle.dc_proc.specs.Processes.{IsNumbered, IsPaired, logged_of};
@@ -59,7 +59,7 @@ impl Up {
         requires room { 0 < self.old.log_left }
         requires record { IsRecord self.old.kernel.n rec.now }
         requires whole { IsWhole self.old }
-        ensures call { IsCall C.Checkpoint (on store.old dev.old) (on store.new dev.new) result }
+        ensures call { IsCall (showing_of C.Checkpoint) (on store.old dev.old) (on store.new dev.new) result }
         ensures ready { OnOk result (C.ready store.new dev.new) }
         ensures paired { OnOk result (IsPaired (held self.new) (C.form store.new) (C.number store.new) (C.logged store.new)) }
         ensures memory { OnOk result (Becomes (C.contents store.old dev.old) (C.contents store.new dev.new) (λ before after. after ≡ before)) }
@@ -92,7 +92,7 @@ impl Up {
         requires room { due ≡ true → 0 < self.old.log_left }
         requires record { due ≡ true → IsRecord self.old.kernel.n rec.now }
         requires whole { IsWhole self.old }
-        ensures call { IsCall C.Checkpoint (on store.old dev.old) (on store.new dev.new) result }
+        ensures call { IsCall (showing_of C.Checkpoint) (on store.old dev.old) (on store.new dev.new) result }
         ensures ready { OnOk result (C.ready store.new dev.new) }
         ensures paired { OnOk result (IsPaired (held self.new) (C.form store.new) (C.number store.new) (C.logged store.new)) }
         ensures memory { OnOk result (Becomes (C.contents store.old dev.old) (C.contents store.new dev.new) (λ before after. after ≡ before)) }

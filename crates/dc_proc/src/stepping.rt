@@ -7,7 +7,8 @@ ghost use Rattle.dc_guest.specs.Guest.{after_next, ends, event_of, machine_over,
 ghost use Rattle.dc_guest.specs.Nexts.{IfRetired, IfWaits, IsSameGuest, NextFits, Waits, called_by};
 ghost use Rattle.dc_media.specs.Told.{Becomes};
 ghost use Rattle.dc_model.specs.Guests.Answer.{Plain};
-ghost use Rattle.dc_proc.specs.Calls.{Stores, on};
+ghost use Rattle.dc_checkpoint.specs.Calls.{on};
+ghost use Rattle.dc_proc.specs.Calls.{Stores};
 ghost use Rattle.dc_proc.specs.Events.{HasNextRoom, HasRoom};
 ghost use Rattle.dc_recovery.specs.Parts.{may_store};
 ghost use Rattle.dc_rv32.specs.Machine.{Machine};

@@ -1,14 +1,14 @@
 //! A turn of one process: the commit before, the act, the log record, the event, the commit after.
 
 ghost use Rattle.std.specs.Prelude.{◌≡◌, ◌<◌, ◌≤◌, ◌+◌, ◌*◌, ◌-◌, ◌^◌, ◌&&◌, not, ℕ, List, false, true, IfOk, IfSome, IfErr, OnErr, OnOk, length, nat_eq, slice_index};
-ghost use Rattle.dc_checkpoint.specs.Calls.{AreAmong, Narrows};
+ghost use Rattle.dc_checkpoint.specs.Calls.{AreAmong, IsCall, Narrows, on};
 ghost use Rattle.dc_events.specs.Kinds.{kind_of};
 ghost use Rattle.dc_guest.specs.Answers.{answer_of, effect_of, may_answer};
 ghost use Rattle.dc_guest.specs.Guest.{event_of, machine_over, next_of, over};
 ghost use Rattle.dc_guest.specs.Nexts.{NextFits, Waits};
 ghost use Rattle.dc_media.specs.Told.{Becomes};
 ghost use Rattle.dc_model.specs.Guests.Answer.{Plain};
-ghost use Rattle.dc_proc.specs.Calls.{IsCall, on};
+ghost use Rattle.dc_checkpoint.specs.Handles.{showing_of};
 ghost use Rattle.dc_proc.specs.Carried.{process};
 ghost use Rattle.dc_proc.specs.Events.{HasCounts, HasCountsFor, HasNextReceiver, HasNextRoom, IsSender};
 ghost use Rattle.dc_proc.specs.Processes.{IsNumbered, IsPaired};
@@ -161,7 +161,7 @@ impl Up {
         requires number { self.old.kernel.commit < 2 ^ 32 - 2 }
         requires room { length acts.old.items < acts.old.room }
         requires few { length acts.old.items < 2 ^ 32 - 1 }
-        ensures call { IsCall C.Checkpoint (on store.old dev.old) (on store.new dev.new) result }
+        ensures call { IsCall (showing_of C.Checkpoint) (on store.old dev.old) (on store.new dev.new) result }
         ensures ready { OnOk result (C.ready store.new dev.new) }
         ensures paired { OnOk result (IsPaired (held self.new) (C.form store.new) (C.number store.new) (C.logged store.new)) }
         ensures whole { IsWhole self.new }
@@ -223,7 +223,7 @@ impl Up {
         requires number { self.old.kernel.commit < 2 ^ 32 - 2 }
         requires room { length acts.old.items < acts.old.room }
         requires few { length acts.old.items < 2 ^ 32 - 1 }
-        ensures call { IsCall C.Checkpoint (on store.old dev.old) (on store.new dev.new) result }
+        ensures call { IsCall (showing_of C.Checkpoint) (on store.old dev.old) (on store.new dev.new) result }
         ensures ready { OnOk result (C.ready store.new dev.new) }
         ensures paired { OnOk result (IsPaired (held self.new) (C.form store.new) (C.number store.new) (C.logged store.new)) }
         ensures whole { IsWhole self.new }

@@ -5,7 +5,7 @@ use Rattle.dc_checkpoint.specs.States.{Form, IsText, number_in}
 use Rattle.dc_process_tests.specs.Three.{AreFitThree, AreTexts}
 use Rattle.std.proofs.lemmas.List.{append_assoc, drop_at, take_all, take_at}
 use Rattle.dc_checkpoint.specs.declared.checkpoint.Checkpoint as checkpoint
-use Rattle.dc_checkpoint.specs.Calls.{IsSameStore}
+use Rattle.dc_checkpoint.specs.Handles.{IsSame}
 use Rattle.dc_kernel.specs.declared.saved.Saved.{Saved}
 use Rattle.dc_twophase.specs.Recoveries.{AreFit}
 use Rattle.dc_twophase.specs.Stores.{AreApart, AreOf, Each, EachPair, Takes, text_at}
@@ -18,7 +18,7 @@ each_three R a b c first second third (suc zero) x is = let e : b ≡ x = cc in 
 each_three R a b c first second third (suc (suc zero)) x is = let e : c ≡ x = cc in subst (R 2) e third
 each_three R a b c first second third (suc (suc (suc i))) x is = absurd cc
 
-module _ {C D : Type 0} (store : checkpoint.Ghosts C D) (old new : List C) (long : length new ≡ length old) (same : EachPair old new (λ i. IsSameStore store.place store.size store.form)) where
+module _ {C D : Type 0} (store : checkpoint.Ghosts C D) (old new : List C) (long : length new ≡ length old) (same : EachPair old new (λ i. IsSame store)) where
   pub apart_still : AreApart store old → AreApart store new
   apart_still apart i j b c at there ne e =
       let x = before_it old new i b long at in

@@ -1,17 +1,18 @@
 //! Three processes through joint commits that are stopped at each call of a device.
 
 ghost use Rattle.std.specs.Prelude.{◌≡◌, ◌≢◌, ◌∷◌, [], ◌++◌, ◌<◌, ◌≤◌, ◌*◌, ◌^◌, ℕ, None, IfOk, IfSome, length, slice_index, vec_capacity};
+ghost use Rattle.dc_checkpoint.specs.States.{IsFit};
 ghost use Rattle.dc_kernel.specs.Faults.{kernel_fault};
 ghost use Rattle.dc_kernel.specs.Layout.{commit_at, kernel_words, n_at, p_at};
-ghost use Rattle.dc_twophase.specs.Recoveries.{IsFit};
-ghost use Rattle.dc_twophase.specs.Stores.{AreApart, AreOf, Each};
+ghost use Rattle.dc_checkpoint.specs.Handles.{IsSame};
+ghost use Rattle.dc_twophase.specs.Stores.{AreApart, AreOf, Each, EachPair};
 ghost use Rattle.dc_process_tests.specs.Three.{AreFitThree, AreTexts};
 
 use dc_checkpoint::{Checkpoint, Saved};
 use dc_kernel::{Kernel, kernel_words};
 use dc_media::{DeviceFault, Tear};
 use dc_memmedia::{ListedCall, MemKeeps};
-use dc_twophase::{JointFault, commit_all, recover_all};
+use dc_twophase::{JointFault, commit_all, commit_some, recover_all};
 use dc_vista::Segment;
 use std::alloc::{AllocError, Global};
 use std::test::Fail;
@@ -139,63 +140,110 @@ fn three_empty(alloc: Global) -> Option<Vec<Saved>>
     Some(saved)
 }
 
-/// A joint commit and a recovery of all, if that went well: what the commit answered.
-fn commit_and_recover<C: Checkpoint>(
+/// A joint commit of those that take part; of all, by the call for all.
+fn commit<C: Checkpoint>(
     stores: &mut [C],
+    members: &[bool],
     dev: &mut C::Device,
     words: &[u32],
-    saved: &mut [Saved],
-) -> Option<Result<(), JointFault>>
+) -> Result<(), JointFault>
     requires three { length stores.old ≡ 3 }
+    requires members { length members.now ≡ 3 }
     requires apart { AreApart C.Checkpoint stores.old }
     requires forms { AreOf C.Checkpoint stores.old }
     requires lent { Each stores.old (λ i c. C.lent c dev.old) }
     requires ready { Each stores.old (λ i c. C.ready c dev.old) }
     requires number { Each stores.old (λ i c. C.number c < 2) }
+    requires decidable { (c : C) (d : C.Device) → C.decidable c d 2 }
+    requires texts { AreTexts words.now }
+    ensures same { EachPair stores.old stores.new (λ i. IsSame C.Checkpoint) }
+    ensures lent { Each stores.new (λ i c. C.lent c dev.new) }
+{
+    if members.iter().all(|member| *member) {
+        return commit_all(stores, dev, words, 2);
+    }
+    commit_some(stores, members, dev, words, 2)
+}
+
+/// A joint commit and a recovery of all, if that went well: what the commit answered.
+fn commit_and_recover<C: Checkpoint>(
+    stores: &mut [C],
+    members: &[bool],
+    dev: &mut C::Device,
+    words: &[u32],
+    saved: &mut [Saved],
+) -> Option<Result<(), JointFault>>
+    requires three { length stores.old ≡ 3 }
+    requires members { length members.now ≡ 3 }
+    requires apart { AreApart C.Checkpoint stores.old }
+    requires forms { AreOf C.Checkpoint stores.old }
+    requires lent { Each stores.old (λ i c. C.lent c dev.old) }
+    requires ready { Each stores.old (λ i c. C.ready c dev.old) }
+    requires number { Each stores.old (λ i c. C.number c < 2) }
+    requires decidable { (c : C) (d : C.Device) → C.decidable c d 2 }
     requires texts { AreTexts words.now }
     requires fit { AreFitThree saved.old }
 {
-    let committed = commit_all(stores, dev, words, 2);
+    let committed = commit(stores, members, dev, words);
     match recover_all(stores, dev, saved) {
-        Ok(()) => Some(committed),
+        Ok(_decided) => Some(committed),
         Err(_fault) => None,
     }
 }
 
-/// Whether all were recovered at a commit of this number.
-fn are_at(saved: &[Saved], number: u32) -> bool {
-    saved.iter().all(|one| one.kernel.commit() == number)
+/// Whether those that take part were recovered at a commit of this number, and the others at their first.
+fn are_at(saved: &[Saved], members: &[bool], number: u32) -> bool {
+    saved.iter().zip(members).all(|(one, member)| one.kernel.commit()
+        == if *member { number } else { 1 })
 }
 
-/// The same for three processes; and whether all are then at a commit of this number.
+/// The same for three processes; and whether those that take part are then at a commit of this number.
 fn joint<C: Checkpoint + Drop>(
     alloc: Global,
     dev: &mut C::Device,
+    members: &[bool],
     number: u32,
-) -> Option<(Result<(), JointFault>, bool)> {
+) -> Option<(Result<(), JointFault>, bool)>
+    requires members { length members.now ≡ 3 }
+    requires decidable { (c : C) (d : C.Device) → C.decidable c d 2 }
+{
     let Ok(words) = words_of(alloc) else {
         return None;
     };
     let mut saved = three_empty(alloc)?;
     let mut stores = three::<C>(alloc, dev, 1)?;
-    let committed = commit_and_recover(&mut stores, dev, &words, &mut saved)?;
-    Some((committed, are_at(&saved, number)))
+    let committed = commit_and_recover(&mut stores, members, dev, &words, &mut saved)?;
+    Some((committed, are_at(&saved, members, number)))
 }
 
-/// The number that all have after a stop of process p at one of its calls of the joint commit, from 1 on: the old one, or the new
-/// one where the first process had decided.
-fn number_after(p: u32, call: u64, keep: u32) -> u32 {
-    if call <= PREPARING {
+/// The calls of process p in a commit of these.
+fn calls_of(members: [bool; 3], p: u32) -> u64
+    requires { p < 3 }
+    ensures { result < 2 ^ 31 }
+{
+    let own = if members[p as usize] {
+        PREPARING + FINISHING
+    } else {
+        0
+    };
+    if p == 0 { own + 1 } else { own }
+}
+
+/// The number that those that take part have after a stop of process p at one of its calls, from 1 on: the old one, or the new one
+/// where the first process had decided, which it does once it is prepared if it takes part.
+fn number_after(members: [bool; 3], p: u32, call: u64, keep: u32) -> u32 {
+    let waits = if p == 0 && !members[0] { 0 } else { PREPARING };
+    if call <= waits {
         return 1;
     }
-    if p == 0 && call == PREPARING + 1 && keep == 0 {
+    if p == 0 && call == waits + 1 && keep == 0 {
         return 1;
     }
     2
 }
 
 /// One stop, at one call of one process.
-fn stopped(alloc: Global, p: u32, call: u64, keep: u32) -> Result<(), Fail>
+fn stopped(alloc: Global, members: [bool; 3], p: u32, call: u64, keep: u32) -> Result<(), Fail>
     requires { call < 2 ^ 32 }
 {
     let mut listed = Vec::new(alloc);
@@ -206,44 +254,67 @@ fn stopped(alloc: Global, p: u32, call: u64, keep: u32) -> Result<(), Fail>
         tear: Tear { keep, fill: None },
     })?;
     let mut keeps = MemKeeps::new(alloc, listed)?;
-    let number = number_after(p, call, keep);
-    match joint::<Segment<MemKeeps>>(alloc, &mut keeps, number) {
+    let number = number_after(members, p, call, keep);
+    match joint::<Segment<MemKeeps>>(alloc, &mut keeps, &members, number) {
         Some((Err(JointFault::Stopped(at)), true)) if at == p => Ok(()),
         _ => Err(Fail::new(format_args!("process {p} at call {call} keeping {keep}"))),
     }
 }
 
-/// Each call of one process.
-fn stopped_everywhere(alloc: Global, p: u32, calls: u64) -> Result<(), Fail>
-    requires { calls < 2 ^ 31 }
+/// Each call of one process, in a commit of these.
+fn stopped_everywhere(alloc: Global, members: [bool; 3], p: u32) -> Result<(), Fail>
+    requires { p < 3 }
 {
-    for call in 1..=calls {
-        stopped(alloc, p, call, 0)?;
-        stopped(alloc, p, call, 1)?;
+    for call in 1..=calls_of(members, p) {
+        stopped(alloc, members, p, call, 0)?;
+        stopped(alloc, members, p, call, 1)?;
     }
     Ok(())
 }
 
+/// Those that take part, by the bits of a number.
+fn members_of(bits: u32) -> [bool; 3] {
+    [bits & 1 != 0, bits & 2 != 0, bits & 4 != 0]
+}
+
+/// So for each choice of those that take part.
+fn each_choice(alloc: Global, p: u32) -> Result<(), Fail>
+    requires { p < 3 }
+{
+    for bits in 0..8 {
+        stopped_everywhere(alloc, members_of(bits), p)?;
+    }
+    Ok(())
+}
+
+/// A commit of these that no stop comes in.
+fn unstopped(alloc: Global, members: [bool; 3]) -> Result<(), Fail> {
+    let mut keeps = MemKeeps::new(alloc, Vec::new(alloc))?;
+    match joint::<Segment<MemKeeps>>(alloc, &mut keeps, &members, 2) {
+        Some((Ok(()), true)) => Ok(()),
+        _ => Err(Fail::new("a joint commit")),
+    }
+}
+
 #[test]
 fn all_or_none_where_the_first_is_stopped(rt: HostRuntime) -> Result<(), Fail> {
-    stopped_everywhere(rt.alloc(), 0, PREPARING + 1 + FINISHING)
+    each_choice(rt.alloc(), 0)
 }
 
 #[test]
 fn all_or_none_where_the_second_is_stopped(rt: HostRuntime) -> Result<(), Fail> {
-    stopped_everywhere(rt.alloc(), 1, PREPARING + FINISHING)
+    each_choice(rt.alloc(), 1)
 }
 
 #[test]
 fn all_or_none_where_the_last_is_stopped(rt: HostRuntime) -> Result<(), Fail> {
-    stopped_everywhere(rt.alloc(), 2, PREPARING + FINISHING)
+    each_choice(rt.alloc(), 2)
 }
 
 #[test]
 fn all_where_none_is_stopped(rt: HostRuntime) -> Result<(), Fail> {
-    let mut keeps = MemKeeps::new(rt.alloc(), Vec::new(rt.alloc()))?;
-    match joint::<Segment<MemKeeps>>(rt.alloc(), &mut keeps, 2) {
-        Some((Ok(()), true)) => Ok(()),
-        _ => Err(Fail::new("a joint commit")),
+    for bits in 0..8 {
+        unstopped(rt.alloc(), members_of(bits))?;
     }
+    Ok(())
 }

@@ -8,8 +8,8 @@ use Rattle.dc_plain.specs.Playing.{seen_image}
 use Rattle.dc_plan.specs.Plans.{Plan}
 use Rattle.dc_words.specs.Results.{◌>>=◌}
 use Rattle.dc_run.specs.Checking.{AsksToCheck, Checked, Concluded, Found, checked_in, found_at_end, found_in, passed_by, report_for, report_in}
-use Rattle.dc_run.specs.Command.{Names, asked_of}
-use Rattle.dc_run.specs.Command.Asked.{ToCheck}
+use Rattle.dc_command.specs.Command.{Names, asked_of}
+use Rattle.dc_command.specs.Command.Asked.{ToCheck}
 use Rattle.dc_run.specs.Commands.{Asks, IfCheck, IsExact, work_of}
 use Rattle.dc_run.specs.Commands.Work.{Check}
 use Rattle.dc_course.specs.Headline.{Setting}

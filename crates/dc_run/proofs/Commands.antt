@@ -1,14 +1,15 @@
 -- How what a command was answered follows from what its work was.
-use Rattle.std.proofs.Common.{◌≡◌, ◌⊎◌, inl, inr, ℕ, List, Option, None, Some, IfSome, IsSome, Err, String, ap, sym, subst}
+use Rattle.std.proofs.Common.{◌≡◌, inl, inr, ℕ, List, Option, None, Some, IfSome, IsSome, String, refl, sym, subst}
 use Rattle.std.specs.declared.alloc.Global.{Global}
+use Rattle.dc_command.specs.declared.command.CommandFault.{CommandFault}
+use Rattle.dc_command.specs.declared.command.CommandFault.TheVariants as command
 use Rattle.dc_run.specs.Assembling.{program_in}
-use Rattle.dc_run.specs.Command.{asked_of}
-use Rattle.dc_run.specs.Command.Asked.{ToRun, ToAssemble}
-use Rattle.dc_run.specs.Commands.{Asks, IsExact, IsOpenedFor, work_of}
+use Rattle.dc_command.specs.Command.{asked_of}
+use Rattle.dc_command.specs.Command.Asked.{ToRun, ToAssemble}
+use Rattle.dc_run.specs.Commands.{Asks, IsExact, IsOpenedFor, unasked_by, work_of}
 use Rattle.dc_run.specs.Commands.Work.{Run, Assembly}
 use Rattle.dc_run.specs.Opening.{Files, AsksToRun, opening_of}
 use Rattle.dc_run.specs.Refusals.{as_verdict}
-use Rattle.dc_run.specs.Settings.{is_free, was_opened}
 use Rattle.dc_run.specs.declared.verdict.Verdict.{Verdict}
 use Rattle.dc_run.specs.declared.verdict.Verdict.TheVariants.{LibraryFault, Usage, WantOfMemory}
 use Rattle.dc_run.specs.declared.verdict.Which.{Which}
@@ -36,10 +37,10 @@ assembly_asks None words source asked v which named there = tt
 assembly_asks (Some files) words source asked v which named there = λ is. rw asked (named is, there is)
 
 -- words that ask for nothing, or no memory to read them
-pub unasked_opened : (known : Option Files) (words : List (String Global)) (v answered : Verdict) → answered ≡ v → (v ≡ Usage → asked_of words ≡ None)
-    → (v ≡ Usage) ⊎ (v ≡ WantOfMemory) → IfSome known (λ files. IsOpenedFor answered (work_of files words))
-unasked_opened known words v answered same usage fault = for_known known (λ files here. subst (λ w. IsOpenedFor w (work_of files words)) (sym same) (by files fault))
+pub unasked_opened : (known : Option Files) (words : List (String Global)) (fault : CommandFault) (answered : Verdict) → answered ≡ unasked_by fault → (fault ≡ command.Usage → asked_of words ≡ None)
+    → IfSome known (λ files. IsOpenedFor answered (work_of files words))
+unasked_opened known words fault answered same usage = for_known known (λ files here. subst (λ w. IsOpenedFor w (work_of files words)) (sym same) (by files fault usage))
   where
-    by : (files : Files) → (v ≡ Usage) ⊎ (v ≡ WantOfMemory) → IsOpenedFor v (work_of files words)
-    by files (inl is) = refused_work v (work_of files words) (ap was_opened is) (inr (rw (usage is) (ap (λ (w : Verdict). Err w) (sym is))))
-    by files (inr is) = refused_work v (work_of files words) (ap was_opened is) (inl (ap is_free is))
+    by : (files : Files) (f : CommandFault) → (f ≡ command.Usage → asked_of words ≡ None) → IsOpenedFor (unasked_by f) (work_of files words)
+    by files command.Usage none = refused_work Usage (work_of files words) refl (inr (rw (none refl) refl))
+    by files command.Memory none = refused_work WantOfMemory (work_of files words) refl (inl refl)

@@ -1,5 +1,5 @@
 -- A run with its report keeps the promise.
-use Rattle.std.proofs.Common.{◌≡◌, ◌⊎◌, inl, inr, true, sym, subst, All, IfSome, IsOkAnd, List, [], ◌∷◌, Option, None, Some, Ok, ap, length, refl, ℕ}
+use Rattle.std.proofs.Common.{◌≡◌, ◌⊎◌, inl, inr, true, sym, subst, All, IfSome, IsOkAnd, List, [], ◌∷◌, Option, None, Some, Ok, length, refl, ℕ}
 use Rattle.std.proofs.lemmas.List.Elements.{All-cons, All-nil}
 use Rattle.dc_acts.specs.Reports.{report_text}
 use Rattle.dc_course.specs.Courses.{IsCourse, counts_of}

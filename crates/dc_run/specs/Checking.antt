@@ -8,7 +8,7 @@ use Rattle.dc_check.specs.declared.finding.Difference.{Difference}
 use Rattle.dc_model.specs.declared.act.Taken.{Taken}
 use Rattle.dc_words.specs.Results.{◌>>=◌}
 use Rattle.dc_run.specs.Assembling.{WritesOut}
-use Rattle.dc_run.specs.Command.{Names}
+use Rattle.dc_command.specs.Command.{Names}
 use Rattle.dc_course.specs.Headline.{Setting}
 use Rattle.dc_run.specs.Opening.{AsksToRun, Files, file_in, guests, opening_of}
 use Rattle.dc_run.specs.Refusals.{as_verdict}

@@ -4,15 +4,17 @@ use Rattle.std.specs.declared.alloc.Global.{Global}
 use Rattle.dc_asm.specs.declared.forms.Meant.{Meant}
 use Rattle.dc_run.specs.Assembling.{program_in}
 use Rattle.dc_run.specs.Checking.{AsksToCheck, Checked, Found, checked_in, found_in}
-use Rattle.dc_run.specs.Command.{Asked, asked_of}
-use Rattle.dc_run.specs.Command.Asked.{ToRun, ToCheck, ToAssemble}
+use Rattle.dc_command.specs.Command.{Asked, asked_of}
+use Rattle.dc_command.specs.Command.Asked.{ToRun, ToCheck, ToAssemble}
+use Rattle.dc_command.specs.declared.command.CommandFault.{CommandFault}
+use Rattle.dc_command.specs.declared.command.CommandFault.TheVariants as command
 use Rattle.dc_words.specs.Results.{◌>>=◌, or_fault}
 use Rattle.dc_course.specs.Headline.{Setting}
 use Rattle.dc_run.specs.Opening.{Files, AsksToRun, opening_of}
 use Rattle.dc_run.specs.Refusals.{as_verdict}
 use Rattle.dc_run.specs.Settings.{is_free, was_opened}
 use Rattle.dc_run.specs.declared.verdict.Verdict.{Verdict}
-use Rattle.dc_run.specs.declared.verdict.Verdict.TheVariants.{Usage}
+use Rattle.dc_run.specs.declared.verdict.Verdict.TheVariants.{Usage, WantOfMemory}
 use Rattle.dc_run.specs.declared.verdict.Which.{Which}
 use Rattle.dc_run.specs.declared.verdict.Which.TheVariants.{Source}
 
@@ -21,6 +23,11 @@ pub data Work : Type 0 where
   Run : (setting : Setting) → Work
   Check : (checked : Checked) → Work
   Assembly : (program : List Meant) → Work
+
+-- the verdict of words that are no command's
+abbrev pub unasked_by : CommandFault → Verdict
+unasked_by command.Usage = Usage
+unasked_by command.Memory = WantOfMemory
 
 -- what there is to carry out, by what is asked for
 abbrev pub work_by : Files → Asked → Result Work Verdict

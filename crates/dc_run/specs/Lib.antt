@@ -1,4 +1,3 @@
-pub mod Command
 pub mod Headline
 pub mod Outcomes
 pub mod Refusals

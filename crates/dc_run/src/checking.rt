@@ -3,7 +3,7 @@ ghost use Rattle.dc_acts.specs.Reads.{seen};
 ghost use Rattle.dc_media.specs.Causes.{Rose};
 ghost use Rattle.dc_media.specs.Told.{TellsOn};
 ghost use Rattle.dc_run.specs.Checking.{AsksToCheck, Checked as Passed, Concluded, IsChecked, TellsDifference, TellsLine, checked_in, found_at_end, found_in, found_view, passed_by, passed_text, report_in};
-ghost use Rattle.dc_run.specs.Command.{names_view};
+ghost use Rattle.dc_command.specs.Command.{names_view};
 ghost use Rattle.dc_run.specs.Commands.{IsExact, IsOpenedFor};
 ghost use Rattle.dc_run.specs.Opening.{Files};
 ghost use Rattle.dc_run.specs.Outcomes.{IsNothing};
@@ -11,13 +11,13 @@ ghost use Rattle.dc_run.specs.Settings.{Agrees, LibraryKept, is_refusal, setting
 ghost use Rattle.dc_run.specs.declared.verdict.Verdict.{Verdict as Verdicts};
 ghost use Rattle.dc_run.specs.declared.verdict.Which.{Which as Whose};
 
-use crate::command::Names;
 use crate::opening::{fetch, open};
 use crate::refusal::{Refusal, verdict_of};
 use crate::setting::Setting;
 use crate::{Did, Outcome, Outlet, Verdict, Which};
 use dc_acts::{Acts, Line, ReadError, Report, read_report};
 use dc_check::{Finding, check};
+use dc_command::Names;
 use dc_media::{Library, Sink, write_whole};
 use std::alloc::{AllocError, Global};
 

@@ -4,7 +4,6 @@
 
 mod assembling;
 mod checking;
-mod command;
 mod opening;
 mod outcome;
 mod program;

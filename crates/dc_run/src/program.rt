@@ -11,9 +11,9 @@ ghost use Rattle.dc_media.specs.Causes.{Rose};
 ghost use Rattle.dc_media.specs.Told.{TellsOn};
 ghost use Rattle.dc_run.specs.Assembling.{IsAssembled};
 ghost use Rattle.dc_run.specs.Checking.{Checked, IsChecked, TellsDifference, TellsLine};
-ghost use Rattle.dc_run.specs.Command.{Names, asked_of};
-ghost use Rattle.dc_run.specs.Command.Asked.{ToAssemble, ToCheck, ToRun};
-ghost use Rattle.dc_run.specs.Commands.{Asks, IfAssembly, IfCheck, IfFound, IfRun, IsExact, IsOpenedFor, work_of};
+ghost use Rattle.dc_command.specs.Command.{Names, asked_of};
+ghost use Rattle.dc_command.specs.Command.Asked.{ToAssemble, ToCheck, ToRun};
+ghost use Rattle.dc_run.specs.Commands.{Asks, IfAssembly, IfCheck, IfFound, IfRun, IsExact, IsOpenedFor, unasked_by, work_of};
 ghost use Rattle.dc_run.specs.Headline.{IsReported, Reports, course, loan, may_have_run, unopened_by, unreported, verdict_at};
 ghost use Rattle.dc_run.specs.Opening.{AsksToRun, opening_of};
 ghost use Rattle.dc_run.specs.Outcomes.{IsNothing, status_of};
@@ -24,13 +24,13 @@ ghost use Rattle.dc_run.specs.declared.verdict.Which.{Which as Whose};
 
 use crate::assembling::assemble_source;
 use crate::checking::check_output;
-use crate::command::{Asked, command_in};
 use crate::opening::open;
 use crate::outcome::Outcome;
 use crate::refusal::verdict_of;
 use crate::setting::Setting;
 use crate::{Did, Outlet, Verdict};
 use dc_acts::write_report;
+use dc_command::{Asked, CommandFault, command_in};
 use dc_course::{Course, Ending, run_on_memory};
 use dc_media::{Disks, Keeps, Library, Sink};
 use dc_world::{OpenFault, Setup};
@@ -111,7 +111,19 @@ pub fn dc<L: Library, K: Keeps, D: Disks, O: Sink, R: Sink>(
         Ok(Asked::Run(plan)) => run_plan(alloc, plan, lib, keeps, out, report),
         Ok(Asked::Check(names)) => check_output(alloc, &names, lib, out),
         Ok(Asked::Assemble(source)) => assemble_source(alloc, source, lib, out),
-        Err(verdict) => Outcome::idle(alloc, verdict),
+        Err(fault) => Outcome::idle(alloc, unasked(fault)),
+    }
+}
+
+/// What words are answered that are no command's.
+fn unasked(fault: CommandFault) -> Verdict
+    ensures meant { result ≡ unasked_by fault }
+    ensures usage { result ≡ Verdict.Usage → fault ≡ CommandFault.Usage }
+    ensures either { (result ≡ Verdict.Usage) ⊎ (result ≡ Verdict.WantOfMemory) }
+{
+    match fault {
+        CommandFault::Usage => Verdict::Usage,
+        CommandFault::Memory => Verdict::WantOfMemory,
     }
 }
 

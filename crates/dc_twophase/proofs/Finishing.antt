@@ -1,10 +1,11 @@
 -- What a store keeps while each is finished, and beside the one that decides.
-use Rattle.std.proofs.Common.{◌+◌, ℕ, arith}
+use Rattle.std.proofs.Common.{◌≡◌, ◌+◌, ℕ, List, Bool, true, false, Some, arith, slice_get}
 use Rattle.dc_checkpoint.specs.declared.checkpoint.Checkpoint as checkpoint
-use Rattle.dc_twophase.specs.Commits.{IsBeside, IsCommitted, IsDecided, IsSameMemory}
+use Rattle.dc_twophase.specs.Commits.{IsBeside, IsCommitted, IsDecided, IsIdle, IsMember, IsOther, IsSameMemory}
 use Rattle.dc_twophase.specs.Stores.{At, AtPair}
 use Rattle.dc_twophase.proofs.Laws.{Laws}
-use Rattle.dc_twophase.proofs.Preparing.{becomes_then, memory_still, same_start, same_then}
+use Rattle.dc_checkpoint.specs.Handles.{same_start, same_then}
+use Rattle.dc_twophase.proofs.Preparing.{becomes_then, idle_still, idle_then, is_member, memory_still}
 use Rattle.dc_twophase.proofs.Walking.{IsLasting, IsTurn, IsWalk, Turn, walk_less, walk_step}
 
 module _ {C D : Type 0} {store : checkpoint.Ghosts C D} (laws : Laws store) where
@@ -38,47 +39,63 @@ module _ {C D : Type 0} {store : checkpoint.Ghosts C D} {g : ℕ} where
     numbers = λ st e has. was.numbers st e (now.numbers (was.steady st) e has);
   }
 
--- what holds of a store that was finished
-abbrev pub Finishing : {C D : Type 0} → checkpoint.Ghosts C D → ℕ → D → ℕ → D → C → C → Type 0
-Finishing store g old = λ i dev b c. IsDecided store g old dev b c × IsCommitted store g dev c × IsSameMemory store old dev b c
+-- a turn of the loop
+module _ {C D : Type 0} {store : checkpoint.Ghosts C D} {g : ℕ} (laws : Laws store) (turn : Turn C D) where
+  decided_on : AtPair turn.k turn.mid.stores turn.new.stores (IsDecided store g turn.mid.dev turn.new.dev)
+      → AtPair turn.k turn.mid.stores turn.new.stores (λ b c. store.untouched turn.old.dev turn.mid.dev (store.place b) → IsDecided store g turn.old.dev turn.new.dev b c)
+  decided_on now b c before here still = decided_then (decided_still laws g turn.old.dev turn.mid.dev b still) (now b c before here)
 
--- it lasts
-module _ {C D : Type 0} {store : checkpoint.Ghosts C D} (laws : Laws store) (g : ℕ) (old : D) where
-  decided_lasts : IsLasting store (λ i dev. IsDecided store g old dev)
+-- what holds of a store that was finished where it takes part, and is not called where it does not
+abbrev pub Decided : {C D : Type 0} → checkpoint.Ghosts C D → List Bool → ℕ → D → ℕ → D → C → C → Type 0
+Decided store members g old = λ i dev b c. IsDecided store g old dev b c × (IsOther members i → IsIdle store old dev b c)
+
+abbrev pub Finishing : {C D : Type 0} → checkpoint.Ghosts C D → List Bool → ℕ → D → ℕ → D → C → C → Type 0
+Finishing store members g old = λ i dev b c. Decided store members g old i dev b c × (IsMember members i → IsCommitted store g dev c) × IsSameMemory store old dev b c
+
+module _ {C D : Type 0} {store : checkpoint.Ghosts C D} (laws : Laws store) (members : List Bool) (g : ℕ) (old : D) where
+  decided_lasts : IsLasting store (Decided store members g old)
   decided_lasts = record {
-    placed = λ i dev b c is. is.same.place_same;
-    lasts = λ i mid new b c still was. decided_then was (decided_still laws g mid new c still);
+    placed = λ i dev b c is. is.0.same.place_same;
+    lasts = λ i mid new b c still was. (decided_then was.0 (decided_still laws g mid new c still), λ o. idle_then laws (was.1 o) (idle_still mid new c still));
   }
 
-  pub finishing_lasts : IsLasting store (Finishing store g old)
+  pub finishing_lasts : IsLasting store (Finishing store members g old)
   finishing_lasts = record {
-    placed = λ i dev b c is. is.0.same.place_same;
+    placed = λ i dev b c is. is.0.0.same.place_same;
     lasts = λ i mid new b c still was. (
       decided_lasts.lasts i mid new b c still was.0,
-      committed_still laws g mid new c still was.1,
+      λ m. committed_still laws g mid new c still (was.1 m),
       becomes_then (store.contents b old) (store.contents c mid) (store.contents c new) was.2 (memory_still laws mid new c still),
     );
   }
 
--- a turn of the loop
-module _ {C D : Type 0} {store : checkpoint.Ghosts C D} {g : ℕ} (laws : Laws store) (turn : Turn C D) where
+  pub decided_waits : (new : D) (b : C) → store.untouched old new (store.place b) → (i : ℕ) → Decided store members g old i new b b
+  decided_waits new b still i = (decided_still laws g old new b still, λ o. idle_still old new b still)
+
+module _ {C D : Type 0} {store : checkpoint.Ghosts C D} {g : ℕ} (laws : Laws store) (members : List Bool) (member : Bool) (turn : Turn C D) (is_it : slice_get members turn.k ≡ Some member) where
   decided_from : AtPair turn.k turn.mid.stores turn.new.stores (IsDecided store g turn.mid.dev turn.new.dev)
-      → AtPair turn.k turn.mid.stores turn.new.stores (λ b c. store.untouched turn.old.dev turn.mid.dev (store.place b) → IsDecided store g turn.old.dev turn.new.dev b c)
-  decided_from now b c before here still = decided_then (decided_still laws g turn.old.dev turn.mid.dev b still) (now b c before here)
+      → (member ≡ false → AtPair turn.k turn.mid.stores turn.new.stores (IsIdle store turn.mid.dev turn.new.dev))
+      → AtPair turn.k turn.mid.stores turn.new.stores (λ b c. store.untouched turn.old.dev turn.mid.dev (store.place b) → Decided store members g turn.old.dev turn.k turn.new.dev b c)
+  decided_from kept idle b c before here still = (
+    decided_on laws turn kept b c before here still,
+    λ o. idle_then laws (idle_still turn.old.dev turn.mid.dev b still) (idle (is_member members turn.k member false is_it o) b c before here),
+  )
 
   pub finishing_step : IsTurn store turn → AtPair turn.k turn.mid.stores turn.new.stores (IsDecided store g turn.mid.dev turn.new.dev)
-      → At turn.k turn.new.stores (IsCommitted store g turn.new.dev) → AtPair turn.k turn.mid.stores turn.new.stores (IsSameMemory store turn.mid.dev turn.new.dev)
-      → IsWalk store (Finishing store g turn.old.dev) turn.k turn.old turn.mid → IsWalk store (Finishing store g turn.old.dev) (turn.k + 1) turn.old turn.new
-  finishing_step is kept made memory walk =
-      walk_step store laws (Finishing store g turn.old.dev) (finishing_lasts laws g turn.old.dev) turn is
+      → (member ≡ false → AtPair turn.k turn.mid.stores turn.new.stores (IsIdle store turn.mid.dev turn.new.dev))
+      → (member ≡ true → At turn.k turn.new.stores (IsCommitted store g turn.new.dev)) → AtPair turn.k turn.mid.stores turn.new.stores (IsSameMemory store turn.mid.dev turn.new.dev)
+      → IsWalk store (Finishing store members g turn.old.dev) turn.k turn.old turn.mid → IsWalk store (Finishing store members g turn.old.dev) (turn.k + 1) turn.old turn.new
+  finishing_step is kept idle made memory walk =
+      walk_step store laws (Finishing store members g turn.old.dev) (finishing_lasts laws members g turn.old.dev) turn is
       (λ b c before here still. (
-        decided_from kept b c before here still,
-        made c here,
+        decided_from kept idle b c before here still,
+        λ m. made (is_member members turn.k member true is_it m) c here,
         becomes_then (store.contents b turn.old.dev) (store.contents b turn.mid.dev) (store.contents c turn.new.dev) (memory_still laws turn.old.dev turn.mid.dev b still) (memory b c before here),
       )) walk
 
   pub finishing_stop : IsTurn store turn → AtPair turn.k turn.mid.stores turn.new.stores (IsDecided store g turn.mid.dev turn.new.dev)
-      → IsWalk store (Finishing store g turn.old.dev) turn.k turn.old turn.mid → IsWalk store (λ i dev. IsDecided store g turn.old.dev dev) (turn.k + 1) turn.old turn.new
-  finishing_stop is kept walk =
-      walk_step store laws (λ i dev. IsDecided store g turn.old.dev dev) (decided_lasts laws g turn.old.dev) turn is (decided_from kept)
-      (walk_less (λ i dev. IsDecided store g turn.old.dev dev) (λ i dev b c all. all.0) walk)
+      → (member ≡ false → AtPair turn.k turn.mid.stores turn.new.stores (IsIdle store turn.mid.dev turn.new.dev))
+      → IsWalk store (Finishing store members g turn.old.dev) turn.k turn.old turn.mid → IsWalk store (Decided store members g turn.old.dev) (turn.k + 1) turn.old turn.new
+  finishing_stop is kept idle walk =
+      walk_step store laws (Decided store members g turn.old.dev) (decided_lasts laws members g turn.old.dev) turn is (decided_from kept idle)
+      (walk_less (Decided store members g turn.old.dev) (λ i dev b c all. all.0) walk)

@@ -1,7 +1,8 @@
 -- A commit of many stores, under one number g.
-use Rattle.std.specs.Prelude.{◌≡◌, ◌⊎◌, ◌<◌, ◌≤◌, ℕ, List}
+use Rattle.std.specs.Prelude.{◌≡◌, ◌⊎◌, ◌<◌, ◌≤◌, ℕ, List, Bool, true, false, Some, slice_get}
 use Rattle.dc_media.specs.Told.{Becomes}
-use Rattle.dc_checkpoint.specs.Calls.{AreAmong, AreBelow, IsSameStore, Narrows}
+use Rattle.dc_checkpoint.specs.Calls.{AreAmong, AreBelow, Narrows}
+use Rattle.dc_checkpoint.specs.Handles.{IsSame}
 use Rattle.dc_checkpoint.specs.States.{IsSaved, Reading}
 use Rattle.dc_checkpoint.specs.declared.checkpoint.Checkpoint as checkpoint
 use Rattle.dc_twophase.specs.Stores.{At, Each, EachPair, Moment}
@@ -13,6 +14,18 @@ IsSameMemory store old new b c = Becomes (store.contents b old) (store.contents 
 -- under this decided number each stands for what it stood for
 abbrev pub AllOld : {C D : Type 0} → checkpoint.Ghosts C D → Moment C D → Moment C D → ℕ → Type 0
 AllOld store old new d = EachPair old.stores new.stores (λ i b c. (reading : Reading) → store.leaves c new.dev d reading → store.leaves b old.dev d reading)
+
+-- the store of this index takes part in a commit of these
+abbrev pub IsMember : List Bool → ℕ → Type 0
+IsMember members i = slice_get members i ≡ Some true
+
+-- it does not
+abbrev pub IsOther : List Bool → ℕ → Type 0
+IsOther members i = slice_get members i ≡ Some false
+
+-- under this decided number each that takes part stands for its memory as it was, with its text
+abbrev pub AllNewOf : {C D : Type 0} → checkpoint.Ghosts C D → List Bool → (ℕ → List ℕ) → Moment C D → Moment C D → ℕ → Type 0
+AllNewOf store members text old new d = EachPair old.stores new.stores (λ i b c. IsMember members i → (reading : Reading) → store.leaves c new.dev d reading → IsSaved (store.contents b old.dev) (text i) reading)
 
 -- under this decided number each stands for its memory as it was, with its text
 abbrev pub AllNew : {C D : Type 0} → checkpoint.Ghosts C D → (ℕ → List ℕ) → Moment C D → Moment C D → ℕ → Type 0
@@ -27,7 +40,7 @@ pub record HasRoom {C D : Type 0} (store : checkpoint.Ghosts C D) (g : ℕ) (now
 
 -- what a store keeps while nothing is decided
 pub record IsUndecided {C D : Type 0} (store : checkpoint.Ghosts C D) (g : ℕ) (old new : D) (b c : C) : Type 0 where
-  pub same : IsSameStore store.place store.size store.form b c
+  pub same : IsSame store b c
   pub lent : store.lent b old → store.lent c new
   pub floor : store.floor c ≤ store.floor b
   pub old_state : (d : ℕ) (reading : Reading) → store.floor b ≤ d → d < g → store.leaves c new d reading → store.leaves b old d reading
@@ -43,7 +56,7 @@ pub record IsPrepared {C D : Type 0} (store : checkpoint.Ghosts C D) (text : Lis
 
 -- what a store keeps while the first one decides
 pub record IsBeside {C D : Type 0} (store : checkpoint.Ghosts C D) (old new : D) (b c : C) : Type 0 where
-  pub same : IsSameStore store.place store.size store.form b c
+  pub same : IsSame store b c
   pub lent : store.lent b old → store.lent c new
   pub floor : store.floor c ≤ store.floor b
   pub stands : Narrows (store.floor b) (store.leaves b old) (store.leaves c new)
@@ -55,7 +68,7 @@ pub record IsDeciding {C D : Type 0} (store : checkpoint.Ghosts C D) (g : ℕ) (
 
 -- what a store keeps once g is decided
 pub record IsDecided {C D : Type 0} (store : checkpoint.Ghosts C D) (g : ℕ) (old new : D) (b c : C) : Type 0 where
-  pub same : IsSameStore store.place store.size store.form b c
+  pub same : IsSame store b c
   pub lent : store.lent b old → store.lent c new
   pub stands : Narrows g (store.leaves b old) (store.leaves c new)
   pub steady : store.steady b old → store.steady c new
@@ -67,3 +80,14 @@ pub record IsCommitted {C D : Type 0} (store : checkpoint.Ghosts C D) (g : ℕ) 
   pub number : store.number c ≡ g
   pub logged : store.logged c ≡ 0
   pub floor : store.floor c ≤ g
+
+-- a store that was not called
+pub record IsIdle {C D : Type 0} (store : checkpoint.Ghosts C D) (old new : D) (b c : C) : Type 0 where
+  pub same : c ≡ b
+  pub still : store.untouched old new (store.place b)
+
+-- a store that took no part in a commit of others, which went whole
+pub record IsAside {C D : Type 0} (store : checkpoint.Ghosts C D) (old new : D) (b c : C) : Type 0 where
+  pub ready : store.ready b old → store.ready c new
+  pub number_same : store.number c ≡ store.number b
+  pub logged_same : store.logged c ≡ store.logged b

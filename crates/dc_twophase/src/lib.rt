@@ -8,6 +8,6 @@ mod commit;
 mod faults;
 mod recover;
 
-pub use commit::commit_all;
+pub use commit::{commit_all, commit_some};
 pub use faults::{JointFault, joint_fault};
 pub use recover::recover_all;

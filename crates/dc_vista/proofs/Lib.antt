@@ -16,3 +16,4 @@ pub mod Settling
 pub mod Steps
 pub mod Undoing
 pub mod Wholes
+mod Decoded

@@ -1,8 +1,10 @@
 -- Laws of what a segment stands for.
-use Rattle.std.proofs.Common.{◌≡◌, ◌≤◌, ◌*◌, ℕ, List, Option, None, Some, IfSome, IsSome, length, take, drop, refl, sym, ◌∙◌, ap, subst, arith, false, length-drop, length-take-le}
+use Rattle.std.proofs.Common.{◌≡◌, ◌≤◌, ◌<◌, ◌+◌, ◌*◌, ℕ, List, Option, None, Some, IfSome, IsSome, length, take, drop, refl, sym, ◌∙◌, ap, subst, arith, false, length-drop, length-take-le}
 use Rattle.std.proofs.lemmas.Bool.{eq-eqb}
 use Rattle.dc_media.specs.Told.{Device, IsSameStore}
-use Rattle.dc_checkpoint.specs.States.{Reading}
+use Rattle.dc_checkpoint.specs.States.{Form, Reading}
+use Rattle.dc_kernel.specs.Layout.{kernel_words}
+use Rattle.dc_vista.specs.Handles.{Fits, shape_of}
 use Rattle.dc_vista.specs.Parts.{Parts, parts, parts_of, segment_words}
 use Rattle.dc_vista.specs.Standing.{Numbers, Shape, StandsFor, is_new, memory_of, reading}
 use Rattle.dc_vista.specs.Whole.{IsReady, Since}
@@ -70,3 +72,31 @@ still P old new same is = subst P (sym same) is
 
 pub memory_still : (size q : ℕ) (old new : Option (List ℕ)) → new ≡ old → memory_of size (parts q new) ≡ memory_of size (parts q old)
 memory_still size q old new same = ap (λ told. memory_of size (parts q told)) same
+
+-- a memory and a process need so many lines
+pub same_lines : (a b : Frame) → a.size ≡ b.size → a.n ≡ b.n → a.lines ≡ b.lines
+same_lines a b size n =
+    let fits = a.shaped.fits in let fits1 = b.shaped.fits in let close = a.close in let close1 = b.close in
+    let text : kernel_words a.n ≡ kernel_words b.n = ap kernel_words n in
+    omega (arith, fits, fits1, close, close1, text, size)
+
+pub same_shape : (a b : Frame) → a.size ≡ b.size → (shape_of a).form ≡ (shape_of b).form → (shape_of a).first ≡ (shape_of b).first → shape_of a ≡ shape_of b
+same_shape a b size form first = let lines = same_lines a b size (ap (λ (f : Form). f.n) form) in λ i. record { size = size i; form = form i; lines = lines i; first = first i }
+
+-- two handles over one store
+module _ (a b : Frame) (told : ℕ → Option (List ℕ)) (place : a.place ≡ b.place) (size : a.size ≡ b.size) (form : (shape_of a).form ≡ (shape_of b).form) where
+  pub leaves_alike : (shape_of a).first ≡ (shape_of b).first → (d : ℕ) (r : Reading) → StandsFor (shape_of a) (parts a.lines (told a.place)) d r → StandsFor (shape_of b) (parts b.lines (told b.place)) d r
+  leaves_alike first d r left = subst (λ (x : Shape). StandsFor x (parts x.lines (told b.place)) d r) (same_shape a b size form first) (subst (λ (q : ℕ). StandsFor (shape_of a) (parts a.lines (told q)) d r) place left)
+
+  pub numbers_alike : (e : ℕ) → Numbers (parts a.lines (told a.place)) e → Numbers (parts b.lines (told b.place)) e
+  numbers_alike e is = subst (λ (q : ℕ). Numbers (parts q (told b.place)) e) (same_lines a b size (ap (λ (f : Form). f.n) form)) (subst (λ (q : ℕ). Numbers (parts a.lines (told q)) e) place is)
+
+-- a handle's store is one that it fits
+pub lent_fits : (frame : Frame) (extent : ℕ) → extent ≡ segment_words frame.lines → Fits extent frame.size frame.n
+lent_fits frame extent long = record { lines = frame.lines; fits = frame.shaped.fits; close = frame.close; long = long }
+
+-- and the other way
+pub fits_lent : (frame : Frame) (extent : ℕ) → Fits extent frame.size frame.n → extent ≡ segment_words frame.lines
+fits_lent frame extent is =
+    let fits = frame.shaped.fits in let close = frame.close in let fits1 = is.fits in let close1 = is.close in
+    let lines : is.lines ≡ frame.lines = omega (arith, fits, fits1, close, close1) in is.long ∙ ap segment_words lines

@@ -6,10 +6,6 @@ use Rattle.dc_media.specs.Told.{Becomes}
 use Rattle.dc_vista.specs.declared.words.Word.{Word}
 use Rattle.dc_vista.specs.declared.words.Word.TheVariants as word
 
--- the words of the log: 64 places of 22 words
-abbrev pub log_words : ℕ
-log_words = 1408
-
 -- how many words a segment has
 abbrev pub segment_words : ℕ → ℕ
 segment_words q = 1424 + 33 * q

@@ -1,4 +1,4 @@
-ghost use Rattle.std.specs.Prelude.{◌≡◌, ◌≤◌, ◌<◌, ◌^◌, length};
+ghost use Rattle.std.specs.Prelude.{◌≡◌, ◌+◌, ◌*◌, ◌≤◌, ◌<◌, ◌^◌, length};
 ghost use Rattle.dc_kernel.specs.Layout.{kernel_words};
 ghost use Rattle.dc_checkpoint.specs.States.{IsForm, IsText, number_in, unlogged};
 ghost use Rattle.dc_vista.specs.Parts.{segment_words};
@@ -28,4 +28,5 @@ pub struct Frame {
     ghost numbered: { 1 ≤ number_in kernel.items },
     ghost whole: { length memory.items ≡ size },
     ghost long: { length kernel.items ≡ kernel_words n },
+    ghost close: { 16 * lines < size + kernel_words n + 16 },
 }

@@ -1,6 +1,7 @@
 //! Reads what a segment stands for under a decided number, and changes nothing of it.
 
-ghost use Rattle.std.specs.Prelude.{◌≡◌, ◌≢◌, ◌==◌, ◌&&◌, ◌+◌, ◌-◌, ◌*◌, ◌<◌, ◌≤◌, ℕ, Err, length, take, drop, vec_capacity, if◌then◌else◌, IfSome, IfOk, IsErrOf, OnOk, slice_index, true, false};
+ghost use Rattle.std.specs.Prelude.{All, ◌≡◌, ◌≢◌, ◌==◌, ◌&&◌, ◌+◌, ◌-◌, ◌*◌, ◌<◌, ◌≤◌, ℕ, Err, length, take, drop, vec_capacity, if◌then◌else◌, IfSome, IfOk, IsErrOf, OnOk, slice_index, true, false};
+ghost use Rattle.dc_kernel.specs.Records.{IsRecord};
 ghost use Rattle.dc_kernel.specs.Kernels.{IsKernel};
 ghost use Rattle.dc_kernel.specs.Layout.{kernel_words};
 ghost use Rattle.dc_kernel.specs.Texts.{text_of};
@@ -226,6 +227,7 @@ impl Frame {
         requires lent { IsLent K.Keeps self.now dev.now }
         ensures room { 64 ≤ vec_capacity log.new }
         ensures few { length log.new.items ≤ 64 }
+        ensures records { OnOk result (All (IsRecord self.now.n) log.new.items) }
         ensures log { OnOk result (IfSome (seen K.Keeps self.now dev.now) (IsLogged self.now.n number log.new.items)) }
         ensures refused { (fault : StoreFault) → IsErrOf result fault → IfSome (seen K.Keeps self.now dev.now) (λ b. (r : Reading) → or_record (self.now.lines + 1) (first_unsound self.now.n 0 (tagged 64 number b.log)) r ≡ Err fault) }
     {
@@ -276,6 +278,7 @@ impl Frame {
         ensures process { (saved.new.kernel.n ≡ saved.old.kernel.n) × (saved.new.kernel.p ≡ saved.old.kernel.p) }
         ensures room { 64 ≤ vec_capacity saved.new.log }
         ensures few { OnOk result (length saved.new.log.items ≤ 64) }
+        ensures records { OnOk result (All (IsRecord self.now.n) saved.new.log.items) }
         ensures kernel { OnOk result (IsKernel self.now.n self.now.p saved.new.kernel) }
         ensures position { OnOk result (saved.new.position ≡ saved.new.kernel.position) }
         ensures count { IfOk result (λ count. (count ≤ self.now.lines) × IfSome (seen K.Keeps self.now dev.now) (λ b. count ≡ b.count)) }

@@ -1,13 +1,13 @@
 ghost use Rattle.std.specs.Prelude.{◌≡◌, ◌+◌, ◌*◌, ◌/◌, ◌≤◌, ℕ, length, IfOk, IfSome, IsSome, Ok};
-ghost use Rattle.std.proofs.Common.{◌∙◌};
+ghost use Rattle.std.proofs.Common.{◌∙◌, sym};
 ghost use Rattle.dc_kernel.specs.Layout.{kernel_words};
 ghost use Rattle.dc_media.specs.Devices.{of_words};
 ghost use Rattle.dc_media.specs.Told.{IsSameStore};
 ghost use Rattle.dc_words.specs.Words.{masked};
 ghost use Rattle.dc_checkpoint.specs.States.{IsForm, IsText, form_in, number_in};
 ghost use Rattle.dc_vista.specs.Faults.{checked};
-ghost use Rattle.dc_vista.specs.Handles.{IsLent, seen, shape_of, since_of};
-ghost use Rattle.dc_vista.specs.Laws.{fits_in, memory_long, memory_still, memory_told, same_back, same_on, same_self, settled_reading, some_number, some_reading, still, told_memory};
+ghost use Rattle.dc_vista.specs.Handles.{Fits, IsLent, seen, shape_of, since_of};
+ghost use Rattle.dc_vista.specs.Laws.{fits_in, leaves_alike, lent_fits, memory_long, memory_still, memory_told, numbers_alike, same_back, same_on, same_self, settled_reading, some_number, some_reading, still, told_memory};
 ghost use Rattle.dc_vista.specs.Parts.{parts};
 ghost use Rattle.dc_vista.specs.Standing.{Numbers, StandsFor, memory_of};
 ghost use Rattle.dc_vista.specs.Whole.{IsPreparedAs, IsReady, untouched};
@@ -71,6 +71,7 @@ impl<K: Keeps> Segment<K> {
         requires number { 1 ≤ number_in kernel.items }
         requires pages { (pages : ℕ) × (length memory.items ≡ 1024 * pages) × (pages ≤ 256) }
         ensures same { IfOk result (λ s. (s.frame.place ≡ place) × (s.frame.size ≡ length memory.items) × ((shape_of s.frame).form ≡ form_in kernel.items)) }
+        ensures n { IfOk result (λ s. s.frame.n ≡ (form_in kernel.items).n) }
         ensures first { IfOk result (λ s. (s.frame.memory ≡ memory) × (s.frame.kernel ≡ kernel)) }
         ensures none { IfOk result (λ s. since_of s.marks ≡ untouched (number_in kernel.items) 0 s.frame.lines) }
     {
@@ -107,11 +108,15 @@ impl<K: Keeps> Checkpoint for Segment<K> {
 
     ghost form = { λ s. (shape_of s.frame).form };
 
+    ghost first = { λ s. (shape_of s.frame).first };
+
     ghost number = { λ s. s.marks.number };
 
     ghost logged = { λ s. s.marks.logged };
 
     ghost floor = { λ s. 0 };
+
+    ghost fits = { λ dev p size form. Fits (K.extent dev p) size form.n };
 
     ghost lent = { λ s dev. IsLent K.Keeps s.frame dev };
 
@@ -155,6 +160,16 @@ impl<K: Keeps> Checkpoint for Segment<K> {
             Err(DeviceFault::Stopped) => Ok((segment, true)),
             Err(DeviceFault::Failed) => Err(MakeFault::Failed),
         }
+    }
+
+    fn attach(
+        alloc: Global,
+        _dev: &K,
+        p: u32,
+        memory: Vec<u32>,
+        kernel: Vec<u32>,
+    ) -> Result<Self, AllocError> {
+        Segment::new(alloc, p, memory, kernel)
     }
 
     fn load(&self, dev: &K, i: u32) -> u32 {
@@ -234,6 +249,12 @@ impl<K: Keeps> Checkpoint for Segment<K> {
     ghost contents_told = { λ s dev is. memory_told s.frame.size s.frame.lines (K.told dev s.frame.place) is };
 
     ghost told_contents = { λ s dev ready told. told_memory s.frame.size s.frame.lines (K.told dev s.frame.place) told };
+
+    ghost leaves_alike = { λ c e dev same d r left. leaves_alike c.frame e.frame (K.told dev) (sym same.place_same) (sym same.size_same) (sym same.form_same) (sym same.first_same) d r left };
+
+    ghost numbers_alike = { λ c e dev same d is. numbers_alike c.frame e.frame (K.told dev) (sym same.place_same) (sym same.size_same) (sym same.form_same) d is };
+
+    ghost lent_fits = { λ s dev is. lent_fits s.frame (K.extent dev s.frame.place) is };
 
     ghost untouched_self = { λ dev q. same_self dev q };
 

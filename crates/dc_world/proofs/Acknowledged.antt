@@ -21,7 +21,7 @@ use Rattle.dc_recovery.specs.Systems.{System}
 use Rattle.dc_world.specs.Joints.{numbered, settled}
 use Rattle.dc_world.specs.Processes.{LearnsBelow}
 use Rattle.dc_world.specs.Slots.{based_in, held_in, is_up, slot_at}
-use Rattle.dc_world.specs.Stages.{AreDecided, IsWorld, Stage, decided_by, leaves_of, memory_of, numbers_of, seen_of, store_of, words_of}
+use Rattle.dc_world.specs.Stages.{IsWorld, Stage, decided_by, leaves_of, memory_of, numbers_of, seen_of, store_of, words_of}
 use Rattle.dc_world.specs.Together.{AllGo, all_committed, all_torn}
 use Rattle.dc_world.specs.declared.slot.Slot.{Slot}
 
@@ -119,7 +119,7 @@ module _ {C D : Type 0} (g : checkpoint.Ghosts C D) (S : System Guest) (together
         (λ p less n counts r left. new_save p less r (leaves_new n p r counts less left))
         (λ p less on. has_learned p less)
 
-    module _ (some : 1 ≤ number) (protocol : new.protocol ≡ old.protocol) (inputs : new.inputs ≡ old.inputs) (acts : new.acts ≡ old.acts) (exposed : new.exposed ≡ old.exposed) (lines : new.lines ≡ old.lines)
+    module _ (some : (world.decided together).least ≤ number) (protocol : new.protocol ≡ old.protocol) (inputs : new.inputs ≡ old.inputs) (acts : new.acts ≡ old.acts) (exposed : new.exposed ≡ old.exposed) (lines : new.lines ≡ old.lines)
         (steady : IsSomeAnd (store_of new 0) (λ z. g.steady z new.dev)) (decided : (n : ℕ) → numbers_of g new n → n ≡ number) (floors : (p : ℕ) → p < S.guests.count → IsSomeAnd (store_of new p) (λ z. g.floor z ≤ number)) where
       up_new : (p : ℕ) → p < S.guests.count → is_up (slot_at new.slots p) ≡ true
       up_new p less = (learns p less).up_same ∙ mid_up p less
@@ -144,6 +144,7 @@ module _ {C D : Type 0} (g : checkpoint.Ghosts C D) (S : System Guest) (together
         lines_are = world.lines_are ∙ sym lines;
         numbered = λ alone. absurd (true≢false (sym together ∙ alone));
         decided = λ _. record {
+          least = (world.decided together).least;
           steady = steady;
           saved = λ n p s counts less left. new_number p (inside p less) s (leaves_new n p (Ok s) counts (inside p less) left) ∙ (let e = decided n counts in omega (arith, e, some));
           held = λ n p counts less on. (
@@ -177,13 +178,10 @@ module _ {C D : Type 0} (g : checkpoint.Ghosts C D) (S : System Guest) (together
           (between n counts);
     }
 
-    module _ (some : 1 ≤ number) (long : length new.slots ≡ length old.slots) (protocol : new.protocol ≡ old.protocol) (inputs : new.inputs ≡ old.inputs) (acts : new.acts ≡ old.acts) (exposed : new.exposed ≡ old.exposed)
+    module _ (some : (world.decided together).least ≤ number) (long : length new.slots ≡ length old.slots) (protocol : new.protocol ≡ old.protocol) (inputs : new.inputs ≡ old.inputs) (acts : new.acts ≡ old.acts) (exposed : new.exposed ≡ old.exposed)
         (lines : new.lines ≡ old.lines) (steady : IsSomeAnd (store_of new 0) (λ z. g.steady z new.dev)) (small : number ≤ 2 ^ 32 - 1 - 4 * new.left) (low : (n : ℕ) → numbers_of g old n → n < number) where
       inside_torn : (p : ℕ) → p < length new.slots → p < S.guests.count
       inside_torn p less = subst (λ m. p < m) (long ∙ sym world.count_is) less
-
-      was_decided : AreDecided g old
-      was_decided = world.decided together
 
       -- the world stands for the core that it leaves
       pub world_torn : IsWorld g S (all_torn c) new
@@ -199,12 +197,13 @@ module _ {C D : Type 0} (g : checkpoint.Ghosts C D) (S : System Guest) (together
         lines_are = world.lines_are ∙ sym lines;
         numbered = λ alone. absurd (true≢false (sym together ∙ alone));
         decided = λ _. record {
+          least = (world.decided together).least;
           steady = steady;
           saved = λ n p s counts less left. ⊎_elim
-              (λ x. was_decided.saved n p s x.0 (subst (λ m. p < m) long less) (x.1 p (Ok s) (inside_torn p less) left))
+              (λ x. (world.decided together).saved n p s x.0 (subst (λ m. p < m) long less) (x.1 p (Ok s) (inside_torn p less) left))
               (λ x. new_number p (inside_torn p less) s (x.1 p (Ok s) (inside_torn p less) left) ∙ (let e = x.0 in omega (arith, e, some)))
               (between n counts);
           held = λ n p counts less on. absurd (true≢false (sym on ∙ down p (inside_torn p less)));
-          few = λ n p counts less off. ⊎_elim (λ x. let l = low n x.0 in omega (arith, l, small)) (λ x. let e = x.0 in omega (arith, e, small)) (between n counts);
+          few = λ n p counts less off. ⊎_elim (λ x. let l = low n x.0 in omega (arith, l, small, some)) (λ x. let e = x.0 in omega (arith, e, small, some)) (between n counts);
         };
       }

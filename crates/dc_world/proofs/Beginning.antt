@@ -1,7 +1,8 @@
 -- A process at its beginning, with its store.
 use Rattle.std.proofs.Common.{◌≡◌, ◌∙◌, ◌*◌, ◌<◌, ◌≤◌, ℕ, List, [], false, Ok, Some, IfSome, ap, arith, length, refl, slice_index, subst, sym}
 use Rattle.std.proofs.lemmas.List.{get_or-replicate}
-use Rattle.dc_checkpoint.specs.Calls.{AreAll}
+use Rattle.dc_checkpoint.specs.Calls.{AreAll, FallsStore}
+use Rattle.dc_checkpoint.specs.Handles.{showing_of}
 use Rattle.dc_checkpoint.specs.States.{Reading, form_in, number_in, unlogged}
 use Rattle.dc_checkpoint.specs.declared.checkpoint.Checkpoint as checkpoint
 use Rattle.dc_elf.specs.declared.image.Image.{Image}
@@ -18,7 +19,6 @@ use Rattle.dc_protocols.specs.declared.protocol.Protocol.{Protocol}
 use Rattle.dc_words.specs.Words.{bytes_in}
 use Rattle.dc_world.proofs.Handling.{counts_same}
 use Rattle.dc_world.specs.Opened.{IsBegun, first_kernel, whose}
-use Rattle.dc_world.specs.Processes.{FallsStore}
 use Rattle.dc_world.specs.Slots.{IsOf}
 use Rattle.dc_world.specs.declared.slot.Slot.TheVariants.{Up, Down}
 
@@ -108,7 +108,7 @@ module _ {C D : Type 0} (g : checkpoint.Ghosts C D) (protocol : Protocol) (n p :
   }
 
   -- its making was stopped
-  pub down_begun : (c2 : C) (d : Fallen) → FallsStore g c c2 → IsDown d → IsDownOf u.kernel.n u.kernel.p u.protocol u.size d → based_of d ≡ (held u).based → IsBegun g protocol (whose n p) image c2 dev (Some (Down d))
+  pub down_begun : (c2 : C) (d : Fallen) → FallsStore (showing_of g) c c2 → IsDown d → IsDownOf u.kernel.n u.kernel.p u.protocol u.size d → based_of d ≡ (held u).based → IsBegun g protocol (whose n p) image c2 dev (Some (Down d))
   down_begun c2 d falls down down_of based_same = record {
     words = words;
     bytes_are = bytes_are;

@@ -103,7 +103,7 @@ module _ {C D : Type 0} (g : checkpoint.Ghosts C D) (images : List Image) (old n
   inside : (q : ℕ) → q < S.guests.count → q < length old.slots
   inside q less = subst (λ m. q < m) world.count_is less
 
-  number_saved : (n q : ℕ) (s : State) → numbers_of g new n → q < length old.slots → leaves_of g new q n (Ok s) → number_in s.kernel ≡ max 1 n
+  number_saved : (n q : ℕ) (s : State) → numbers_of g new n → q < length old.slots → leaves_of g new q n (Ok s) → number_in s.kernel ≡ max (world.decided together).least n
   number_saved n q s is less left = (world.decided together).saved n q s (fewer n is) less (narrow q n is (Ok s) left)
 
   -- no reading of a store is a refusal
@@ -134,6 +134,7 @@ module _ {C D : Type 0} (g : checkpoint.Ghosts C D) (images : List Image) (old n
     lines_are = world.lines_are ∙ sym lines;
     numbered = λ alone. absurd (true≢false (sym together ∙ alone));
     decided = λ _. record {
+      least = (world.decided together).least;
       steady = steady;
       saved = λ n q s is less left. number_saved n q s is (subst (λ m. q < m) long less) left;
       held = λ n q is less on. absurd (true≢false (sym on ∙ ap (λ xs. is_up (slot_at xs q)) slots ∙ off q (subst (λ m. q < m) long less)));
@@ -183,7 +184,7 @@ module _ {C D : Type 0} (g : checkpoint.Ghosts C D) (images : List Image) (old n
         (one_reading (memory_of g (store_of new q) new.dev) (v q) (reading q) r (given q less (reading q) (read q less)) (given q less r here)) (chosen.1 q less)
 
     -- the number of each is the decided one
-    commit_is : (q : ℕ) → q < S.guests.count → (v q).kernel.commit ≡ max 1 n
+    commit_is : (q : ℕ) → q < S.guests.count → (v q).kernel.commit ≡ max (world.decided together).least n
     commit_is q less =
         let save = chosen.1 q less in
         let is_saved : reading q ≡ reading_of save.0 = save.1 in
@@ -195,10 +196,11 @@ module _ {C D : Type 0} (g : checkpoint.Ghosts C D) (images : List Image) (old n
     pub decided_risen : ((q : ℕ) → q < length old.slots → is_up (slot_at new.slots q) ≡ true) → ((q : ℕ) → q < length old.slots → (held_in (slot_at new.slots q)).kernel.commit ≡ (v q).kernel.commit)
         → ((q : ℕ) → q < length old.slots → IsSomeAnd (store_of new q) (λ z. g.floor z ≤ n)) → AreDecided g new
     decided_risen up commits floors = record {
+      least = (world.decided together).least;
       steady = steady;
       saved = λ e q s counts less left. number_saved e q s counts (within q less) left;
       held = λ e q counts less on. (
-        commits q (within q less) ∙ commit_is q (subst (λ m. q < m) (sym world.count_is) (within q less)) ∙ ap (max 1) (sym (only e counts)),
+        commits q (within q less) ∙ commit_is q (subst (λ m. q < m) (sym world.count_is) (within q less)) ∙ ap (max (world.decided together).least) (sym (only e counts)),
         subst (λ m. IsSomeAnd (store_of new q) (λ z. g.floor z ≤ m)) (sym (only e counts)) (floors q (within q less)),
       );
       few = λ e q counts less down. absurd (true≢false (sym (up q (within q less)) ∙ down));
@@ -248,7 +250,7 @@ module _ {C D : Type 0} (g : checkpoint.Ghosts C D) (images : List Image) (old n
         counts_left q less same =
             let fewer_kept = oldest_less (reach S q (own q c.acts) (save q)) (own q c.acts) in
             let short = few_own q in
-            let commit : (held q).kernel.commit ≡ max 1 n = ap (λ (k : Kernel). k.commit) same ∙ commit_is q less in
+            let commit : (held q).kernel.commit ≡ max (world.decided together).least n = ap (λ (k : Kernel). k.commit) same ∙ commit_is q less in
             let low = (world.decided together).few n q (fewer n is) (inside q less) (off q (inside q less)) in
             let within = oldest_length (reach S q (own q c.acts) (save q)) (own q c.acts) (reached q choice) in
             counts_for S q (kept q) (risen (save q)) (words_of (memory_of g (store_of new q) new.dev)) (held q) (2 * (old.left - 1)) (risen_at q less) (omega (arith, within))

@@ -1,5 +1,5 @@
 -- All processes that commit together fell: between turns, or in the event of one of them.
-use Rattle.std.proofs.Common.{◌≡◌, ◌∙◌, ◌-◌, ◌*◌, ◌^◌, ◌<◌, ◌≤◌, ℕ, true, false, Ok, IsSomeAnd, refl, sym, ap, subst, arith, length, slice_index}
+use Rattle.std.proofs.Common.{◌≡◌, ◌∙◌, ◌-◌, ◌*◌, ◌^◌, ◌<◌, ◌≤◌, ℕ, true, false, Ok, IsSomeAnd, refl, sym, ap, subst, arith, length, slice_index, max}
 use Rattle.std.proofs.lemmas.Bool.{true≢false}
 use Rattle.dc_checkpoint.specs.States.{Reading}
 use Rattle.dc_checkpoint.specs.declared.checkpoint.Checkpoint as checkpoint
@@ -28,7 +28,7 @@ module _ {C D : Type 0} (g : checkpoint.Ghosts C D) (S : System Guest) (together
     (fewer : (n : ℕ) → numbers_of g new n → numbers_of g old n) (narrow : (q n : ℕ) → numbers_of g new n → (r : Reading) → leaves_of g new q n r → leaves_of g old q n r)
     (down : (q : ℕ) → q < S.guests.count → is_up (slot_at new.slots q) ≡ false) (based : (q s : ℕ) → q < S.guests.count → s < S.guests.count → slice_index (based_in (slot_at new.slots q)) s ≡ learned S.guests c q s)
     (long : length new.slots ≡ length old.slots) (protocol : new.protocol ≡ old.protocol) (inputs : new.inputs ≡ old.inputs) (exposed : new.exposed ≡ old.exposed) (lines : new.lines ≡ old.lines)
-    (steady : IsSomeAnd (store_of new 0) (λ z. g.steady z new.dev)) (small : (n : ℕ) → numbers_of g old n → n ≤ 2 ^ 32 - 1 - 4 * new.left) where
+    (steady : IsSomeAnd (store_of new 0) (λ z. g.steady z new.dev)) (small : (n : ℕ) → numbers_of g old n → max (world.decided together).least n ≤ 2 ^ 32 - 1 - 4 * new.left) where
   stood : WorldStands S c (seen_of g old) (numbers_of g old) (leaves_of g old)
   stood = numbers_stand g S c old together world.stands
 
@@ -37,6 +37,7 @@ module _ {C D : Type 0} (g : checkpoint.Ghosts C D) (S : System Guest) (together
 
   decided_down : AreDecided g new
   decided_down = let was = world.decided together in record {
+    least = was.least;
     steady = steady;
     saved = λ n q s counts less left. was.saved n q s (fewer n counts) (subst (λ m. q < m) long less) (narrow q n counts (Ok s) left);
     held = λ n q counts less on. absurd (true≢false (sym on ∙ down q (inside q less)));

@@ -1,4 +1,6 @@
 -- Stops between turns, at the stores and at the processes of the code.
+use Rattle.dc_checkpoint.specs.Calls.{FallsStore}
+use Rattle.dc_checkpoint.specs.Handles.{showing_of}
 use Rattle.std.proofs.Common.{◌≡◌, ◌≢◌, ◌∙◌, ◌<◌, ◌+◌, ◌-◌, ◌*◌, ℕ, List, false, Option, None, Some, IsSome, inl, refl, sym, ap, subst, arith, drop, length, set, slice_get, take, ◌++◌, ⊎_elim}
 use Rattle.std.proofs.lemmas.Bool.{cases_eq, true≢false}
 use Rattle.std.proofs.lemmas.List.{append-nil, drop_all, take_all}
@@ -15,7 +17,7 @@ use Rattle.dc_twophase.proofs.Laws.{Laws}
 use Rattle.dc_world.proofs.Beside.{leaves_self, leaves_stay, leaves_were, memory_stays}
 use Rattle.dc_world.proofs.Fallen.{world_fallen}
 use Rattle.dc_world.proofs.Waiting.{ready_next}
-use Rattle.dc_world.specs.Processes.{FallsStore, IsWell}
+use Rattle.dc_world.specs.Processes.{IsWell}
 use Rattle.dc_world.specs.Slots.{Falls, size_in, slot_at}
 use Rattle.dc_world.specs.Stages.{IsHandled, IsReady, IsWorld, Stage, leaves_of, stage_of}
 use Rattle.dc_world.specs.Turns.{IsTurned, later, marked}
@@ -34,7 +36,7 @@ rest_slots w w1 rest = rest ∙ ap (λ (x : Processes). record w { slots = w1.sl
 
 module _ {C D : Type 0} (g : checkpoint.Ghosts C D) where
   -- what a process that fell needs
-  pub handled_falls : (k m : ℕ) (c0 c1 : C) (dev : D) (old new : Option Slot) → Falls old new → FallsStore g c0 c1 → IsHandled g k c0 dev old → IsHandled g m c1 dev new
+  pub handled_falls : (k m : ℕ) (c0 c1 : C) (dev : D) (old new : Option Slot) → Falls old new → FallsStore (showing_of g) c0 c1 → IsHandled g k c0 dev old → IsHandled g m c1 dev new
   handled_falls k m c0 c1 dev None new falls store is = absurd is
   handled_falls k m c0 c1 dev (Some s) None falls store is = absurd (true≢false (sym (falls.there refl)))
   handled_falls k m c0 c1 dev (Some s) (Some (Up v)) falls store is = absurd (true≢false falls.down)
@@ -42,7 +44,7 @@ module _ {C D : Type 0} (g : checkpoint.Ghosts C D) where
   handled_falls k m c0 c1 dev (Some (Down e)) (Some (Down d)) falls store is = (store.lent dev is.0, falls.size_same ∙ is.1 ∙ ap (λ n. 4 * n) (sym store.same.size_same))
 
   -- what one needs that fell in its turn
-  pub handled_down : (m : ℕ) (c0 c1 : C) (dev : D) (old new : Option Slot) → Falls old new → IsSome old → FallsStore g c0 c1 → g.lent c0 dev → size_in old ≡ 4 * g.size c0 → IsHandled g m c1 dev new
+  pub handled_down : (m : ℕ) (c0 c1 : C) (dev : D) (old new : Option Slot) → Falls old new → IsSome old → FallsStore (showing_of g) c0 c1 → g.lent c0 dev → size_in old ≡ 4 * g.size c0 → IsHandled g m c1 dev new
   handled_down m c0 c1 dev old None falls some store lent sized = absurd (true≢false (sym (falls.there some)))
   handled_down m c0 c1 dev old (Some (Up v)) falls some store lent sized = absurd (true≢false falls.down)
   handled_down m c0 c1 dev old (Some (Down d)) falls some store lent sized = (store.lent dev lent, falls.size_same ∙ sized ∙ ap (λ n. 4 * n) (sym store.same.size_same))
@@ -50,7 +52,7 @@ module _ {C D : Type 0} (g : checkpoint.Ghosts C D) where
   -- one process fell
   module _ (laws : Laws g) (stores : List C) (dev : D) (w w1 : Processes) (p : ℕ) (c0 c1 : C) (alone : is_global w.protocol ≡ false) (ready : IsReady g stores dev w) (there : p < length w.slots.items) (at0 : slice_get stores p ≡ Some c0)
       (well1 : IsWell w1) (rest : w1 ≡ record w { slots = w1.slots }) (long : length w1.slots.items ≡ length w.slots.items) (same : (q : ℕ) → q ≢ p → slot_at w1.slots.items q ≡ slot_at w.slots.items q)
-      (falls : Falls (slot_at w.slots.items p) (slot_at w1.slots.items p)) (store : FallsStore g c0 c1) (some : 0 < w.left) where
+      (falls : Falls (slot_at w.slots.items p) (slot_at w1.slots.items p)) (store : FallsStore (showing_of g) c0 c1) (some : 0 < w.left) where
     pub ready_fallen : IsReady g (set stores p c1) dev (counted w1)
     ready_fallen = ready_next g laws stores dev dev w w1 p c0 c1 alone ready there at0 well1 (rest_slots w w1 rest) long (λ q ne. inl (same q ne))
         (handled_falls w.left (w.left - 1) c0 c1 dev (slot_at w.slots.items p) (slot_at w1.slots.items p) falls store (ready.handled alone p c0 at0)) store.same (λ q ne. laws.untouched_self dev q)

@@ -1,10 +1,11 @@
 -- Processes that are fit for a turn or a commit, with their stores.
+use Rattle.dc_checkpoint.specs.Calls.{FallsStore}
 use Rattle.std.proofs.Common.{◌≡◌, ◌∙◌, ◌/◌, ◌*◌, ◌+◌, ◌^◌, ◌<◌, ℕ, List, true, Option, None, Some, IsSome, false, is_some, refl, sym, ap, subst, arith, length, slice_get, slice_index, ◌-◌, ◌≤◌, max, ⊎_elim, Bool, if◌then◌else◌}
 use Rattle.std.proofs.lemmas.Bool.{cases_lt, true≢false}
 use Rattle.std.proofs.lemmas.List.{length-drop}
 use Rattle.std.proofs.lemmas.Nat.{div-mul-add}
-use Rattle.dc_checkpoint.specs.Calls.{IsSameStore}
-use Rattle.dc_checkpoint.specs.States.{Form}
+use Rattle.dc_checkpoint.specs.Handles.{IsSame, showing_of}
+use Rattle.dc_checkpoint.specs.States.{Form, IsFit}
 use Rattle.dc_checkpoint.specs.declared.checkpoint.Checkpoint as checkpoint
 use Rattle.dc_kernel.specs.Kernels.{Kernel}
 use Rattle.dc_kernel.specs.declared.saved.Saved.{Saved}
@@ -17,12 +18,12 @@ use Rattle.dc_proc.specs.declared.up.Up.{Up as Process}
 use Rattle.dc_twophase.proofs.Laws.{Laws}
 use Rattle.dc_twophase.proofs.Pairs.{before_it, known}
 use Rattle.dc_twophase.specs.Commits.{IsCommitted}
-use Rattle.dc_twophase.specs.Recoveries.{AreFit as AreFilled, IsFit, IsRecovered}
+use Rattle.dc_twophase.specs.Recoveries.{AreFit as AreFilled, IsRecovered}
 use Rattle.dc_twophase.specs.Stores.{AreApart, EachPair}
 use Rattle.dc_world.proofs.Handling.{counts_less}
 use Rattle.dc_world.specs.Joints.{AreDown, AreFit, AreOwn, AreReady, GoesAlike, HaveCounts, IsDownAt, IsFitAt, IsMade, IsOwn, IsRisenFrom, IsRoomFor, IsSettled, numbered, settled}
 use Rattle.dc_world.specs.Opened.{whose}
-use Rattle.dc_world.specs.Processes.{FallsStore, LearnsBelow}
+use Rattle.dc_world.specs.Processes.{LearnsBelow}
 use Rattle.dc_world.specs.Slots.{Falls, based_in, held_in, is_up, size_in, slot_at}
 use Rattle.dc_world.specs.declared.joint.Joint.{Joint}
 use Rattle.dc_world.specs.declared.slot.Slot.{Slot}
@@ -74,7 +75,7 @@ pub row_size : (size n m : ℕ) → 0 < n → m ≡ size * n → m / n ≡ size
 row_size size n m some is = ap (λ k. k / n) (is ∙ omega arith) ∙ div-mul-add size n 0 some
 
 -- what one that fell needs to recover
-pub down_at : {C D : Type 0} (g : checkpoint.Ghosts C D) (c0 c1 : C) (dev : D) (old new : Option Slot) → Falls old new → IsSome old → FallsStore g c0 c1 → g.lent c0 dev → size_in old ≡ 4 * g.size c0 → IsDownAt g c1 dev new
+pub down_at : {C D : Type 0} (g : checkpoint.Ghosts C D) (c0 c1 : C) (dev : D) (old new : Option Slot) → Falls old new → IsSome old → FallsStore (showing_of g) c0 c1 → g.lent c0 dev → size_in old ≡ 4 * g.size c0 → IsDownAt g c1 dev new
 down_at g c0 c1 dev old None falls some store lent sized = absurd (true≢false (sym (falls.there some)))
 down_at g c0 c1 dev old (Some (Up v)) falls some store lent sized = absurd (true≢false falls.down)
 down_at g c0 c1 dev old (Some (Down d)) falls some store lent sized = (store.lent dev lent, falls.size_same ∙ sized ∙ ap (λ n. 4 * n) (sym store.same.size_same))
@@ -85,10 +86,10 @@ pub room_filled : {C D : Type 0} (g : checkpoint.Ghosts C D) (stores stores1 : L
 room_filled g stores stores1 n joint joint1 texts saved filled is = record { texts = texts ∙ is.texts; saved_long = saved ∙ is.saved_long; saved_fit = filled }
 
 -- stores that are the same are filled by the same
-pub filled_same : {C D : Type 0} (g : checkpoint.Ghosts C D) (stores stores1 : List C) (saved : List Saved) → length stores1 ≡ length stores → EachPair stores stores1 (λ i. IsSameStore g.place g.size g.form) → AreFilled g stores saved → AreFilled g stores1 saved
+pub filled_same : {C D : Type 0} (g : checkpoint.Ghosts C D) (stores stores1 : List C) (saved : List Saved) → length stores1 ≡ length stores → EachPair stores stores1 (λ i. IsSame g) → AreFilled g stores saved → AreFilled g stores1 saved
 filled_same g stores stores1 saved as_many same fit i c v at there = let b = before_it stores stores1 i c as_many at in subst (λ f. IsFit f v) (sym (same i b.0 c b.1 at).form_same) (fit i b.0 v b.1 there)
 
-pub room_same : {C D : Type 0} (g : checkpoint.Ghosts C D) (stores stores1 : List C) (n : ℕ) (joint joint1 : Joint) → length stores1 ≡ length stores → EachPair stores stores1 (λ i. IsSameStore g.place g.size g.form)
+pub room_same : {C D : Type 0} (g : checkpoint.Ghosts C D) (stores stores1 : List C) (n : ℕ) (joint joint1 : Joint) → length stores1 ≡ length stores → EachPair stores stores1 (λ i. IsSame g)
     → length joint1.texts.items ≡ length joint.texts.items → joint1.saved ≡ joint.saved → IsRoomFor g stores n joint → IsRoomFor g stores1 n joint1
 room_same g stores stores1 n joint joint1 as_many same texts saved is = room_filled g stores stores1 n joint joint1 texts (ap (λ v. length v.items) saved)
     (filled_same g stores stores1 joint1.saved.items as_many same (subst (λ v. AreFilled g stores v.items) (sym saved) is.saved_fit)) is
@@ -98,7 +99,7 @@ pub filled_own : {C D : Type 0} (g : checkpoint.Ghosts C D) (stores : List C) (n
 filled_own g stores n saved own fit i c v at there = subst (λ f. IsFit f v) (sym (own_form g n i c (own i c at))) (fit i v there)
 
 -- stores that are the same are the own ones
-pub own_same : {C D : Type 0} (g : checkpoint.Ghosts C D) (stores stores1 : List C) (n : ℕ) → length stores1 ≡ length stores → EachPair stores stores1 (λ i. IsSameStore g.place g.size g.form) → AreOwn g n stores → AreOwn g n stores1
+pub own_same : {C D : Type 0} (g : checkpoint.Ghosts C D) (stores stores1 : List C) (n : ℕ) → length stores1 ≡ length stores → EachPair stores stores1 (λ i. IsSame g) → AreOwn g n stores → AreOwn g n stores1
 own_same g stores stores1 n as_many same own p c at = let b = before_it stores stores1 p c as_many at in let is = same p b.0 c b.1 at in let was = own p b.0 b.1 in record {
   place_is = is.place_same ∙ was.place_is;
   form_n = ap (λ (f : Form). f.n) is.form_same ∙ was.form_n;
@@ -120,7 +121,7 @@ module _ {C D : Type 0} (g : checkpoint.Ghosts C D) (c0 c1 : C) (d0 d1 : D) (num
   pub held_after : record (held_in s3) { kernel = record (held_in s3).kernel { links = (held_in s2).kernel.links }; others = (held_in s2).others } ≡ settled (based_in s2) (numbered number (held was.up))
   held_after = learns.rest ∙ held_mid
 
-  pub fit_after : ((v : Process) → s3 ≡ Some (Up v) → IsWhole v) → IsSameStore g.place g.size g.form c0 c1 → g.lent c1 d1 → IsCommitted g number d1 c1 → IsFitAt g c1 d1 s3
+  pub fit_after : ((v : Process) → s3 ≡ Some (Up v) → IsWhole v) → IsSame g c0 c1 → g.lent c1 d1 → IsCommitted g number d1 c1 → IsFitAt g c1 d1 s3
   fit_after whole same lent done = by_slot s3 refl
     where
       by_slot : (x : Option Slot) → s3 ≡ x → IsFitAt g c1 d1 x
@@ -213,7 +214,7 @@ module _ {C D : Type 0} (g : checkpoint.Ghosts C D) (c0 c1 : C) (d0 d1 : D) (d n
   kernel_of : record (held_in s2).kernel { links = (held_in s1).kernel.links } ≡ saved.kernel
   kernel_of = ap (λ (h : Held). h.kernel) learns.rest ∙ risen.kernel_is
 
-  pub fit_risen : ((v : Process) → s2 ≡ Some (Up v) → IsWhole v) → IsSameStore g.place g.size g.form c0 c1 → g.lent c1 d1 → IsRecovered g d d1 c1 saved → IsFitAt g c1 d1 s2
+  pub fit_risen : ((v : Process) → s2 ≡ Some (Up v) → IsWhole v) → IsSame g c0 c1 → g.lent c1 d1 → IsRecovered g d d1 c1 saved → IsFitAt g c1 d1 s2
   fit_risen whole same lent done = by_slot s2 refl
     where
       by_slot : (x : Option Slot) → s2 ≡ x → IsFitAt g c1 d1 x
@@ -224,7 +225,7 @@ module _ {C D : Type 0} (g : checkpoint.Ghosts C D) (c0 c1 : C) (d0 d1 : D) (d n
         ready = done.ready;
         sized = ap size_in (sym e) ∙ learns.size_same ∙ risen.size_same ∙ ap size_in was.there ∙ was.sized ∙ ap (λ m. 4 * m) (sym same.size_same);
         paired = record {
-          form_is = λ i. record { n = (sym done.kernel.n_is ∙ sym n_is) i; p = (sym done.kernel.p_is ∙ sym p_is) i };
+          form_is = λ i. record { n = (sym done.read.kernel.n_is ∙ sym n_is) i; p = (sym done.read.kernel.p_is ∙ sym p_is) i };
           number_is = done.number ∙ sym (ap (λ s. (held_in s).kernel.commit) (sym e) ∙ ap (λ (k : Kernel). k.commit) kernel_of);
           logged_is = (let l = done.logged in let a = risen.left_is in let k = ap (λ s. (held_in s).log_left) (sym e) ∙ ap (λ (h : Held). h.log_left) learns.rest in omega (arith, l, a, k));
         };

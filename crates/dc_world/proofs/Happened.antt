@@ -272,6 +272,7 @@ module _ {C D : Type 0} (g : checkpoint.Ghosts C D) (laws : Laws g) (images : Li
           lines_are = world.lines_are ∙ sym lines_are;
           numbered = λ alone. absurd (true≢false (sym together ∙ alone));
           decided = λ _. let was = world.decided together in record {
+            least = was.least;
             steady = steady;
             saved = λ n q s is less l. was.saved n q s (fewer n is) (subst (λ m. q < m) long less) (narrow_all q n is (Ok s) l);
             held = λ n q is less on. let before = was.held n q (fewer n is) (subst (λ m. q < m) long less) (sym (slot_next is_up refl q) ∙ on) in (

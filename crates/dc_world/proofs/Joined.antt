@@ -1,8 +1,10 @@
 -- Where all commit together and the making of one store was stopped all fall; what a recovery is to fill is made.
+use Rattle.dc_checkpoint.specs.Calls.{FallsStore}
+use Rattle.dc_checkpoint.specs.Handles.{showing_of}
 use Rattle.std.proofs.Common.{◌≡◌, ◌≢◌, ◌∙◌, ◌<◌, ◌++◌, ℕ, List, [], ◌∷◌, Option, Some, ap, arith, inl, inr, length, length-append, slice_get, slice_index, subst, sym, true, ⊎_elim}
 use Rattle.std.proofs.lemmas.Bool.{cases_eq, true≢false}
 use Rattle.std.proofs.lemmas.Option.{slice_get_within}
-use Rattle.dc_checkpoint.specs.States.{Form}
+use Rattle.dc_checkpoint.specs.States.{Form, IsFit}
 use Rattle.dc_checkpoint.specs.declared.checkpoint.Checkpoint as checkpoint
 use Rattle.dc_elf.specs.declared.image.Image.{Image}
 use Rattle.dc_kernel.specs.declared.saved.Saved.{Saved}
@@ -10,12 +12,10 @@ use Rattle.dc_plain.specs.Playing.{lists_of}
 use Rattle.dc_protocols.specs.Rules.{is_global}
 use Rattle.dc_protocols.specs.declared.protocol.Protocol.{Protocol}
 use Rattle.dc_twophase.proofs.Pairs.{before_it}
-use Rattle.dc_twophase.specs.Recoveries.{IsFit}
 use Rattle.dc_world.proofs.Begun.{get_end, get_front}
 use Rattle.dc_world.proofs.Felling.{handled_falls}
 use Rattle.dc_world.specs.Joints.{AreUp}
 use Rattle.dc_world.specs.Opened.{AreAlike, AreBegun, AreMadeFor, FallTogether, IsBegun, IsOpened, whose}
-use Rattle.dc_world.specs.Processes.{FallsStore}
 use Rattle.dc_world.specs.Slots.{Falls, IsOf, slot_at}
 use Rattle.dc_world.specs.declared.opening.Setup.{Setup}
 use Rattle.dc_world.specs.declared.processes.Processes.{Processes}
@@ -45,7 +45,7 @@ opened_still setup entries w w1 rest long is = record {
 
 module _ {C D : Type 0} (g : checkpoint.Ghosts C D) where
   -- a process at its beginning fell
-  one_fallen : (protocol : Protocol) (form : Form) (image : Image) (c c1 : C) (dev : D) (old new : Option Slot) → Falls old new → FallsStore g c c1 → ((s : Slot) → new ≡ Some s → IsOf protocol form.n form.p s)
+  one_fallen : (protocol : Protocol) (form : Form) (image : Image) (c c1 : C) (dev : D) (old new : Option Slot) → Falls old new → FallsStore (showing_of g) c c1 → ((s : Slot) → new ≡ Some s → IsOf protocol form.n form.p s)
       → IsBegun g protocol form image c dev old → IsBegun g protocol form image c1 dev new
   one_fallen protocol form image c c1 dev old new falls store of is = record {
     words = is.words;

@@ -2,7 +2,7 @@
 use Rattle.std.proofs.Common.{◌≡◌, ◌∙◌, ◌<◌, ◌≤◌, ℕ, List, Option, None, Some, IsSome, IsSomeAnd, true, refl, sym, ap, subst, arith, length, ◌-◌, ◌^◌, Err}
 use Rattle.std.proofs.lemmas.Bool.{true≢false}
 use Rattle.std.proofs.lemmas.Option.{slice_get_within}
-use Rattle.dc_checkpoint.specs.Calls.{IsSameStore}
+use Rattle.dc_checkpoint.specs.Handles.{IsSame}
 use Rattle.dc_checkpoint.specs.declared.checkpoint.Checkpoint as checkpoint
 use Rattle.dc_guest.specs.Guest.{Guest}
 use Rattle.dc_media.specs.Told.{Becomes}
@@ -53,6 +53,10 @@ module _ {C D : Type 0} (g : checkpoint.Ghosts C D) (told_contents : (c : C) (de
     pub number_low : (e : ℕ) → numbers_of g old e → e < number
     number_low e is = let x = (world.decided together).held e 0 is some (up 0 some) in let o = over 0 some in let m = x.0 in omega (arith, o, m)
 
+    -- and so is the least one
+    pub least_low : (world.decided together).least ≤ number
+    least_low = let e = one_number some in let x = (world.decided together).held e.0 0 e.1 some (up 0 some) in let o = over 0 some in let m = x.0 in omega (arith, o, m)
+
     floor_low : (e p : ℕ) → numbers_of g old e → p < length old.slots → IsSomeAnd (store_of old p) (λ z. g.floor z ≤ e)
     floor_low e p is less = ((world.decided together).held e p is less (up p less)).1
 
@@ -97,7 +101,7 @@ joint_as g stores old new f is = record {
 }
 
 -- the same stores, each where it lay
-pub same_stores : {C D : Type 0} (g : checkpoint.Ghosts C D) (stores stores1 : List C) → length stores1 ≡ length stores → EachPair stores stores1 (λ i. IsSameStore g.place g.size g.form) → AreSameStores g stores stores1
+pub same_stores : {C D : Type 0} (g : checkpoint.Ghosts C D) (stores stores1 : List C) → length stores1 ≡ length stores → EachPair stores stores1 (λ i. IsSame g) → AreSameStores g stores stores1
 same_stores g stores stores1 as_many same = record { long = as_many; placed = λ i b c at there. (same i b c at there).place_same }
 
 pub no_place_then : {C D : Type 0} (g : checkpoint.Ghosts C D) (stores stores1 : List C) (q : ℕ) → AreSameStores g stores stores1 → IsNoPlace g stores q → IsNoPlace g stores1 q

@@ -5,7 +5,7 @@ use Rattle.std.specs.Option.{option_map}
 use Rattle.std.proofs.lemmas.Bool.{true≢false}
 use Rattle.std.proofs.lemmas.List.{get_or-replicate, length-map, length-replicate}
 use Rattle.std.proofs.lemmas.Option.{slice_get-map, slice_get_within}
-use Rattle.dc_checkpoint.specs.States.{Reading, State, number_in}
+use Rattle.dc_checkpoint.specs.States.{IsFit, Reading, State, number_in}
 use Rattle.dc_checkpoint.specs.declared.checkpoint.Checkpoint as checkpoint
 use Rattle.dc_elf.specs.declared.image.Image.{Image}
 use Rattle.dc_guest.specs.Guest.{Guest, started}
@@ -25,7 +25,6 @@ use Rattle.dc_recovery.specs.Core.{Core, at_start, first_save, opened_core}
 use Rattle.dc_recovery.specs.Systems.{System}
 use Rattle.dc_rv32.specs.Machine.{machine_of}
 use Rattle.dc_twophase.proofs.Pairs.{known}
-use Rattle.dc_twophase.specs.Recoveries.{IsFit}
 use Rattle.dc_words.specs.Words.{bytes_in}
 use Rattle.dc_world.proofs.Beginning.{none_received, none_sent}
 use Rattle.dc_world.proofs.Beside.{and_some, some_and}
@@ -253,6 +252,7 @@ module _ {C D : Type 0} (g : checkpoint.Ghosts C D) (setup : Setup) (entries : �
 
     decided_first : AreDecided g x
     decided_first = record {
+      least = 1;
       steady = let (c, store_is, image, image_is, is) = one 0 some in and_some (λ z. g.steady z dev) (slice_get stores 0) c store_is is.steady;
       saved = λ d p s counts less left.
           let (c, store_is, image, image_is, is) = one p (among p less) in
@@ -265,7 +265,7 @@ module _ {C D : Type 0} (g : checkpoint.Ghosts C D) (setup : Setup) (entries : �
           let first = ap (λ (k : Kernel). k.commit) (is.held on).kernel_is in
           let floor = (fit_up g 0 c dev (at p) on (is.handled 0 (omega arith))).2 in
           (omega (arith, none, first), and_some (λ z. g.floor z ≤ d) (slice_get stores p) c store_is (omega (arith, floor)));
-      few = λ d p counts less off. let none = zero d counts in omega (arith, none);
+      few = λ d p counts less off. let none = zero d counts in let a = begins.left_is in omega (arith, none, a, few);
     }
 
     pub opened : IsWorld g T core x

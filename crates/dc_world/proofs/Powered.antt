@@ -1,5 +1,7 @@
 -- All processes fell between turns: whoever commits with whom, the world stands for the core in which all are down.
-use Rattle.std.proofs.Common.{◌≡◌, ◌∙◌, ◌<◌, ◌≤◌, ◌+◌, ◌-◌, ◌*◌, ◌^◌, ℕ, List, Bool, true, false, Option, None, Some, IsSome, IsSomeAnd, ap, arith, inr, length, refl, slice_get, subst, sym, ⊎_elim, slice_index}
+use Rattle.dc_checkpoint.specs.Calls.{FallsStore}
+use Rattle.dc_checkpoint.specs.Handles.{showing_of}
+use Rattle.std.proofs.Common.{◌≡◌, ◌∙◌, ◌<◌, ◌≤◌, ◌+◌, ◌-◌, ◌*◌, ◌^◌, ℕ, List, Bool, true, false, Option, None, Some, IsSome, IsSomeAnd, ap, arith, inr, length, refl, slice_get, subst, sym, ⊎_elim, slice_index, max}
 use Rattle.std.proofs.lemmas.Option.{slice_get_within}
 use Rattle.dc_checkpoint.specs.States.{Reading}
 use Rattle.dc_checkpoint.specs.declared.checkpoint.Checkpoint as checkpoint
@@ -22,7 +24,7 @@ use Rattle.dc_world.proofs.Felling.{handled_falls}
 use Rattle.dc_world.proofs.Fitting.{down_at, down_there, fit_up, room_same}
 use Rattle.dc_world.proofs.Waiting.{own_kept, well_counted}
 use Rattle.dc_world.specs.Joints.{AreOwn, AreReady, IsDownAt, IsFitAt, IsRoomFor}
-use Rattle.dc_world.specs.Processes.{FallsStore, IsWell}
+use Rattle.dc_world.specs.Processes.{IsWell}
 use Rattle.dc_world.specs.Slots.{Falls, is_up, size_in, slot_at}
 use Rattle.dc_world.specs.Stages.{IsReady, IsWorld, Stage, leaves_of, numbers_of, stage_of, store_of}
 use Rattle.dc_world.specs.Turns.{IsTurned, later, marked}
@@ -60,7 +62,7 @@ module _ {C D : Type 0} (g : checkpoint.Ghosts C D) where
   stood_down c dev (Some (Up u)) is = absurd is
   stood_down c dev (Some (Down d)) is = record { there = refl; lent = is.0; sized = is.1 }
 
-  module _ (stores stores1 : List C) (dev : D) (w w1 : Processes) (ready : IsReady g stores dev w) (as_many : length stores1 ≡ length stores) (pairs : EachPair stores stores1 (λ i. FallsStore g))
+  module _ (stores stores1 : List C) (dev : D) (w w1 : Processes) (ready : IsReady g stores dev w) (as_many : length stores1 ≡ length stores) (pairs : EachPair stores stores1 (λ i. FallsStore (showing_of g)))
       (well1 : IsWell w1) (rest : w1 ≡ record w { slots = w1.slots }) (long : length w1.slots.items ≡ length w.slots.items)
       (falls : (q : ℕ) → q < length w.slots.items → Falls (slot_at w.slots.items q) (slot_at w1.slots.items q)) (some : 0 < w.left) where
     left_is : w1.left ≡ w.left
@@ -107,7 +109,7 @@ module _ {C D : Type 0} (g : checkpoint.Ghosts C D) where
     below = later 0 (stage_of stores1 dev w1)
 
     -- what is so of a store was so of it before
-    was_so : (q : ℕ) (P Q : C → Type 0) → ((b c : C) → FallsStore g b c → Q c → P b) → IsSomeAnd (store_of below q) Q → IsSomeAnd (store_of before q) P
+    was_so : (q : ℕ) (P Q : C → Type 0) → ((b c : C) → FallsStore (showing_of g) b c → Q c → P b) → IsSomeAnd (store_of below q) Q → IsSomeAnd (store_of before q) P
     was_so q P Q step l = by_store (slice_get stores1 q) refl l
       where
         by_store : (o : Option C) → slice_get stores1 q ≡ o → IsSomeAnd o Q → IsSomeAnd (store_of before q) P
@@ -128,7 +130,7 @@ module _ {C D : Type 0} (g : checkpoint.Ghosts C D) where
       less_count q less = subst (λ m. q < m) world.count_is less
 
       module _ (together : is_global w.protocol ≡ true) where
-        small : (n : ℕ) → numbers_of g before n → n ≤ 2 ^ 32 - 1 - 4 * below.left
+        small : (n : ℕ) → numbers_of g before n → max (world.decided together).least n ≤ 2 ^ 32 - 1 - 4 * below.left
         small n is =
             let decided = world.decided together in
             let first = known stores 0 (subst (λ m. 0 < m) (sym ready.stores_long) ready.well.some) in

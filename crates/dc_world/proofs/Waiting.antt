@@ -2,7 +2,7 @@
 use Rattle.std.proofs.Common.{◌≡◌, ◌≢◌, ◌∙◌, ◌<◌, ◌≤◌, ◌+◌, ◌-◌, ℕ, List, Option, None, Some, false, true, inl, inr, sym, ap, subst, arith, length, length-set, set, slice_get, ⊎_elim}
 use Rattle.std.proofs.lemmas.Bool.{cases_eq, true≢false}
 use Rattle.std.proofs.lemmas.Option.{slice_get_within}
-use Rattle.dc_checkpoint.specs.Calls.{IsSameStore}
+use Rattle.dc_checkpoint.specs.Handles.{IsSame}
 use Rattle.dc_checkpoint.specs.States.{Form}
 use Rattle.dc_checkpoint.specs.declared.checkpoint.Checkpoint as checkpoint
 use Rattle.dc_protocols.specs.Rules.{is_global}
@@ -24,7 +24,7 @@ pub well_counted : (w : Processes) → IsWell w → IsWell (counted w)
 well_counted w well = record { some = well.some; few = well.few; exposed_long = well.exposed_long; inputs_long = well.inputs_long; each = well.each }
 
 -- a store that is the same one is its process's own still
-pub own_kept : {C D : Type 0} (g : checkpoint.Ghosts C D) (n : ℕ) (stores stores1 : List C) → length stores1 ≡ length stores → EachPair stores stores1 (λ i. IsSameStore g.place g.size g.form) → AreOwn g n stores → AreOwn g n stores1
+pub own_kept : {C D : Type 0} (g : checkpoint.Ghosts C D) (n : ℕ) (stores stores1 : List C) → length stores1 ≡ length stores → EachPair stores stores1 (λ i. IsSame g) → AreOwn g n stores → AreOwn g n stores1
 own_kept g n stores stores1 as_many pairs own q c at =
     let was = before_it stores stores1 q c as_many at in
     let same = pairs q was.0 c was.1 at in
@@ -36,7 +36,7 @@ own_kept g n stores stores1 as_many pairs own q c at =
 
 -- a turn where all commit together
 module _ {C D : Type 0} (g : checkpoint.Ghosts C D) (stores stores1 : List C) (dev dev1 : D) (w w1 : Processes) (together : is_global w.protocol ≡ true) (ready : IsReady g stores dev w) (as_many : length stores1 ≡ length stores)
-    (pairs : EachPair stores stores1 (λ i. IsSameStore g.place g.size g.form)) (well1 : IsWell w1) (rest : w1 ≡ record w { slots = w1.slots; acts = w1.acts; exposed = w1.exposed; joint = w1.joint }) (long : length w1.slots.items ≡ length w.slots.items)
+    (pairs : EachPair stores stores1 (λ i. IsSame g)) (well1 : IsWell w1) (rest : w1 ≡ record w { slots = w1.slots; acts = w1.acts; exposed = w1.exposed; joint = w1.joint }) (long : length w1.slots.items ≡ length w.slots.items)
     (ready1 : AreReady g (w.left - 1) stores1 dev1 w1.slots.items) (room1 : IsRoomFor g stores1 (length w.slots.items) w1.joint) where
   pub ready_together : w.acts.room ≤ w1.acts.room → length w1.acts.items ≤ length w.acts.items + 1 → 0 < w.left → IsReady g stores1 dev1 (counted w1)
   ready_together room grown some =
@@ -85,7 +85,7 @@ module _ {C D : Type 0} (g : checkpoint.Ghosts C D) (laws : Laws g) (old new : D
 module _ {C D : Type 0} (g : checkpoint.Ghosts C D) (laws : Laws g) (stores : List C) (dev dev1 : D) (w w1 : Processes) (p : ℕ) (c0 c1 : C) (alone : is_global w.protocol ≡ false) (ready : IsReady g stores dev w) (there : p < length w.slots.items) (at0 : slice_get stores p ≡ Some c0)
     (well1 : IsWell w1) (rest : w1 ≡ record w { slots = w1.slots; acts = w1.acts; exposed = w1.exposed }) (long : length w1.slots.items ≡ length w.slots.items)
     (others : (q : ℕ) → q ≢ p → Hears p (slot_at w.slots.items q) (slot_at w1.slots.items q)) (handled1 : IsHandled g (w.left - 1) c1 dev1 (slot_at w1.slots.items p))
-    (same : IsSameStore g.place g.size g.form c0 c1) (untouched : (q : ℕ) → q ≢ g.place c0 → g.untouched dev dev1 q) where
+    (same : IsSame g c0 c1) (untouched : (q : ℕ) → q ≢ g.place c0 → g.untouched dev dev1 q) where
   left_is : w1.left ≡ w.left
   left_is = ap (λ (x : Processes). x.left) rest
 

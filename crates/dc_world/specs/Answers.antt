@@ -1,5 +1,5 @@
 -- What the code of a world answers at a turn.
-use Rattle.std.specs.Prelude.{◌≡◌, ◌≢◌, ◌<◌, ◌==◌, ◌+◌, ◌%◌, ◌||◌, not, ℕ, List, Bool, true, false, Option, None, Some, IfSome, is_some, if◌then◌else◌, length, slice_get, slice_index}
+use Rattle.std.specs.Prelude.{◌≡◌, ◌≢◌, ◌<◌, ◌==◌, ◌+◌, ◌%◌, ◌||◌, not, ℕ, List, Bool, true, false, Option, None, Some, is_some, if◌then◌else◌, length, slice_get, slice_index}
 use Rattle.std.specs.Option.{option_map}
 use Rattle.dc_calls.specs.declared.call.Call.{Call}
 use Rattle.dc_calls.specs.declared.call.Call.TheVariants as calls
@@ -8,7 +8,6 @@ use Rattle.dc_events.specs.declared.event.Kind.{Kind}
 use Rattle.dc_events.specs.declared.event.Kind.TheVariants as kind
 use Rattle.dc_events.specs.declared.event.Next.TheVariants as next
 use Rattle.dc_guest.specs.Answers.{may_answer}
-use Rattle.dc_guest.specs.Nexts.{NextFits}
 use Rattle.dc_kernel.specs.Kernels.{Kernel}
 use Rattle.dc_kernel.specs.declared.records.LogRecord.{LogRecord}
 use Rattle.dc_links.specs.Links.{link_to, message_numbered}
@@ -66,10 +65,6 @@ IsTold n p call rec = (at_inputs (kind_by call) ≡ true) × (may_answer (answer
 abbrev pub HasCallRoom : Kernel → Option Call → Type 0
 HasCallRoom k (Some (calls.Send q from count)) = length (link_to k.links q).kept < 8
 HasCallRoom k _ = Unit {0}
-
--- what a call names lies within the memory, and is a process
-abbrev pub CallFits : ℕ → ℕ → ℕ → Option Call → Type 0
-CallFits size p n call = IfSome call (λ c. NextFits size p n (next.Call c))
 
 -- a call that sends
 abbrev pub is_send_call : Option Call → Bool

@@ -1,7 +1,8 @@
 -- What a world is when it was opened.
 use Rattle.std.specs.Prelude.{◌≡◌, ◌⊎◌, ◌<◌, ◌≤◌, ◌*◌, ◌-◌, ℕ, List, [], true, false, Option, Some, IfSome, length, replicate, slice_get, slice_index, slice_set}
-use Rattle.dc_checkpoint.specs.Calls.{AreAll}
-use Rattle.dc_checkpoint.specs.States.{Form, Reading}
+use Rattle.dc_checkpoint.specs.Calls.{AreAll, FallsStore}
+use Rattle.dc_checkpoint.specs.Handles.{showing_of}
+use Rattle.dc_checkpoint.specs.States.{Form, IsFit, Reading}
 use Rattle.dc_checkpoint.specs.declared.checkpoint.Checkpoint as checkpoint
 use Rattle.dc_elf.specs.declared.image.Image.{Image}
 use Rattle.dc_kernel.specs.Kernels.{IsKernel, Kernel, fresh}
@@ -11,11 +12,9 @@ use Rattle.dc_plain.specs.Playing.{CanStart, lists_of}
 use Rattle.dc_proc.specs.Processes.{Held, reading_of}
 use Rattle.dc_protocols.specs.Rules.{is_global}
 use Rattle.dc_protocols.specs.declared.protocol.Protocol.{Protocol}
-use Rattle.dc_twophase.specs.Recoveries.{IsFit}
 use Rattle.dc_twophase.specs.Stores.{EachPair}
 use Rattle.dc_words.specs.Words.{bytes_in}
 use Rattle.dc_world.specs.Joints.{AreUp, IsOwn}
-use Rattle.dc_world.specs.Processes.{FallsStore}
 use Rattle.dc_world.specs.Slots.{Falls, IsOf, based_in, held_in, is_up, slot_at}
 use Rattle.dc_world.specs.Stages.{IsHandled}
 use Rattle.dc_world.specs.declared.opening.Setup.{Setup}
@@ -79,7 +78,7 @@ AreMadeFor n saved = (p : ℕ) (v : Saved) → slice_get saved p ≡ Some v → 
 pub record HaveFallen {C D : Type 0} (g : checkpoint.Ghosts C D) (slots slots1 : List (Option Slot)) (stores stores1 : List C) : Type 0 where
   pub one : (q : ℕ) × (q < length slots) × (is_up (slot_at slots q) ≡ false)
   pub falls : (p : ℕ) → p < length slots → Falls (slot_at slots p) (slot_at slots1 p)
-  pub pairs : EachPair stores stores1 (λ i. FallsStore g)
+  pub pairs : EachPair stores stores1 (λ i. FallsStore (showing_of g))
 
 -- they are as they were, where each commits by itself or all are up; else all fell
 abbrev pub FallTogether : {C D : Type 0} → checkpoint.Ghosts C D → Protocol → List (Option Slot) → List (Option Slot) → List C → List C → Type 0

@@ -1,9 +1,6 @@
 -- What the processes of a world share, and what learning changes.
-use Rattle.std.specs.Prelude.{◌≡◌, ◌≢◌, ◌⊎◌, ◌<◌, ◌≤◌, ℕ, true, false, Option, Some, IsSome, length, max, slice_index, slice_set}
-use Rattle.dc_checkpoint.specs.Calls.{AreAmong, IsSameStore, Narrows}
-use Rattle.dc_checkpoint.specs.declared.checkpoint.Checkpoint as checkpoint
+use Rattle.std.specs.Prelude.{◌≡◌, ◌⊎◌, ◌<◌, ◌≤◌, ℕ, true, false, Option, Some, IsSome, length, max, slice_index, slice_set}
 use Rattle.dc_links.specs.Links.{link_to, trimmed}
-use Rattle.dc_proc.specs.Calls.{Moment}
 use Rattle.dc_proc.specs.Processes.{Held}
 use Rattle.dc_protocols.specs.declared.protocol.Protocol.{Protocol}
 use Rattle.dc_world.specs.Slots.{AreOf, IsOf, based_in, held_in, is_up, size_in}
@@ -56,18 +53,3 @@ pub record LearnsAll (protocol : Protocol) (n p : ℕ) (upto : ℕ → ℕ) (old
 -- another process is as it was, or it has learned of this one
 abbrev pub Hears : ℕ → Option Slot → Option Slot → Type 0
 Hears q old new = (new ≡ old) ⊎ ((upto : ℕ) × Learns q upto old new)
-
--- calls of the store of one process: it is the same one and its device may still be lent to it; the devices of others are as they were
-pub record CallsStore {C D : Type 0} (g : checkpoint.Ghosts C D) (old new : Moment C D) : Type 0 where
-  pub same : IsSameStore g.place g.size g.form old.store new.store
-  pub lent : g.lent new.store new.dev
-  pub others : (q : ℕ) → q ≢ g.place old.store → g.untouched old.dev new.dev q
-  pub continues : g.continues old.dev new.dev
-
--- a store whose process fell, or was down: it is the same one, and stands for what it stood for
-pub record FallsStore {C D : Type 0} (g : checkpoint.Ghosts C D) (old new : C) : Type 0 where
-  pub same : IsSameStore g.place g.size g.form old new
-  pub lent : (dev : D) → g.lent old dev → g.lent new dev
-  pub stands : (dev : D) → Narrows 0 (g.leaves old dev) (g.leaves new dev)
-  pub steady : (dev : D) → g.steady old dev → g.steady new dev
-  pub numbers : (dev : D) → AreAmong (g.numbers old dev) (g.numbers new dev)

@@ -85,13 +85,15 @@ pub record IsReady {C D : Type 0} (g : checkpoint.Ghosts C D) (stores : List C) 
   pub few_lines : w.lines ≤ w.entries
   pub few_entries : w.entries + w.left ≤ 1000000
 
--- where all commit together the decided number is that of their last commit, or 0 while that is the first: so it is in each state that a store may
--- stand for under it, and in each process that is up, whose store's images are all told of under it; and it may rise by two in each of so many turns
+-- where all commit together the decided number is that of their last commit, or less while that is the one with which the run began: so it is in each state
+-- that a store may stand for under it, and in each process that is up, whose store's images are all told of under it; and it may rise by two in each of so
+-- many turns
 pub record AreDecided {C D : Type 0} (g : checkpoint.Ghosts C D) (x : Stage C D) : Type 0 where
+  pub least : ℕ
   pub steady : IsSomeAnd (store_of x 0) (λ c. g.steady c x.dev)
-  pub saved : (d p : ℕ) (s : State) → numbers_of g x d → p < length x.slots → leaves_of g x p d (Ok s) → number_in s.kernel ≡ max 1 d
-  pub held : (d p : ℕ) → numbers_of g x d → p < length x.slots → is_up (slot_at x.slots p) ≡ true → ((held_in (slot_at x.slots p)).kernel.commit ≡ max 1 d) × IsSomeAnd (store_of x p) (λ c. g.floor c ≤ d)
-  pub few : (d p : ℕ) → numbers_of g x d → p < length x.slots → is_up (slot_at x.slots p) ≡ false → d ≤ 2 ^ 32 - 1 - 4 * x.left
+  pub saved : (d p : ℕ) (s : State) → numbers_of g x d → p < length x.slots → leaves_of g x p d (Ok s) → number_in s.kernel ≡ max least d
+  pub held : (d p : ℕ) → numbers_of g x d → p < length x.slots → is_up (slot_at x.slots p) ≡ true → ((held_in (slot_at x.slots p)).kernel.commit ≡ max least d) × IsSomeAnd (store_of x p) (λ c. g.floor c ≤ d)
+  pub few : (d p : ℕ) → numbers_of g x d → p < length x.slots → is_up (slot_at x.slots p) ≡ false → max least d ≤ 2 ^ 32 - 1 - 4 * x.left
 
 -- it stands for a core: the processes and their stores do, and so do the acts, the count of lines, and what the world remembers of each process
 pub record IsWorld {C D : Type 0} (g : checkpoint.Ghosts C D) (S : System Guest) (c : Core) (x : Stage C D) : Type 0 where

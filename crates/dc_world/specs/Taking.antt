@@ -1,7 +1,7 @@
 -- What a process needs to take its next event at its place, and what it is after that.
 use Rattle.std.specs.Prelude.{◌≡◌, ◌<◌, ◌≤◌, ◌+◌, ◌-◌, ◌^◌, ℕ, List, true, false, Option, None, Some, IfSome, Result, OnOk, OnErr, IfOk}
 use Rattle.dc_calls.specs.declared.call.Call.{Call}
-use Rattle.dc_checkpoint.specs.Calls.{AreAmong, Narrows}
+use Rattle.dc_checkpoint.specs.Calls.{AreAmong, Moment, Narrows}
 use Rattle.dc_checkpoint.specs.declared.checkpoint.Checkpoint as checkpoint
 use Rattle.dc_events.specs.Kinds.{kind_of}
 use Rattle.dc_guest.specs.Answers.{effect_of, may_answer}
@@ -14,7 +14,6 @@ use Rattle.dc_model.specs.declared.mark.Idle.{Idle}
 use Rattle.dc_model.specs.declared.mark.Idle.TheVariants.{Ended, LinkFull}
 use Rattle.dc_model.specs.declared.mark.Mark.{Mark}
 use Rattle.dc_model.specs.declared.visible.Visible.{Visible}
-use Rattle.dc_proc.specs.Calls.{Moment}
 use Rattle.dc_proc.specs.Carried.{process}
 use Rattle.dc_proc.specs.Events.{HasCounts, HasCountsFor, HasNextRoom, IsSender}
 use Rattle.dc_proc.specs.Processes.{IsNumbered, IsPaired}

@@ -1,7 +1,7 @@
 //! A commit of all processes together.
 
 ghost use Rattle.std.specs.Prelude.{◌≡◌, ◌≢◌, ◌<◌, ◌≤◌, ◌+◌, ◌*◌, ◌-◌, ◌^◌, ℕ, OnErr, OnOk, length, slice_get, slice_index, true, false};
-ghost use Rattle.dc_checkpoint.specs.Calls.{IsSameStore};
+ghost use Rattle.dc_checkpoint.specs.Handles.{IsSame};
 ghost use Rattle.dc_checkpoint.specs.States.{IsText};
 ghost use Rattle.dc_kernel.specs.Kernels.{IsKernel};
 ghost use Rattle.dc_kernel.specs.Layout.{kernel_words};
@@ -146,7 +146,7 @@ impl Processes {
         ensures well { IsWell self.new }
         ensures rest { self.new ≡ record self.old { slots = self.new.slots; joint = self.new.joint } }
         ensures long { length self.new.slots.items ≡ length self.old.slots.items }
-        ensures stores { EachPair stores.old stores.new (λ i. IsSameStore C.place C.size C.form) }
+        ensures stores { EachPair stores.old stores.new (λ i. IsSame C.Checkpoint) }
         ensures as_many { length stores.new ≡ length stores.old }
         ensures room { IsRoomFor C.Checkpoint stores.new (length self.old.slots.items) self.new.joint }
         ensures fit { OnOk result (AreFit C.Checkpoint stores.new dev.new self.new.slots.items) }

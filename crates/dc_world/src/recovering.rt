@@ -2,16 +2,16 @@
 
 ghost use Rattle.std.specs.Prelude.{◌≡◌, ◌≢◌, ◌<◌, ◌≤◌, ◌+◌, ◌*◌, ◌-◌, ◌^◌, ℕ, IfOk, IsErrOf, None, OnErr, Some, false, length, map, max, slice_index, slice_set};
 ghost use Rattle.dc_acts.specs.Counted.{cut_acts};
-ghost use Rattle.dc_checkpoint.specs.Calls.{IsCounted};
+ghost use Rattle.dc_checkpoint.specs.Calls.{Touches, on};
+ghost use Rattle.dc_checkpoint.specs.Handles.{showing_of};
 ghost use Rattle.dc_kernel.specs.declared.faults.StoreFault as faults;
 ghost use Rattle.dc_model.specs.declared.entry.Entry.TheVariants as entries;
 ghost use Rattle.dc_model.specs.declared.mark.Mark.TheVariants as marks;
-ghost use Rattle.dc_proc.specs.Calls.{on};
 ghost use Rattle.dc_proc.specs.Processes.{logged_of};
 ghost use Rattle.dc_proc.specs.Ups.{held};
 ghost use Rattle.dc_protocols.specs.Rules.{is_global};
 ghost use Rattle.dc_recovery.specs.Saves.{log_end};
-ghost use Rattle.dc_world.specs.Processes.{CallsStore, Hears, IsWell, Learns, LearnsAll};
+ghost use Rattle.dc_world.specs.Processes.{Hears, IsWell, Learns, LearnsAll};
 ghost use Rattle.dc_world.specs.Slots.{IsOf, based_in, slot_at};
 ghost use Rattle.dc_world.specs.Stages.{IsHandled, stage_of};
 ghost use Rattle.dc_world.specs.Turns.{GoesOn, HasNoRun, WithStores, later, with_slot};
@@ -85,8 +85,7 @@ impl Processes {
         ensures fewer { length self.new.acts.items ≤ length self.old.acts.items }
         ensures others { (q : ℕ) → q ≢ turn.now.p → Hears turn.now.p (slot_at self.old.slots.items q) (slot_at self.new.slots.items q) }
         ensures handled { IsHandled C.Checkpoint (self.old.left - 1) store.new dev.new (slot_at self.new.slots.items turn.now.p) }
-        ensures call { CallsStore C.Checkpoint (on store.old dev.old) (on store.new dev.new) }
-        ensures counts { IsCounted C.told C.stops C.faults (C.place store.old) dev.old dev.new result }
+        ensures call { Touches (showing_of C.Checkpoint) (on store.old dev.old) (on store.new dev.new) result }
         ensures whole { IfOk result (λ mark. mark ≡ marks.Stopped → ⊥) }
         ensures refused { (fault : faults.StoreFault) → IsErrOf result (CheckFault.Refused fault) → WithStores C.Checkpoint turn.now.p store.old (λ stores. HasNoRun C.Checkpoint (with_slot turn.now.p (slots.Down down) (stage_of stores dev.old self.old))
             (later 0 (stage_of (slice_set stores turn.now.p store.new) dev.new self.new))) }

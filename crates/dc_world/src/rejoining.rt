@@ -2,7 +2,8 @@
 
 ghost use Rattle.std.specs.Prelude.{◌≡◌, ◌≢◌, ◌<◌, ◌≤◌, ◌+◌, ◌*◌, ◌-◌, ◌^◌, ℕ, IfOk, IfSome, IsErrOf, IsSome, None, OnErr, OnOk, Some, length, map, max, slice_get, slice_index, vec_capacity, true, false};
 ghost use Rattle.dc_acts.specs.Counted.{cut_acts};
-ghost use Rattle.dc_checkpoint.specs.Calls.{IsSameStore};
+ghost use Rattle.dc_checkpoint.specs.Handles.{IsSame};
+ghost use Rattle.dc_checkpoint.specs.States.{IsFit};
 ghost use Rattle.dc_kernel.specs.Kernels.{IsKernel};
 ghost use Rattle.dc_kernel.specs.declared.faults.StoreFault as faults;
 ghost use Rattle.dc_kernel.specs.declared.saved.Saved.{Saved as Saveds};
@@ -13,7 +14,6 @@ ghost use Rattle.dc_proc.specs.Processes.{logged_of};
 ghost use Rattle.dc_protocols.specs.Rules.{is_global};
 ghost use Rattle.dc_recovery.specs.Saves.{log_end};
 ghost use Rattle.dc_twophase.specs.Counts.{IsJoint};
-ghost use Rattle.dc_twophase.specs.Recoveries.{IsFit};
 ghost use Rattle.dc_twophase.specs.Stores.{EachPair, IsNoPlace};
 ghost use Rattle.dc_twophase.specs.declared.faults.JointFault.TheVariants as joint;
 ghost use Rattle.dc_world.specs.Joints.{AreCut, AreDown, AreFit, AreOwn, AreUp, HaveCounts, IsRisenFrom, IsRoomFor};
@@ -144,7 +144,7 @@ impl Processes {
         ensures long { length self.new.slots.items ≡ length self.old.slots.items }
         ensures acts_room { self.new.acts.room ≡ self.old.acts.room }
         ensures fewer { length self.new.acts.items ≤ length self.old.acts.items }
-        ensures stores { EachPair stores.old stores.new (λ i. IsSameStore C.place C.size C.form) }
+        ensures stores { EachPair stores.old stores.new (λ i. IsSame C.Checkpoint) }
         ensures as_many { length stores.new ≡ length stores.old }
         ensures room { IsRoomFor C.Checkpoint stores.new (length self.old.slots.items) self.new.joint }
         ensures fit { OnOk result (AreFit C.Checkpoint stores.new dev.new self.new.slots.items × HaveCounts (2 * (self.old.left - 1)) self.new.slots.items) }

@@ -1,9 +1,11 @@
 //! Stops between turns, and before the first.
 
+ghost use Rattle.dc_checkpoint.specs.Calls.{FallsStore};
+ghost use Rattle.dc_checkpoint.specs.Handles.{showing_of};
 ghost use Rattle.std.specs.Prelude.{◌≡◌, ◌≢◌, ◌<◌, ℕ, length};
 ghost use Rattle.dc_twophase.specs.Stores.{EachPair};
 ghost use Rattle.dc_world.specs.Opened.{FallTogether};
-ghost use Rattle.dc_world.specs.Processes.{FallsStore, IsWell};
+ghost use Rattle.dc_world.specs.Processes.{IsWell};
 ghost use Rattle.dc_world.specs.Slots.{Falls, are_up, slot_at};
 
 use crate::processes::Processes;
@@ -21,7 +23,7 @@ impl Processes {
         ensures rest { self.new ≡ record self.old { slots = self.new.slots } }
         ensures long { length self.new.slots.items ≡ length self.old.slots.items }
         ensures well { IsWell self.new }
-        ensures store { FallsStore C.Checkpoint store.old store.new }
+        ensures store { FallsStore (showing_of C.Checkpoint) store.old store.new }
     {
         match self.slots[p as usize].take() {
             Some(Slot::Up(up)) => self.slots[p as usize] = Some(Slot::Down(up.fall(store))),
@@ -37,7 +39,7 @@ impl Processes {
         ensures rest { self.new ≡ record self.old { slots = self.new.slots } }
         ensures long { length self.new.slots.items ≡ length self.old.slots.items }
         ensures well { IsWell self.new }
-        ensures stores { EachPair stores.old stores.new (λ i. FallsStore C.Checkpoint) }
+        ensures stores { EachPair stores.old stores.new (λ i. FallsStore (showing_of C.Checkpoint)) }
         ensures as_many { length stores.new ≡ length stores.old }
     {
         for p in 0..self.count() {

@@ -2,13 +2,13 @@
 
 ghost use Rattle.std.specs.Prelude.{◌≡◌, ◌≢◌, ◌<◌, ◌≤◌, ◌+◌, ◌-◌, ◌^◌, ◌&&◌, ℕ, None, Some, IfOk, OnErr, OnOk, false, true, if◌then◌else◌, length, nat_lt, slice_index, slice_set};
 ghost use Rattle.dc_acts.specs.Counted.{acts_of};
-ghost use Rattle.dc_checkpoint.specs.Calls.{IsCounted, IsUnrefused};
+ghost use Rattle.dc_checkpoint.specs.Calls.{FallsStore, IsCall, IsUnrefused, Touches, on};
+ghost use Rattle.dc_checkpoint.specs.Handles.{showing_of};
 ghost use Rattle.dc_guest.specs.Answers.{answer_of, may_answer};
 ghost use Rattle.dc_model.specs.Guests.Answer.{Plain};
-ghost use Rattle.dc_proc.specs.Calls.{IsCall, on};
 ghost use Rattle.dc_proc.specs.declared.up.Up.{Up as Ups};
 ghost use Rattle.dc_world.specs.Answers.{IsSentTo, exposed_by, kind_by};
-ghost use Rattle.dc_world.specs.Processes.{CallsStore, FallsStore, Hears, IsWell, Learns};
+ghost use Rattle.dc_world.specs.Processes.{Hears, IsWell, Learns};
 ghost use Rattle.dc_world.specs.Slots.{Falls, based_in, held_in, slot_at};
 ghost use Rattle.dc_world.specs.Stages.{IsHandled, stage_of};
 ghost use Rattle.dc_world.specs.Taking.{HasNext, HasTaken, MayTake, Shows, attempt};
@@ -60,7 +60,7 @@ pub(crate) fn take_in<C: Checkpoint>(
     requires room { length acts.old.items < acts.old.room }
     requires few { length acts.old.items < 2 ^ 32 - 1 }
     ensures taken { (u : Ups) → slot.old ≡ Some (slots.Up u) → HasTaken C.Checkpoint (on store.old dev.old) (on store.new dev.new) (attempt t (answer_of answer.now) acts.old.items acts.new.items) result u slot.new }
-    ensures call { IsCall C.Checkpoint (on store.old dev.old) (on store.new dev.new) result }
+    ensures call { IsCall (showing_of C.Checkpoint) (on store.old dev.old) (on store.new dev.new) result }
     ensures ready { OnOk result (C.ready store.new dev.new) }
     ensures room { acts.old.room ≤ acts.new.room }
     ensures grown { length acts.new.items ≤ length acts.old.items + 1 }
@@ -109,7 +109,7 @@ impl Processes {
         ensures rest { self.new ≡ record self.old { slots = self.new.slots } }
         ensures long { length self.new.slots.items ≡ length self.old.slots.items }
         ensures well { IsWell self.new }
-        ensures store { FallsStore C.Checkpoint store.old store.new }
+        ensures store { FallsStore (showing_of C.Checkpoint) store.old store.new }
     {
         self.stop(p, store);
         self.learn_of(p);
@@ -141,8 +141,7 @@ impl Processes {
         ensures grown { length self.new.acts.items ≤ length self.old.acts.items + 1 }
         ensures others { (q : ℕ) → q ≢ p → Hears p (slot_at self.old.slots.items q) (slot_at self.new.slots.items q) }
         ensures handled { IsHandled C.Checkpoint (self.old.left - 1) store.new dev.new (slot_at self.new.slots.items p) }
-        ensures call { CallsStore C.Checkpoint (on store.old dev.old) (on store.new dev.new) }
-        ensures counts { IsCounted C.told C.stops C.faults (C.place store.old) dev.old dev.new result }
+        ensures call { Touches (showing_of C.Checkpoint) (on store.old dev.old) (on store.new dev.new) result }
         ensures unrefused { IsUnrefused result }
         ensures ready { OnOk result (C.ready store.new dev.new) }
         ensures unshown { OnErr result (shown.new ≡ None) }

@@ -1,7 +1,7 @@
 //! A turn where all processes commit, fall and recover together.
 
 ghost use Rattle.std.specs.Prelude.{◌≡◌, ◌≢◌, ◌<◌, ◌≤◌, ◌+◌, ◌*◌, ◌-◌, ◌^◌, ℕ, IfOk, IfSome, IsErrOf, None, OnErr, OnOk, Some, if◌then◌else◌, length, slice_get, true, false};
-ghost use Rattle.dc_checkpoint.specs.Calls.{IsSameStore};
+ghost use Rattle.dc_checkpoint.specs.Handles.{IsSame};
 ghost use Rattle.dc_kernel.specs.declared.faults.StoreFault as faults;
 ghost use Rattle.dc_guest.specs.Answers.{answer_of, may_answer};
 ghost use Rattle.dc_model.specs.Guests.Answer.{Plain};
@@ -81,7 +81,7 @@ impl Processes {
         ensures well { IsWell self.new }
         ensures rest { self.new ≡ record self.old { slots = self.new.slots; joint = self.new.joint } }
         ensures long { length self.new.slots.items ≡ length self.old.slots.items }
-        ensures stores { EachPair stores.old stores.new (λ i. IsSameStore C.place C.size C.form) }
+        ensures stores { EachPair stores.old stores.new (λ i. IsSame C.Checkpoint) }
         ensures as_many { length stores.new ≡ length stores.old }
         ensures room { IsRoomFor C.Checkpoint stores.new (length self.old.slots.items) self.new.joint }
         ensures fit { OnOk result (AreFit C.Checkpoint stores.new dev.new self.new.slots.items) }
@@ -125,7 +125,7 @@ impl Processes {
         ensures long { length self.new.slots.items ≡ length self.old.slots.items }
         ensures acts_room { self.old.acts.room ≤ self.new.acts.room }
         ensures grown { length self.new.acts.items ≤ length self.old.acts.items + 1 }
-        ensures stores { EachPair stores.old stores.new (λ i. IsSameStore C.place C.size C.form) }
+        ensures stores { EachPair stores.old stores.new (λ i. IsSame C.Checkpoint) }
         ensures as_many { length stores.new ≡ length stores.old }
         ensures fit { OnOk result (AreFit C.Checkpoint stores.new dev.new self.new.slots.items) }
         ensures counts { OnOk result ((m : ℕ) → HaveCounts (m + 1) self.old.slots.items → HaveCounts m self.new.slots.items) }
@@ -185,7 +185,7 @@ impl Processes {
         ensures long { length self.new.slots.items ≡ length self.old.slots.items }
         ensures acts_room { self.old.acts.room ≤ self.new.acts.room }
         ensures grown { length self.new.acts.items ≤ length self.old.acts.items + 1 }
-        ensures stores { EachPair stores.old stores.new (λ i. IsSameStore C.place C.size C.form) }
+        ensures stores { EachPair stores.old stores.new (λ i. IsSame C.Checkpoint) }
         ensures as_many { length stores.new ≡ length stores.old }
         ensures room { IsRoomFor C.Checkpoint stores.new (length self.old.slots.items) self.new.joint }
         ensures fit { OnOk result (AreFit C.Checkpoint stores.new dev.new self.new.slots.items × HaveCounts (2 * (self.old.left - 1)) self.new.slots.items) }
@@ -231,7 +231,7 @@ impl Processes {
         ensures long { length self.new.slots.items ≡ length self.old.slots.items }
         ensures acts_room { self.old.acts.room ≤ self.new.acts.room }
         ensures grown { length self.new.acts.items ≤ length self.old.acts.items + 1 }
-        ensures stores { EachPair stores.old stores.new (λ i. IsSameStore C.place C.size C.form) }
+        ensures stores { EachPair stores.old stores.new (λ i. IsSame C.Checkpoint) }
         ensures as_many { length stores.new ≡ length stores.old }
         ensures ready { AreReady C.Checkpoint (self.old.left - 1) stores.new dev.new self.new.slots.items }
         ensures room { IsRoomFor C.Checkpoint stores.new (length self.old.slots.items) self.new.joint }
@@ -282,7 +282,7 @@ impl Processes {
         ensures long { length self.new.slots.items ≡ length self.old.slots.items }
         ensures acts_room { self.old.acts.room ≤ self.new.acts.room }
         ensures grown { length self.new.acts.items ≤ length self.old.acts.items + 1 }
-        ensures stores { EachPair stores.old stores.new (λ i. IsSameStore C.place C.size C.form) }
+        ensures stores { EachPair stores.old stores.new (λ i. IsSame C.Checkpoint) }
         ensures as_many { length stores.new ≡ length stores.old }
         ensures ready { AreReady C.Checkpoint (self.old.left - 1) stores.new dev.new self.new.slots.items }
         ensures room { IsRoomFor C.Checkpoint stores.new (length self.old.slots.items) self.new.joint }

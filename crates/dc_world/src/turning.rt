@@ -1,17 +1,17 @@
 //! A turn of a process.
 
 ghost use Rattle.std.specs.Prelude.{◌≡◌, ◌≢◌, ◌<◌, ◌≤◌, ◌+◌, ◌-◌, ◌^◌, ℕ, None, Some, IfErr, IfOk, IfSome, IsErrOf, OnErr, OnOk, false, true, length, slice_set};
-ghost use Rattle.dc_checkpoint.specs.Calls.{IsCounted, IsUnrefused};
+ghost use Rattle.dc_checkpoint.specs.Calls.{IsUnrefused, Touches, on};
+ghost use Rattle.dc_checkpoint.specs.Handles.{showing_of};
 ghost use Rattle.dc_kernel.specs.declared.faults.StoreFault as faults;
 ghost use Rattle.dc_model.specs.declared.entry.Entry.TheVariants as entries;
 ghost use Rattle.dc_model.specs.declared.mark.Mark.TheVariants as marks;
 ghost use Rattle.dc_guest.specs.Guest.{next_of, over};
 ghost use Rattle.dc_guest.specs.Nexts.{called_by};
-ghost use Rattle.dc_proc.specs.Calls.{on};
 ghost use Rattle.dc_proc.specs.Ups.{IsFit};
 ghost use Rattle.dc_protocols.specs.Rules.{is_global};
 ghost use Rattle.dc_world.specs.Answers.{HasCallRoom};
-ghost use Rattle.dc_world.specs.Processes.{CallsStore, Hears, IsWell};
+ghost use Rattle.dc_world.specs.Processes.{Hears, IsWell};
 ghost use Rattle.dc_world.specs.Slots.{is_up, slot_at};
 ghost use Rattle.dc_world.specs.Stages.{IsHandled, stage_of};
 ghost use Rattle.dc_world.specs.Taking.{IsIdle};
@@ -72,8 +72,7 @@ impl Processes {
         ensures grown { length self.new.acts.items ≤ length self.old.acts.items + 1 }
         ensures others { (q : ℕ) → q ≢ turn.now.p → Hears turn.now.p (slot_at self.old.slots.items q) (slot_at self.new.slots.items q) }
         ensures handled { IsHandled C.Checkpoint (self.old.left - 1) store.new dev.new (slot_at self.new.slots.items turn.now.p) }
-        ensures call { CallsStore C.Checkpoint (on store.old dev.old) (on store.new dev.new) }
-        ensures counts { IsCounted C.told C.stops C.faults (C.place store.old) dev.old dev.new result }
+        ensures call { Touches (showing_of C.Checkpoint) (on store.old dev.old) (on store.new dev.new) result }
         ensures unrefused { IsUnrefused result }
         ensures whole { IfOk result (λ mark. mark ≡ marks.Stopped → ⊥) }
         ensures shows { IfOk result (λ mark. IfSome shown.new (λ visible. mark ≡ marks.Showed visible.k)) }
@@ -119,8 +118,7 @@ impl Processes {
         ensures grown { length self.new.acts.items ≤ length self.old.acts.items + 1 }
         ensures others { (q : ℕ) → q ≢ turn.now.p → Hears turn.now.p (slot_at self.old.slots.items q) (slot_at self.new.slots.items q) }
         ensures handled { IsHandled C.Checkpoint (self.old.left - 1) store.new dev.new (slot_at self.new.slots.items turn.now.p) }
-        ensures call { CallsStore C.Checkpoint (on store.old dev.old) (on store.new dev.new) }
-        ensures counts { IsCounted C.told C.stops C.faults (C.place store.old) dev.old dev.new result }
+        ensures call { Touches (showing_of C.Checkpoint) (on store.old dev.old) (on store.new dev.new) result }
         ensures whole { IfOk result (λ mark. mark ≡ marks.Stopped → ⊥) }
         ensures shows { IfOk result (λ mark. IfSome shown.new (λ visible. mark ≡ marks.Showed visible.k)) }
         ensures unshown { OnErr result (shown.new ≡ None) }

@@ -3,6 +3,7 @@
 ghost use Rattle.std.specs.Prelude.{◌≡◌, ◌≢◌, ◌<◌, ◌≤◌, ◌+◌, ◌++◌, ◌-◌, ℕ, IfOk, IfSome, IsErrOf, IsSome, None, Some, OnErr, OnOk, Ok, Err, Option, false, true, length};
 ghost use Rattle.dc_acts.specs.Lines.{text_of};
 ghost use Rattle.dc_checkpoint.specs.Calls.{IsCounted};
+ghost use Rattle.dc_checkpoint.specs.Handles.{showing_of};
 ghost use Rattle.dc_kernel.specs.declared.faults.StoreFault as stores;
 ghost use Rattle.dc_media.specs.Causes.{HasCause, Rose};
 ghost use Rattle.dc_media.specs.Sinks.{TakesWhole};
@@ -70,7 +71,7 @@ impl<C: Checkpoint + Drop> World<C> {
         ensures ready { IsReady C.Checkpoint self.new.stores.items dev.new (counted self.new.processes) }
         ensures rest { self.new.processes ≡ record self.old.processes { slots = self.new.processes.slots; acts = self.new.processes.acts; exposed = self.new.processes.exposed } }
         ensures long { length self.new.processes.slots.items ≡ length self.old.processes.slots.items }
-        ensures counts { IsCounted C.told C.stops C.faults turn.now.p dev.old dev.new result }
+        ensures counts { IsCounted (showing_of C.Checkpoint).on turn.now.p dev.old dev.new result }
         ensures tells { (p : ℕ) → KeepsTelling C.Checkpoint dev.old dev.new p }
         ensures others { (q : ℕ) → q ≢ turn.now.p → C.untouched dev.old dev.new q }
         ensures later { (p : ℕ) → (C.stops dev.old p ≤ C.stops dev.new p) × (C.faults dev.old p ≤ C.faults dev.new p) }

@@ -197,6 +197,7 @@ fn other(rig: &mut Rig, alloc: Global, verb: &str, args: &[u64]) -> Result<u64, 
         "words" => Ok(u64::from(rig.words())),
         "keep" => keep(rig, alloc),
         "differences" => differences(rig),
+        "attach" => rig.attach(alloc),
         _ => Err(Fail::new(verb)),
     }
 }

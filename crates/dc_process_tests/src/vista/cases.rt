@@ -16,6 +16,45 @@ segment 1 0 1
 calls = 3932
 words = 3932
 state 0 = ok 1 10 0 1023 7
+# a handle that is attached to a store goes on where the store stands
+segment 2 1 1
+store 0 5 all = ok
+commit 2 = ok
+log 21 3 1 0 2 = ok
+store 1 9 all = ok
+calls = 4606
+attach = ok
+calls = 0
+ready = 0
+state 0 = ok 2 20 1 21 3 1 0 2 0 5 1023 7
+store 1 8 all = ok
+commit 3 = ok
+attach = ok
+state 0 = ok 3 30 0 0 5 1 8 1023 7
+# one that is attached to a prepared commit has it where its number is decided
+segment 1 0 1
+store 0 5 all = ok
+prepare 2 = ok
+attach = ok
+state 1 = ok 1 10 0 1023 7
+store 0 6 all = ok
+prepare 4 = ok
+decide 4 = ok
+attach = ok
+decided = 4
+state 4 = ok 4 40 0 0 6 1023 7
+# one that is attached to a store that nobody made stands for its first state
+segment 1 0 1
+store 0 5 all = ok
+commit 2 = ok
+put 0 0 = ok
+attach = ok
+decided = 0
+state 0 = ok 1 10 0 1023 7
+store 0 6 all = ok
+commit 3 = ok
+attach = ok
+state 0 = ok 3 30 0 0 6 1023 7
 # each call
 segment 1 0 1
 load 1023 = 7

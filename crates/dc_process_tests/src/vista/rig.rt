@@ -1,6 +1,6 @@
 //! A segment on a device in memory, whose calls are made where they may be.
 
-ghost use Rattle.std.specs.Prelude.{◌≡◌, ◌⊎◌, ◌<◌, ◌≤◌, IfOk, IfSome, true, vec_capacity};
+ghost use Rattle.std.specs.Prelude.{◌≡◌, ◌⊎◌, ◌<◌, ◌≤◌, ◌*◌, IfOk, IfSome, true, vec_capacity};
 
 use super::calling;
 use super::inputs::{memory, saved, text};
@@ -21,6 +21,8 @@ pub struct Rig {
     pub dev: MemKeeps,
     pub n: u32,
     pub p: u32,
+    /// The pages of its memory.
+    pub pages: u32,
     /// The words of its memory.
     pub size: u32,
     /// The number of the commit that it goes on from, or that is prepared.
@@ -38,6 +40,8 @@ pub struct Rig {
     /// The words of the device when they were last kept.
     pub kept: Vec<u32>,
     ghost few: { n ≤ 8 },
+    ghost paged: { (1 ≤ pages) × (pages ≤ 256) },
+    ghost sized: { size ≡ 1024 * pages },
     ghost one_of: { p < n },
     ghost whole: { saved.kernel.n ≡ n },
     ghost own: { saved.kernel.p ≡ p },
@@ -239,6 +243,19 @@ impl Rig {
         self.store.fall();
     }
 
+    /// Goes on with a new handle over the store that is there.
+    pub fn attach(&mut self, alloc: Global) -> Result<u64, Fail>
+        requires { ⟦<Rig as Trial>⟧.fits self.old }
+        ensures { ⟦<Rig as Trial>⟧.fits self.new }
+    {
+        let memory = memory(alloc, self.pages)?;
+        let text = text(alloc, self.n, self.p, 1)?;
+        self.store = Segment::attach(alloc, &self.dev, self.p, memory, text)?;
+        self.ready = false;
+        self.prepared = false;
+        Ok(0)
+    }
+
     /// Reads what the store stands for under a decided number.
     pub fn recover(&mut self, d: u32) -> u64
         requires { ⟦<Rig as Trial>⟧.fits self.old }
@@ -282,6 +299,7 @@ impl Rig {
                 dev,
                 n,
                 p,
+                pages,
                 size: 1024 * pages,
                 number: 1,
                 logged: 0,

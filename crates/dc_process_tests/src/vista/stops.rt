@@ -154,14 +154,22 @@ pub fn stops_hold<T: Trial>(alloc: Global, text: &str) -> Result<(), Fail> {
     Ok(())
 }
 
-/// A making that is stopped gives a store that stands for the first state; one that fails gives none.
-fn making_refused<T: Trial>(alloc: Global, case: &str, call: u64, how: &str) -> Result<(), Fail> {
+/// A making that is stopped gives a store that stands for the first state, to its handle and to one that is attached then; one that
+/// fails gives none.
+fn making_refused<T: Trial>(
+    alloc: Global,
+    case: &str,
+    call: u64,
+    how: &str,
+    then: &str,
+) -> Result<(), Fail> {
     let listed = refusal(alloc, call, how)?;
     let stopped = listed.fault == DeviceFault::Stopped;
     match made_of::<T>(alloc, case, vec![in alloc; listed]?)? {
         Some(mut trial) => {
             holds(stopped, case)?;
             answers(&mut trial, alloc, "ready", "0")?;
+            answers(&mut trial, alloc, then, "ok")?;
             stands_for(&mut trial, alloc, case, field(case, "old ")?)
         }
         None => holds(!stopped, case),
@@ -169,9 +177,11 @@ fn making_refused<T: Trial>(alloc: Global, case: &str, call: u64, how: &str) -> 
 }
 
 fn making_refused_each_way<T: Trial>(alloc: Global, case: &str, call: u64) -> Result<(), Fail> {
-    making_refused::<T>(alloc, case, call, "stopped 0")?;
-    making_refused::<T>(alloc, case, call, "stopped 1")?;
-    making_refused::<T>(alloc, case, call, "failed 0")
+    making_refused::<T>(alloc, case, call, "stopped 0", "fall")?;
+    making_refused::<T>(alloc, case, call, "stopped 1", "fall")?;
+    making_refused::<T>(alloc, case, call, "stopped 0", "attach")?;
+    making_refused::<T>(alloc, case, call, "stopped 1", "attach")?;
+    making_refused::<T>(alloc, case, call, "failed 0", "fall")
 }
 
 /// So at each call of the device.

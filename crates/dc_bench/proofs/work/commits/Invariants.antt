@@ -1,10 +1,10 @@
 use Rattle.std.proofs.Common.{◌≡◌, ◌≤◌, ◌+◌, length}
-use Rattle.dc_checkpoint.specs.Calls.{IsSameStore}
+use Rattle.dc_checkpoint.specs.Handles.{IsSame}
 use Rattle.dc_bench.proofs.work.commits.Given as goal
 
 abbrev pub invariant-loop : goal.invariant-loop
 invariant-loop g l = let C = g.C.Checkpoint in record {
-  same : IsSameStore C.place C.size C.form l.fn.store l.store;
+  same : IsSame C l.fn.store l.store;
   lent : C.lent l.store l.dev;
   ready : C.ready l.store l.dev;
   n : l.kernel.n ≡ l.fn.kernel.n;

@@ -1,5 +1,5 @@
 use Rattle.std.proofs.Common.{refl}
-use Rattle.dc_twophase.specs.Recoveries.{IsFit}
+use Rattle.dc_checkpoint.specs.States.{IsFit}
 use Rattle.dc_process_tests.proofs.Three.{each_three}
 use Rattle.dc_process_tests.proofs.twophase.three_empty.Goals as goal
 

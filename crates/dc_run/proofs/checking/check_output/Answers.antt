@@ -1,6 +1,6 @@
 use Rattle.std.proofs.Common.{◌∙◌}
 use Rattle.dc_run.specs.Checking.{found_view, passed_by}
-use Rattle.dc_run.specs.Command.{names_view}
+use Rattle.dc_command.specs.Command.{names_view}
 use Rattle.dc_run.specs.Refusals.{verdict_of}
 use Rattle.dc_run.proofs.Checks.{found_exact}
 use Rattle.dc_run.proofs.Works.{for_known, refused_exact, told_before, told_verdict}

@@ -3,7 +3,7 @@ use Rattle.std.proofs.lemmas.Result.{err_from_is_err_and}
 use Rattle.dc_acts.specs.Reads.{seen}
 use Rattle.dc_words.specs.Results.{◌>>=◌}
 use Rattle.dc_run.specs.Checking.{found_at_end}
-use Rattle.dc_run.specs.Command.{names_view}
+use Rattle.dc_command.specs.Command.{names_view}
 use Rattle.dc_run.specs.Settings.{setting_of}
 use Rattle.dc_run.specs.declared.refusal.Refusal.TheVariants.{Library}
 use Rattle.dc_run.proofs.Checks.{asked_of_run, asked_output, found_by, read_for}

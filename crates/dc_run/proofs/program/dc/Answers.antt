@@ -1,10 +1,9 @@
-use Rattle.std.proofs.Common.{◌≡◌, ◌⊎◌, Some, refl, rules}
-use Rattle.dc_run.specs.Command.{asked_of}
-use Rattle.dc_run.specs.Command.{names_view}
-use Rattle.dc_run.specs.Command.Asked.{ToRun, ToCheck, ToAssemble}
+use Rattle.std.proofs.Common.{◌≡◌, ◌∙◌, Err, Some, ap, refl, rules}
+use Rattle.dc_command.specs.Command.{asked_of}
+use Rattle.dc_command.specs.Command.{names_view}
+use Rattle.dc_command.specs.Command.Asked.{ToRun, ToCheck, ToAssemble}
 use Rattle.dc_run.specs.Checking.{Checked, IsChecked}
 use Rattle.dc_run.proofs.Checks.{check_asks, check_exact, check_passes}
-use Rattle.dc_run.specs.declared.verdict.Verdict.TheVariants.{Usage, WantOfMemory}
 use Rattle.dc_run.proofs.Commands.{assembly_asks, assembly_exact, run_exact, run_asks, unasked_opened}
 use Rattle.dc_run.proofs.program.dc.Goals as goal
 
@@ -21,8 +20,7 @@ returns-in-Ok-Assemble-clause-refused g c refusal is = let asked : asked_of c.ar
     assembly_exact _ c.args.words.now _ asked _ refusal (c.assemble_source.ensures.refused refusal is)
 
 pub returns-in-Err-clause-opened : goal.returns-in-Err-clause-opened
-returns-in-Err-clause-opened g c = let fault : (c.in-Err.verdict ≡ Usage) ⊎ (c.in-Err.verdict ≡ WantOfMemory) = search rules in
-    unasked_opened _ c.args.words.now c.in-Err.verdict _ c.idle.ensures.verdict (λ is. c.in-Err.ensures.usage (search rules)) fault
+returns-in-Err-clause-opened g c = unasked_opened _ c.args.words.now c.in-Err.fault _ (c.idle.ensures.verdict ∙ c.unasked.ensures.meant) (λ is. c.in-Err.ensures.usage (ap Err is))
 
 pub returns-in-Ok-Assemble-clause-library_asked : goal.returns-in-Ok-Assemble-clause-library_asked
 returns-in-Ok-Assemble-clause-library_asked g c which = let asked : asked_of c.args.words.now ≡ Some (ToAssemble c.in-Ok-Assemble.source.now) = search rules in

@@ -1,6 +1,6 @@
+use Rattle.dc_checkpoint.specs.Calls.{on}
 use Rattle.std.proofs.Common.{◌≡◌, ◌∙◌, Some, refl, sym, ap, subst}
 use Rattle.dc_guest.specs.Answers.{answer_of}
-use Rattle.dc_proc.specs.Calls.{on}
 use Rattle.dc_proc.specs.declared.up.Up.{Up as Process}
 use Rattle.dc_world.proofs.Slots.{up_same}
 use Rattle.dc_world.specs.Taking.{HasTaken, attempt}

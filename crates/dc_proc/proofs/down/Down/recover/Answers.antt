@@ -8,7 +8,7 @@ pub returns-in-Ok-clause-goes : goal.returns-in-Ok-clause-goes
 returns-in-Ok-clause-goes g c = let C = g.C.Checkpoint in where_told (C.contents c.recover.new.self c.recover.new.dev) (λ is images inputs protocol p answers others st stood within.
     let some = g.met.C.Checkpoint.some_reading c.recover.new.self c.recover.new.dev (g.met.C.Checkpoint.contents_told c.recover.new.self c.recover.new.dev is) 0 in
     risen_from (system images inputs protocol) refl p answers others st (C.contents c.recover.new.self c.recover.new.dev) c.recover.new.saved (held c.up.result) (C.leaves c.recover.new.self c.recover.new.dev 0) _ _
-    c.in-Ok.ensures.kernel c.in-Ok.ensures.gives (search rules) (search rules) (search rules) (search rules) (search rules) (search rules) (C.leaves c.args.store.now c.args.dev.now 0) stood c.in-Ok.ensures.stands within some.0 some.1)
+    c.in-Ok.ensures.read.kernel c.in-Ok.ensures.gives (search rules) (search rules) (search rules) (search rules) (search rules) (search rules) (C.leaves c.args.store.now c.args.dev.now 0) stood c.in-Ok.ensures.stands within some.0 some.1)
 
 pub returns-in-Ok-clause-number : goal.returns-in-Ok-clause-number
 returns-in-Ok-clause-number g c = let C = g.C.Checkpoint in where_told (C.contents c.recover.new.self c.recover.new.dev) (λ is most numbered.

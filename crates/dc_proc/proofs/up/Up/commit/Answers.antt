@@ -18,7 +18,7 @@ returns-in_err-commit-clause-torn g c = any_err c.from_residual.result (λ image
     (λ r l. ⊎_elim (λ b. inl b) (λ s. inr (subst (λ t. IsSaved (g.C.Checkpoint.contents c.args.store.now c.args.dev.now) t r) (c.deref.ensures.value ∙ c.write_text.ensures.text) s)) (c.in_err-commit.ensures.between d r from l)))
 
 pub returns-clause-paired : goal.returns-clause-paired
-returns-clause-paired g c = paired_committed (held c.args.self.now) (held c.settle.new.self) c.settle.new.self.based.items _ _ _ _ _ _ c.deref.result.now c.requires.paired c.in_ok-commit.ensures.same.form_same
+returns-clause-paired g c = paired_committed (held c.args.self.now) (held c.settle.new.self) c.settle.new.self.based.items _ _ _ _ _ _ c.deref.result.now c.requires.paired c.in_ok-commit.ensures.call.touches.same.form_same
     (c.settle.ensures.held ∙ ap (λ (h : Held). record h { unread = []; own = false; log_left = 64; based = c.settle.new.self.based.items }) c.write_text.ensures.held)
     c.in_ok-commit.ensures.number.0 (c.deref.ensures.value ∙ c.write_text.ensures.text) c.in_ok-commit.ensures.number.1
 

@@ -14,7 +14,8 @@ use Rattle.dc_proc.proofs.Numbers.{numbered_less, numbered_more}
 use Rattle.dc_proc.proofs.Stopped.{first_at, log_at_inputs, over_as, record_is, same_twice, second_at, stands_as, still, stopped_after, stopped_before, stopped_event, stopped_log, told_at, unstopped}
 use Rattle.dc_proc.proofs.Taken.{acts_same, append_kernel, bare, commit_bare, shown_here, whole_next}
 use Rattle.dc_proc.proofs.Texts.{any_err}
-use Rattle.dc_proc.specs.Calls.{done, on}
+use Rattle.dc_checkpoint.specs.Calls.{on}
+use Rattle.dc_proc.specs.Calls.{done}
 use Rattle.dc_proc.specs.Carried.{system}
 use Rattle.dc_proc.specs.Following.{DeviceLaws, call_then}
 use Rattle.dc_proc.specs.Processes.{IsAt, IsOver, Stands, logged_of}
@@ -92,7 +93,7 @@ returns-in_err-append_if-clause-stopped g c = any_err c.from_residual-in_err-app
     let here : IsAt (system images inputs c.args.self.now.protocol) p answers st words (held c.args.self.now) = told_at (λ ws. IsAt (system images inputs c.args.self.now.protocol) p answers st ws (held c.args.self.now)) (g.C.Checkpoint.contents c.args.store.now c.args.dev.now) words told stood.process in
     let found : c.args.next.now ≡ next_of (over c.args.self.now.guest words) = told_at (λ ws. c.args.next.now ≡ next_of (over c.args.self.now.guest ws)) (g.C.Checkpoint.contents c.args.store.now c.args.dev.now) words told c.requires.found in
     let over1 = over_added (system images inputs c.args.self.now.protocol) p answers st (first_of c.rule-asked.result.before st) (answer_of c.args.answer.now) (g.C.Checkpoint.contents c.commit_if.new.store c.commit_if.new.dev) (held c.commit_if.new.self) (g.C.Checkpoint.leaves c.commit_if.new.store c.commit_if.new.dev d) (c.in_ok-commit_if.ensures.goes images inputs c.args.self.now.protocol p answers st d from stood) in
-    let from1 : g.C.Checkpoint.floor c.commit_if.new.store ≤ d = omega (arith, from, c.in_ok-commit_if.ensures.call.floor_less) in
+    let from1 : g.C.Checkpoint.floor c.commit_if.new.store ≤ d = omega (arith, from, c.in_ok-commit_if.ensures.call.floor) in
     let bare1 = commit_bare c.rule-asked.result.before c.args.self.now c.commit_if.new.self c.commit_if.new.self.based.items c.in_ok-commit_if.ensures.held c.in_ok-commit_if.ensures.kept in
     let kinds : may_answer (answer_of c.args.answer.now) c.kind-kind.result ≡ true = subst (λ k. may_answer (answer_of c.args.answer.now) k ≡ true) (sym c.kind-kind.ensures) (told_at (λ ws. may_answer (answer_of c.args.answer.now) (kind_of c.args.next.now) ≡ true) (g.C.Checkpoint.contents c.args.store.now c.args.dev.now) words told c.requires.kind) in
     let logs : c.rule-asked.result.log ≡ true → logged_of c.record_of-rec.result ≡ (record { position = st.position; answer = (answer_of c.args.answer.now) }) = λ due. c.record_of-rec.ensures.logged (log_at_inputs c.args.self.now.protocol c.kind-kind.result _ c.rule-asked.result c.rule-asked.ensures due) kinds
@@ -109,17 +110,17 @@ returns-in_err-advance-clause-stopped g c = any_err c.from_residual-in_err-advan
     let here : IsAt (system images inputs c.args.self.now.protocol) p answers st words (held c.args.self.now) = told_at (λ ws. IsAt (system images inputs c.args.self.now.protocol) p answers st ws (held c.args.self.now)) (g.C.Checkpoint.contents c.args.store.now c.args.dev.now) words told stood.process in
     let found : c.args.next.now ≡ next_of (over c.args.self.now.guest words) = told_at (λ ws. c.args.next.now ≡ next_of (over c.args.self.now.guest ws)) (g.C.Checkpoint.contents c.args.store.now c.args.dev.now) words told c.requires.found in
     let over1 = over_added (system images inputs c.args.self.now.protocol) p answers st (first_of c.rule-asked.result.before st) (answer_of c.args.answer.now) (g.C.Checkpoint.contents c.commit_if.new.store c.commit_if.new.dev) (held c.commit_if.new.self) (g.C.Checkpoint.leaves c.commit_if.new.store c.commit_if.new.dev d) (c.in_ok-commit_if.ensures.goes images inputs c.args.self.now.protocol p answers st d from stood) in
-    let from1 : g.C.Checkpoint.floor c.commit_if.new.store ≤ d = omega (arith, from, c.in_ok-commit_if.ensures.call.floor_less) in
+    let from1 : g.C.Checkpoint.floor c.commit_if.new.store ≤ d = omega (arith, from, c.in_ok-commit_if.ensures.call.floor) in
     let bare1 = commit_bare c.rule-asked.result.before c.args.self.now c.commit_if.new.self c.commit_if.new.self.based.items c.in_ok-commit_if.ensures.held c.in_ok-commit_if.ensures.kept in
     let kinds : may_answer (answer_of c.args.answer.now) c.kind-kind.result ≡ true = subst (λ k. may_answer (answer_of c.args.answer.now) k ≡ true) (sym c.kind-kind.ensures) (told_at (λ ws. may_answer (answer_of c.args.answer.now) (kind_of c.args.next.now) ≡ true) (g.C.Checkpoint.contents c.args.store.now c.args.dev.now) words told c.requires.kind) in
     let logs : c.rule-asked.result.log ≡ true → logged_of c.record_of-rec.result ≡ (record { position = st.position; answer = (answer_of c.args.answer.now) }) = λ due. c.record_of-rec.ensures.logged (log_at_inputs c.args.self.now.protocol c.kind-kind.result _ c.rule-asked.result c.rule-asked.ensures due) kinds
     ∙ ap (λ i. record { position = i; answer = (answer_of c.args.answer.now) }) (ap (λ (k : Kernel). k.position) bare1 ∙ here.kernel_is.position) in
     let over2 = over_as (system images inputs c.args.self.now.protocol) p (answers_alone answers st (answer_of c.args.answer.now) Nowhere) (g.C.Checkpoint.contents c.append_if.new.store c.append_if.new.dev) (held c.append_if.new.self) (g.C.Checkpoint.leaves c.append_if.new.store c.append_if.new.dev d) (second_of c.rule-asked.result.log (logged_of c.record_of-rec.result) (first_of c.rule-asked.result.before st)) (second_of c.rule-asked.result.log (record { position = st.position; answer = (answer_of c.args.answer.now) }) (first_of c.rule-asked.result.before st)) (record_is c.rule-asked.result.log (logged_of c.record_of-rec.result) (record { position = st.position; answer = (answer_of c.args.answer.now) }) (first_of c.rule-asked.result.before st) logs)
     (c.in_ok-append_if.ensures.goes images inputs c.args.self.now.protocol p (answers_alone answers st (answer_of c.args.answer.now) Nowhere) (first_of c.rule-asked.result.before st) d from1 over1) in
-    let from2 : g.C.Checkpoint.floor c.append_if.new.store ≤ d = omega (arith, from1, c.in_ok-append_if.ensures.call.floor_less) in
+    let from2 : g.C.Checkpoint.floor c.append_if.new.store ≤ d = omega (arith, from1, c.in_ok-append_if.ensures.call.floor) in
     stopped_event images inputs c.args.self.now.protocol p answers st (answer_of c.args.answer.now) words c.args.self.now c.requires.whole here c.requires.runs stood.going c.requires.sender c.args.next.now c.kind-kind.result c.rule-asked.result c.replays-replay.result found c.kind-kind.ensures c.rule-asked.ensures c.replays-replay.ensures (slice_index c.args.self.now.others.items) (g.C.Checkpoint.leaves c.advance.new.store c.advance.new.dev d) (record { before = c.args.acts.now.items; more = acts_with c.args.acts.now.items c.args.self.now.kernel c.args.t (answer_of c.args.answer.now); after = c.add_act.new.acts.items }) c.advance.new.self.based.items c.in_err-advance.ensures.may
     (stands_as (system images inputs c.args.self.now.protocol) p (answers_alone answers st (answer_of c.args.answer.now) Nowhere) (fallen (second_of c.rule-asked.result.log (record { position = st.position; answer = (answer_of c.args.answer.now) }) (first_of c.rule-asked.result.before st))) (g.C.Checkpoint.leaves c.advance.new.store c.advance.new.dev d) c.append_if.new.self.others.items c.args.self.now.others.items (c.in_ok-append_if.ensures.same.others_same ∙ c.in_ok-commit_if.ensures.same.others_same)
-    (λ r l. over2.stands r (c.in_err-advance.ensures.stores.stands d r from2 l)))
+    (λ r l. over2.stands r (c.in_err-advance.ensures.stores.adds_nothing.stands d r from2 l)))
     (c.add_act.ensures.acts ∙ acts_same c.args.acts.now.items c.args.self.now.kernel c.commit_if.new.self.kernel c.args.t (answer_of c.args.answer.now) bare1)
     (parts_based (system images inputs c.args.self.now.protocol) p answers st (answer_of c.args.answer.now) words (held c.args.self.now) here stood.going c.rule-asked.result.before c.rule-asked.result.log (record { position = st.position; answer = (answer_of c.args.answer.now) }) c.advance.new.self.based.items c.commit_if.new.self.based.items
     c.in_ok-commit_if.ensures.copied (λ f. ap (λ (u : Up). u.based.items) (c.in_ok-commit_if.ensures.kept f)) (ap (λ (u : Up). u.based.items) c.advance.ensures.rest ∙ c.append_if.ensures.based)))
@@ -129,14 +130,14 @@ returns-in_err-commit_if-2-clause-stopped g c = any_err c.from_residual-in_err-c
     let here : IsAt (system images inputs c.args.self.now.protocol) p answers st words (held c.args.self.now) = told_at (λ ws. IsAt (system images inputs c.args.self.now.protocol) p answers st ws (held c.args.self.now)) (g.C.Checkpoint.contents c.args.store.now c.args.dev.now) words told stood.process in
     let found : c.args.next.now ≡ next_of (over c.args.self.now.guest words) = told_at (λ ws. c.args.next.now ≡ next_of (over c.args.self.now.guest ws)) (g.C.Checkpoint.contents c.args.store.now c.args.dev.now) words told c.requires.found in
     let over1 = over_added (system images inputs c.args.self.now.protocol) p answers st (first_of c.rule-asked.result.before st) (answer_of c.args.answer.now) (g.C.Checkpoint.contents c.commit_if.new.store c.commit_if.new.dev) (held c.commit_if.new.self) (g.C.Checkpoint.leaves c.commit_if.new.store c.commit_if.new.dev d) (c.in_ok-commit_if.ensures.goes images inputs c.args.self.now.protocol p answers st d from stood) in
-    let from1 : g.C.Checkpoint.floor c.commit_if.new.store ≤ d = omega (arith, from, c.in_ok-commit_if.ensures.call.floor_less) in
+    let from1 : g.C.Checkpoint.floor c.commit_if.new.store ≤ d = omega (arith, from, c.in_ok-commit_if.ensures.call.floor) in
     let bare1 = commit_bare c.rule-asked.result.before c.args.self.now c.commit_if.new.self c.commit_if.new.self.based.items c.in_ok-commit_if.ensures.held c.in_ok-commit_if.ensures.kept in
     let kinds : may_answer (answer_of c.args.answer.now) c.kind-kind.result ≡ true = subst (λ k. may_answer (answer_of c.args.answer.now) k ≡ true) (sym c.kind-kind.ensures) (told_at (λ ws. may_answer (answer_of c.args.answer.now) (kind_of c.args.next.now) ≡ true) (g.C.Checkpoint.contents c.args.store.now c.args.dev.now) words told c.requires.kind) in
     let logs : c.rule-asked.result.log ≡ true → logged_of c.record_of-rec.result ≡ (record { position = st.position; answer = (answer_of c.args.answer.now) }) = λ due. c.record_of-rec.ensures.logged (log_at_inputs c.args.self.now.protocol c.kind-kind.result _ c.rule-asked.result c.rule-asked.ensures due) kinds
     ∙ ap (λ i. record { position = i; answer = (answer_of c.args.answer.now) }) (ap (λ (k : Kernel). k.position) bare1 ∙ here.kernel_is.position) in
     let over2 = over_as (system images inputs c.args.self.now.protocol) p (answers_alone answers st (answer_of c.args.answer.now) Nowhere) (g.C.Checkpoint.contents c.append_if.new.store c.append_if.new.dev) (held c.append_if.new.self) (g.C.Checkpoint.leaves c.append_if.new.store c.append_if.new.dev d) (second_of c.rule-asked.result.log (logged_of c.record_of-rec.result) (first_of c.rule-asked.result.before st)) (second_of c.rule-asked.result.log (record { position = st.position; answer = (answer_of c.args.answer.now) }) (first_of c.rule-asked.result.before st)) (record_is c.rule-asked.result.log (logged_of c.record_of-rec.result) (record { position = st.position; answer = (answer_of c.args.answer.now) }) (first_of c.rule-asked.result.before st) logs)
     (c.in_ok-append_if.ensures.goes images inputs c.args.self.now.protocol p (answers_alone answers st (answer_of c.args.answer.now) Nowhere) (first_of c.rule-asked.result.before st) d from1 over1) in
-    let from2 : g.C.Checkpoint.floor c.append_if.new.store ≤ d = omega (arith, from1, c.in_ok-append_if.ensures.call.floor_less) in
+    let from2 : g.C.Checkpoint.floor c.append_if.new.store ≤ d = omega (arith, from1, c.in_ok-append_if.ensures.call.floor) in
     let there : answer_at (second_of c.rule-asked.result.log (record { position = st.position; answer = (answer_of c.args.answer.now) }) (first_of c.rule-asked.result.before st)).position (answers_alone answers st (answer_of c.args.answer.now) Nowhere) ≡ Some (answer_of c.args.answer.now) = subst (λ i. answer_at i (answers_alone answers st (answer_of c.args.answer.now) Nowhere) ≡ Some (answer_of c.args.answer.now)) (sym (second_at c.rule-asked.result.log (record { position = st.position; answer = (answer_of c.args.answer.now) }) (first_of c.rule-asked.result.before st) ∙ first_at c.rule-asked.result.before st)) (answer_there (system images inputs c.args.self.now.protocol) p answers st (answer_of c.args.answer.now) alone) in
     let same2 = same_twice (g.C.Checkpoint.contents c.args.store.now c.args.dev.now) (g.C.Checkpoint.contents c.commit_if.new.store c.commit_if.new.dev) (g.C.Checkpoint.contents c.append_if.new.store c.append_if.new.dev) c.in_ok-commit_if.ensures.memory c.in_ok-append_if.ensures.memory in
     let guest2 = c.in_ok-append_if.ensures.guest ∙ c.in_ok-commit_if.ensures.guest in
@@ -144,8 +145,8 @@ returns-in_err-commit_if-2-clause-stopped g c = any_err c.from_residual-in_err-c
     (search rules) (search rules) (search rules) (search rules) (search rules) (search rules) (g.C.Checkpoint.contents c.append_if.new.store c.append_if.new.dev) (g.C.Checkpoint.contents c.advance.new.store c.advance.new.dev) (g.C.Checkpoint.leaves c.append_if.new.store c.append_if.new.dev d) (g.C.Checkpoint.leaves c.advance.new.store c.advance.new.dev d) over2
     (still (λ ws. c.args.next.now ≡ next_of (over c.append_if.new.self.guest ws)) (g.C.Checkpoint.contents c.args.store.now c.args.dev.now) (g.C.Checkpoint.contents c.append_if.new.store c.append_if.new.dev) same2 (subst (λ (b : Bare). IfSome (g.C.Checkpoint.contents c.args.store.now c.args.dev.now) (λ ws. c.args.next.now ≡ next_of (over b ws))) (sym guest2) c.requires.found))
     (still (λ ws. c.effect-effect.result ≡ effect_of (event_of c.args.next.now (machine_over c.append_if.new.self.guest ws))) (g.C.Checkpoint.contents c.args.store.now c.args.dev.now) (g.C.Checkpoint.contents c.append_if.new.store c.append_if.new.dev) same2 (subst (λ (b : Bare). IfSome (g.C.Checkpoint.contents c.args.store.now c.args.dev.now) (λ ws. c.effect-effect.result ≡ effect_of (event_of c.args.next.now (machine_over b ws)))) (sym guest2) c.effect-effect.ensures.effect))
-    (search rules) (λ r l. c.in_ok-advance.ensures.stores.stands d r from2 l) in
-    let from4 : g.C.Checkpoint.floor c.advance.new.store ≤ d = omega (arith, from2, c.in_ok-advance.ensures.stores.call.floor_less) in
+    (search rules) (λ r l. c.in_ok-advance.ensures.stores.adds_nothing.stands d r from2 l) in
+    let from4 : g.C.Checkpoint.floor c.advance.new.store ≤ d = omega (arith, from2, c.in_ok-advance.ensures.stores.call.floor) in
     stopped_after images inputs c.args.self.now.protocol p answers st (answer_of c.args.answer.now) words c.args.self.now c.requires.whole here c.requires.runs stood.going c.requires.sender c.args.next.now c.kind-kind.result c.rule-asked.result c.replays-replay.result found c.kind-kind.ensures c.rule-asked.ensures c.replays-replay.ensures (slice_index c.args.self.now.others.items) (g.C.Checkpoint.leaves c.commit_if-2.new.store c.commit_if-2.new.dev d) (record { before = c.args.acts.now.items; more = acts_with c.args.acts.now.items c.args.self.now.kernel c.args.t (answer_of c.args.answer.now); after = c.add_act.new.acts.items }) c.commit_if-2.new.self.based.items c.in_err-commit_if-2.ensures.due
     (stands_as (system images inputs c.args.self.now.protocol) p (answers_alone answers st (answer_of c.args.answer.now) Nowhere) (torn (passed c.replays-replay.result (sets_own c.rule-asked.result.log c.replays-replay.result (answer_of c.args.answer.now)) (second_of c.rule-asked.result.log (record { position = st.position; answer = (answer_of c.args.answer.now) }) (first_of c.rule-asked.result.before st)))) (g.C.Checkpoint.leaves c.commit_if-2.new.store c.commit_if-2.new.dev d) c.note_event-shown.new.self.others.items c.args.self.now.others.items (search rules)
     (c.in_err-commit_if-2.ensures.torn images inputs c.args.self.now.protocol p (answers_alone answers st (answer_of c.args.answer.now) Nowhere) (passed c.replays-replay.result (sets_own c.rule-asked.result.log c.replays-replay.result (answer_of c.args.answer.now)) (second_of c.rule-asked.result.log (record { position = st.position; answer = (answer_of c.args.answer.now) }) (first_of c.rule-asked.result.before st))) d from4 over4))
@@ -158,14 +159,14 @@ returns-clause-goes g c images inputs p answers st d words from told stood alone
     let here : IsAt (system images inputs c.args.self.now.protocol) p answers st words (held c.args.self.now) = told_at (λ ws. IsAt (system images inputs c.args.self.now.protocol) p answers st ws (held c.args.self.now)) (g.C.Checkpoint.contents c.args.store.now c.args.dev.now) words told stood.process in
     let found : c.args.next.now ≡ next_of (over c.args.self.now.guest words) = told_at (λ ws. c.args.next.now ≡ next_of (over c.args.self.now.guest ws)) (g.C.Checkpoint.contents c.args.store.now c.args.dev.now) words told c.requires.found in
     let over1 = over_added (system images inputs c.args.self.now.protocol) p answers st (first_of c.rule-asked.result.before st) (answer_of c.args.answer.now) (g.C.Checkpoint.contents c.commit_if.new.store c.commit_if.new.dev) (held c.commit_if.new.self) (g.C.Checkpoint.leaves c.commit_if.new.store c.commit_if.new.dev d) (c.in_ok-commit_if.ensures.goes images inputs c.args.self.now.protocol p answers st d from stood) in
-    let from1 : g.C.Checkpoint.floor c.commit_if.new.store ≤ d = omega (arith, from, c.in_ok-commit_if.ensures.call.floor_less) in
+    let from1 : g.C.Checkpoint.floor c.commit_if.new.store ≤ d = omega (arith, from, c.in_ok-commit_if.ensures.call.floor) in
     let bare1 = commit_bare c.rule-asked.result.before c.args.self.now c.commit_if.new.self c.commit_if.new.self.based.items c.in_ok-commit_if.ensures.held c.in_ok-commit_if.ensures.kept in
     let kinds : may_answer (answer_of c.args.answer.now) c.kind-kind.result ≡ true = subst (λ k. may_answer (answer_of c.args.answer.now) k ≡ true) (sym c.kind-kind.ensures) (told_at (λ ws. may_answer (answer_of c.args.answer.now) (kind_of c.args.next.now) ≡ true) (g.C.Checkpoint.contents c.args.store.now c.args.dev.now) words told c.requires.kind) in
     let logs : c.rule-asked.result.log ≡ true → logged_of c.record_of-rec.result ≡ (record { position = st.position; answer = (answer_of c.args.answer.now) }) = λ due. c.record_of-rec.ensures.logged (log_at_inputs c.args.self.now.protocol c.kind-kind.result _ c.rule-asked.result c.rule-asked.ensures due) kinds
     ∙ ap (λ i. record { position = i; answer = (answer_of c.args.answer.now) }) (ap (λ (k : Kernel). k.position) bare1 ∙ here.kernel_is.position) in
     let over2 = over_as (system images inputs c.args.self.now.protocol) p (answers_alone answers st (answer_of c.args.answer.now) Nowhere) (g.C.Checkpoint.contents c.append_if.new.store c.append_if.new.dev) (held c.append_if.new.self) (g.C.Checkpoint.leaves c.append_if.new.store c.append_if.new.dev d) (second_of c.rule-asked.result.log (logged_of c.record_of-rec.result) (first_of c.rule-asked.result.before st)) (second_of c.rule-asked.result.log (record { position = st.position; answer = (answer_of c.args.answer.now) }) (first_of c.rule-asked.result.before st)) (record_is c.rule-asked.result.log (logged_of c.record_of-rec.result) (record { position = st.position; answer = (answer_of c.args.answer.now) }) (first_of c.rule-asked.result.before st) logs)
     (c.in_ok-append_if.ensures.goes images inputs c.args.self.now.protocol p (answers_alone answers st (answer_of c.args.answer.now) Nowhere) (first_of c.rule-asked.result.before st) d from1 over1) in
-    let from2 : g.C.Checkpoint.floor c.append_if.new.store ≤ d = omega (arith, from1, c.in_ok-append_if.ensures.call.floor_less) in
+    let from2 : g.C.Checkpoint.floor c.append_if.new.store ≤ d = omega (arith, from1, c.in_ok-append_if.ensures.call.floor) in
     let there : answer_at (second_of c.rule-asked.result.log (record { position = st.position; answer = (answer_of c.args.answer.now) }) (first_of c.rule-asked.result.before st)).position (answers_alone answers st (answer_of c.args.answer.now) Nowhere) ≡ Some (answer_of c.args.answer.now) = subst (λ i. answer_at i (answers_alone answers st (answer_of c.args.answer.now) Nowhere) ≡ Some (answer_of c.args.answer.now)) (sym (second_at c.rule-asked.result.log (record { position = st.position; answer = (answer_of c.args.answer.now) }) (first_of c.rule-asked.result.before st) ∙ first_at c.rule-asked.result.before st)) (answer_there (system images inputs c.args.self.now.protocol) p answers st (answer_of c.args.answer.now) alone) in
     let same2 = same_twice (g.C.Checkpoint.contents c.args.store.now c.args.dev.now) (g.C.Checkpoint.contents c.commit_if.new.store c.commit_if.new.dev) (g.C.Checkpoint.contents c.append_if.new.store c.append_if.new.dev) c.in_ok-commit_if.ensures.memory c.in_ok-append_if.ensures.memory in
     let guest2 = c.in_ok-append_if.ensures.guest ∙ c.in_ok-commit_if.ensures.guest in
@@ -173,8 +174,8 @@ returns-clause-goes g c images inputs p answers st d words from told stood alone
     (search rules) (search rules) (search rules) (search rules) (search rules) (search rules) (g.C.Checkpoint.contents c.append_if.new.store c.append_if.new.dev) (g.C.Checkpoint.contents c.advance.new.store c.advance.new.dev) (g.C.Checkpoint.leaves c.append_if.new.store c.append_if.new.dev d) (g.C.Checkpoint.leaves c.advance.new.store c.advance.new.dev d) over2
     (still (λ ws. c.args.next.now ≡ next_of (over c.append_if.new.self.guest ws)) (g.C.Checkpoint.contents c.args.store.now c.args.dev.now) (g.C.Checkpoint.contents c.append_if.new.store c.append_if.new.dev) same2 (subst (λ (b : Bare). IfSome (g.C.Checkpoint.contents c.args.store.now c.args.dev.now) (λ ws. c.args.next.now ≡ next_of (over b ws))) (sym guest2) c.requires.found))
     (still (λ ws. c.effect-effect.result ≡ effect_of (event_of c.args.next.now (machine_over c.append_if.new.self.guest ws))) (g.C.Checkpoint.contents c.args.store.now c.args.dev.now) (g.C.Checkpoint.contents c.append_if.new.store c.append_if.new.dev) same2 (subst (λ (b : Bare). IfSome (g.C.Checkpoint.contents c.args.store.now c.args.dev.now) (λ ws. c.effect-effect.result ≡ effect_of (event_of c.args.next.now (machine_over b ws)))) (sym guest2) c.effect-effect.ensures.effect))
-    (search rules) (λ r l. c.in_ok-advance.ensures.stores.stands d r from2 l) in
-    let from4 : g.C.Checkpoint.floor c.advance.new.store ≤ d = omega (arith, from2, c.in_ok-advance.ensures.stores.call.floor_less) in
+    (search rules) (λ r l. c.in_ok-advance.ensures.stores.adds_nothing.stands d r from2 l) in
+    let from4 : g.C.Checkpoint.floor c.advance.new.store ≤ d = omega (arith, from2, c.in_ok-advance.ensures.stores.call.floor) in
     unstopped images inputs c.args.self.now.protocol p answers st (answer_of c.args.answer.now) words c.args.self.now c.requires.whole here c.requires.runs stood.going c.requires.sender c.args.next.now c.kind-kind.result c.rule-asked.result c.replays-replay.result found c.kind-kind.ensures c.rule-asked.ensures c.replays-replay.ensures (g.C.Checkpoint.contents c.commit_if-2.new.store c.commit_if-2.new.dev) (held c.commit_if-2.new.self) (g.C.Checkpoint.leaves c.commit_if-2.new.store c.commit_if-2.new.dev d) (c.in_ok-commit_if-2.ensures.goes images inputs c.args.self.now.protocol p (answers_alone answers st (answer_of c.args.answer.now) Nowhere) (passed c.replays-replay.result (sets_own c.rule-asked.result.log c.replays-replay.result (answer_of c.args.answer.now)) (second_of c.rule-asked.result.log (record { position = st.position; answer = (answer_of c.args.answer.now) }) (first_of c.rule-asked.result.before st))) d from4 over4)
 
 pub returns-clause-quiet : goal.returns-clause-quiet
@@ -202,30 +203,30 @@ returns-in_err-commit_if-clause-numbered g c d most from below is = numbered_mor
 
 pub returns-in_err-append_if-clause-numbered : goal.returns-in_err-append_if-clause-numbered
 returns-in_err-append_if-clause-numbered g c d most from below is =
-    let from1 : g.C.Checkpoint.floor c.commit_if.new.store ≤ d = omega (arith, from, c.in_ok-commit_if.ensures.call.floor_less) in
+    let from1 : g.C.Checkpoint.floor c.commit_if.new.store ≤ d = omega (arith, from, c.in_ok-commit_if.ensures.call.floor) in
     numbered_more (most + 1) (most + 2) (g.C.Checkpoint.leaves c.append_if.new.store c.append_if.new.dev d) (omega arith) (c.append_if.ensures.numbered d (most + 1) from1 (c.commit_if.ensures.numbered d most from below is))
 
 pub returns-in_err-advance-clause-numbered : goal.returns-in_err-advance-clause-numbered
 returns-in_err-advance-clause-numbered g c d most from below is =
-    let from1 : g.C.Checkpoint.floor c.commit_if.new.store ≤ d = omega (arith, from, c.in_ok-commit_if.ensures.call.floor_less) in
-    let from2 : g.C.Checkpoint.floor c.append_if.new.store ≤ d = omega (arith, from1, c.in_ok-append_if.ensures.call.floor_less) in
-    numbered_more (most + 1) (most + 2) (g.C.Checkpoint.leaves c.advance.new.store c.advance.new.dev d) (omega arith) (numbered_less (most + 1) (g.C.Checkpoint.leaves c.append_if.new.store c.append_if.new.dev d) (g.C.Checkpoint.leaves c.advance.new.store c.advance.new.dev d) (λ r l. c.advance.ensures.stores.stands d r from2 l) (c.append_if.ensures.numbered d (most + 1) from1 (c.commit_if.ensures.numbered d most from below is)))
+    let from1 : g.C.Checkpoint.floor c.commit_if.new.store ≤ d = omega (arith, from, c.in_ok-commit_if.ensures.call.floor) in
+    let from2 : g.C.Checkpoint.floor c.append_if.new.store ≤ d = omega (arith, from1, c.in_ok-append_if.ensures.call.floor) in
+    numbered_more (most + 1) (most + 2) (g.C.Checkpoint.leaves c.advance.new.store c.advance.new.dev d) (omega arith) (numbered_less (most + 1) (g.C.Checkpoint.leaves c.append_if.new.store c.append_if.new.dev d) (g.C.Checkpoint.leaves c.advance.new.store c.advance.new.dev d) (λ r l. c.advance.ensures.stores.adds_nothing.stands d r from2 l) (c.append_if.ensures.numbered d (most + 1) from1 (c.commit_if.ensures.numbered d most from below is)))
 
 pub returns-in_err-commit_if-2-clause-numbered : goal.returns-in_err-commit_if-2-clause-numbered
 returns-in_err-commit_if-2-clause-numbered g c d most from below is =
-    let from1 : g.C.Checkpoint.floor c.commit_if.new.store ≤ d = omega (arith, from, c.in_ok-commit_if.ensures.call.floor_less) in
-    let from2 : g.C.Checkpoint.floor c.append_if.new.store ≤ d = omega (arith, from1, c.in_ok-append_if.ensures.call.floor_less) in
-    let from3 : g.C.Checkpoint.floor c.advance.new.store ≤ d = omega (arith, from2, c.in_ok-advance.ensures.stores.call.floor_less) in
+    let from1 : g.C.Checkpoint.floor c.commit_if.new.store ≤ d = omega (arith, from, c.in_ok-commit_if.ensures.call.floor) in
+    let from2 : g.C.Checkpoint.floor c.append_if.new.store ≤ d = omega (arith, from1, c.in_ok-append_if.ensures.call.floor) in
+    let from3 : g.C.Checkpoint.floor c.advance.new.store ≤ d = omega (arith, from2, c.in_ok-advance.ensures.stores.call.floor) in
     numbered_more (most + 1 + 1) (most + 2) (g.C.Checkpoint.leaves c.commit_if-2.new.store c.commit_if-2.new.dev d) (omega arith) (c.commit_if-2.ensures.numbered d (most + 1) from3 (let one = commit_number c.rule-asked.result.before c.args.self.now c.commit_if.new.self c.commit_if.new.self.based.items c.in_ok-commit_if.ensures.held c.in_ok-commit_if.ensures.kept in let mid = ap (λ (k : Kernel). k.commit) c.note_event-shown.ensures.kernel ∙ commit_after c.advance.new.self.others.items c.args.next.now (answer_of c.args.answer.now) c.effect-effect.result c.advance.new.self.kernel
-    ∙ ap (λ (u : Up). u.kernel.commit) c.in_ok-advance.ensures.rest ∙ append_number c.rule-asked.result.log c.commit_if.new.self c.append_if.new.self _ c.in_ok-append_if.ensures.held c.in_ok-append_if.ensures.kept in omega (arith, one.1, mid, below)) (numbered_less (most + 1) (g.C.Checkpoint.leaves c.append_if.new.store c.append_if.new.dev d) (g.C.Checkpoint.leaves c.advance.new.store c.advance.new.dev d) (λ r l. c.advance.ensures.stores.stands d r from2 l) (c.append_if.ensures.numbered d (most + 1) from1 (c.commit_if.ensures.numbered d most from below is))))
+    ∙ ap (λ (u : Up). u.kernel.commit) c.in_ok-advance.ensures.rest ∙ append_number c.rule-asked.result.log c.commit_if.new.self c.append_if.new.self _ c.in_ok-append_if.ensures.held c.in_ok-append_if.ensures.kept in omega (arith, one.1, mid, below)) (numbered_less (most + 1) (g.C.Checkpoint.leaves c.append_if.new.store c.append_if.new.dev d) (g.C.Checkpoint.leaves c.advance.new.store c.advance.new.dev d) (λ r l. c.advance.ensures.stores.adds_nothing.stands d r from2 l) (c.append_if.ensures.numbered d (most + 1) from1 (c.commit_if.ensures.numbered d most from below is))))
 
 pub returns-clause-numbered : goal.returns-clause-numbered
 returns-clause-numbered g c d most from below is =
-    let from1 : g.C.Checkpoint.floor c.commit_if.new.store ≤ d = omega (arith, from, c.in_ok-commit_if.ensures.call.floor_less) in
-    let from2 : g.C.Checkpoint.floor c.append_if.new.store ≤ d = omega (arith, from1, c.in_ok-append_if.ensures.call.floor_less) in
-    let from3 : g.C.Checkpoint.floor c.advance.new.store ≤ d = omega (arith, from2, c.in_ok-advance.ensures.stores.call.floor_less) in
+    let from1 : g.C.Checkpoint.floor c.commit_if.new.store ≤ d = omega (arith, from, c.in_ok-commit_if.ensures.call.floor) in
+    let from2 : g.C.Checkpoint.floor c.append_if.new.store ≤ d = omega (arith, from1, c.in_ok-append_if.ensures.call.floor) in
+    let from3 : g.C.Checkpoint.floor c.advance.new.store ≤ d = omega (arith, from2, c.in_ok-advance.ensures.stores.call.floor) in
     numbered_more (most + 1 + 1) (most + 2) (g.C.Checkpoint.leaves c.commit_if-2.new.store c.commit_if-2.new.dev d) (omega arith) (c.commit_if-2.ensures.numbered d (most + 1) from3 (let one = commit_number c.rule-asked.result.before c.args.self.now c.commit_if.new.self c.commit_if.new.self.based.items c.in_ok-commit_if.ensures.held c.in_ok-commit_if.ensures.kept in let mid = ap (λ (k : Kernel). k.commit) c.note_event-shown.ensures.kernel ∙ commit_after c.advance.new.self.others.items c.args.next.now (answer_of c.args.answer.now) c.effect-effect.result c.advance.new.self.kernel
-    ∙ ap (λ (u : Up). u.kernel.commit) c.in_ok-advance.ensures.rest ∙ append_number c.rule-asked.result.log c.commit_if.new.self c.append_if.new.self _ c.in_ok-append_if.ensures.held c.in_ok-append_if.ensures.kept in omega (arith, one.1, mid, below)) (numbered_less (most + 1) (g.C.Checkpoint.leaves c.append_if.new.store c.append_if.new.dev d) (g.C.Checkpoint.leaves c.advance.new.store c.advance.new.dev d) (λ r l. c.advance.ensures.stores.stands d r from2 l) (c.append_if.ensures.numbered d (most + 1) from1 (c.commit_if.ensures.numbered d most from below is))))
+    ∙ ap (λ (u : Up). u.kernel.commit) c.in_ok-advance.ensures.rest ∙ append_number c.rule-asked.result.log c.commit_if.new.self c.append_if.new.self _ c.in_ok-append_if.ensures.held c.in_ok-append_if.ensures.kept in omega (arith, one.1, mid, below)) (numbered_less (most + 1) (g.C.Checkpoint.leaves c.append_if.new.store c.append_if.new.dev d) (g.C.Checkpoint.leaves c.advance.new.store c.advance.new.dev d) (λ r l. c.advance.ensures.stores.adds_nothing.stands d r from2 l) (c.append_if.ensures.numbered d (most + 1) from1 (c.commit_if.ensures.numbered d most from below is))))
 
 -- where all commit together, nothing but the event's stores is done
 pub returns-in_err-commit_if-clause-narrows : goal.returns-in_err-commit_if-clause-narrows
@@ -238,7 +239,7 @@ pub returns-in_err-advance-clause-narrows : goal.returns-in_err-advance-clause-n
 returns-in_err-advance-clause-narrows g c together =
     let off = c.rule-asked.ensures ∙ asks_nothing c.args.self.now.protocol together c.kind-kind.result _ in
     narrow_last g.C.Checkpoint c.args.store.now c.commit_if.new.store c.append_if.new.store c.advance.new.store c.args.dev.now c.commit_if.new.dev c.append_if.new.dev c.advance.new.dev
-    (c.commit_if.ensures.untouched (ap (λ (r : Rule). r.before) off)) (c.append_if.ensures.untouched (ap (λ (r : Rule). r.log) off)) c.advance.ensures.stores.stands
+    (c.commit_if.ensures.untouched (ap (λ (r : Rule). r.before) off)) (c.append_if.ensures.untouched (ap (λ (r : Rule). r.log) off)) c.advance.ensures.stores.adds_nothing.stands
 
 pub returns-in_err-commit_if-2-clause-narrows : goal.returns-in_err-commit_if-2-clause-narrows
 returns-in_err-commit_if-2-clause-narrows g c together = absurd (true≢false (sym (not_asked c.rule-asked.result (λ r. r.after) (c.rule-asked.ensures ∙ asks_nothing c.args.self.now.protocol together c.kind-kind.result _) c.in_err-commit_if-2.ensures.due)))
@@ -248,4 +249,4 @@ returns-clause-narrows g c together =
     let off = c.rule-asked.ensures ∙ asks_nothing c.args.self.now.protocol together c.kind-kind.result _ in
     narrow_then g.C.Checkpoint c.args.store.now c.advance.new.store c.commit_if-2.new.store c.args.dev.now c.advance.new.dev c.commit_if-2.new.dev (c.commit_if-2.ensures.untouched (ap (λ (r : Rule). r.after) off))
     (narrow_last g.C.Checkpoint c.args.store.now c.commit_if.new.store c.append_if.new.store c.advance.new.store c.args.dev.now c.commit_if.new.dev c.append_if.new.dev c.advance.new.dev
-    (c.commit_if.ensures.untouched (ap (λ (r : Rule). r.before) off)) (c.append_if.ensures.untouched (ap (λ (r : Rule). r.log) off)) c.advance.ensures.stores.stands)
+    (c.commit_if.ensures.untouched (ap (λ (r : Rule). r.before) off)) (c.append_if.ensures.untouched (ap (λ (r : Rule). r.log) off)) c.advance.ensures.stores.adds_nothing.stands)

@@ -37,7 +37,7 @@ returns-in-Ok-Retire-clause-goes g c images inputs p answers st d words from tol
     let over2 = over_next images inputs c.args.self.now.protocol p (answers_alone answers st Plain Nowhere) st Plain (answer_there S p answers st Plain alone1) c.args.self.now c.note_retired.new.self c.requires.whole whole c.requires.runs Retire Nothing false false
     (search rules) (search rules) (search rules) (search rules) (search rules) (search rules)
     (g.C.Checkpoint.contents c.args.store.now c.args.dev.now) (g.C.Checkpoint.contents c.step.new.store c.step.new.dev) (g.C.Checkpoint.leaves c.args.store.now c.args.dev.now d) (g.C.Checkpoint.leaves c.step.new.store c.step.new.dev d) over1
-    found (told_nothing (g.C.Checkpoint.contents c.args.store.now c.args.dev.now) c.args.self.now.guest) (search rules) (λ r l. c.in-Ok-Retire.ensures.stores.stands d r from l) in
+    found (told_nothing (g.C.Checkpoint.contents c.args.store.now c.args.dev.now) c.args.self.now.guest) (search rules) (λ r l. c.in-Ok-Retire.ensures.stores.adds_nothing.stands d r from l) in
     retired images inputs c.args.self.now.protocol p answers st words c.args.self.now c.requires.whole here c.requires.runs (sym retires) (answer_of c.args.answer.now) plain (g.C.Checkpoint.contents c.step.new.store c.step.new.dev) c.note_retired.new.self (g.C.Checkpoint.leaves c.step.new.store c.step.new.dev d) over2
 
 pub returns-in-Err-clause-stopped : goal.returns-in-Err-clause-stopped
@@ -50,7 +50,7 @@ returns-in-Err-clause-stopped g c images inputs p answers st d words from told s
     let over1 = over_added S p answers st st Plain (g.C.Checkpoint.contents c.args.store.now c.args.dev.now) (held c.args.self.now) (g.C.Checkpoint.leaves c.args.store.now c.args.dev.now d) stood in
     stopped_retiring images inputs c.args.self.now.protocol p answers st words c.args.self.now c.requires.whole here c.requires.runs retires (answer_of c.args.answer.now) plain (slice_index c.args.self.now.others.items)
     (g.C.Checkpoint.leaves c.step.new.store c.step.new.dev d) (record { before = c.args.acts.now.items; more = acts_with c.args.acts.now.items c.args.self.now.kernel c.args.t (answer_of c.args.answer.now); after = c.add_act-in-Err.new.acts.items }) c.step.new.self.based.items
-    (λ r l. over1.stands r (c.in-Err.ensures.stores.stands d r from l)) (search rules)
+    (λ r l. over1.stands r (c.in-Err.ensures.stores.adds_nothing.stands d r from l)) (search rules)
     (parts_based S p answers st Plain words (held c.args.self.now) here stood.going false false (record { position = st.position; answer = Plain }) c.step.new.self.based.items c.args.self.now.based.items (λ e. absurd (true≢false (sym e))) (λ e. refl) (ap (λ (u : Up). u.based.items) c.in-Err.ensures.rest))
 
 pub returns-else-is_blocked : goal.returns-else-is_blocked

@@ -1,4 +1,7 @@
 use Rattle.std.proofs.Common.{◌≡◌, ◌+◌, ◌++◌, ◌∷◌, [], Err, IfSome, arith, rules, subst}
+use Rattle.std.proofs.lemmas.List.Elements.{All-push}
+use Rattle.dc_kernel.specs.Records.{IsRecord}
+use Rattle.dc_vista.proofs.Decoded.{decoded_is}
 use Rattle.dc_kernel.specs.declared.faults.StoreFault.{StoreFault}
 use Rattle.dc_kernel.specs.declared.faults.StoreFault.TheVariants as fault
 use Rattle.dc_checkpoint.specs.States.{Reading}
@@ -28,6 +31,7 @@ loop-j-preserved g c =
     let items : c.push-pushed.new.self.items ≡ c.loop-j.log.items ++ c.in-Some.rec ∷ [] = search rules in
     record {
       few = search rules;
+      records = rw items (All-push (IsRecord frame.n) c.loop-j.log.items c.in-Some.rec v.records (decoded_is frame.n c.read_place.new.words c.in-Some.rec c.in-Some.ensures));
       room = search rules;
       long = c.read_place.ensures.long;
       read = rw items (log_more frame.n c.args.number c.loop-j.j c.get.result c.read_place.new.words c.loop-j.log.items c.in-Some.rec _ c.loop-j-test.true c.if-get-number.false c.get.ensures c.read_place.ensures.text c.in-Some.ensures v.read);

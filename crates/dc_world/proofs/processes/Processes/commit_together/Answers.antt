@@ -8,7 +8,7 @@ use Rattle.dc_proc.proofs.Texts.{number_is}
 use Rattle.dc_twophase.specs.Stores.{text_at}
 use Rattle.dc_proc.specs.Events.{HasCountsFor}
 use Rattle.dc_twophase.proofs.Pairs.{before_it, known, pair_then}
-use Rattle.dc_twophase.proofs.Preparing.{same_then}
+use Rattle.dc_checkpoint.specs.Handles.{same_then}
 use Rattle.dc_world.proofs.Fitting.{alike_after, counts_after, down_at, fit_after, fit_number, fit_there, fit_up, own_form, room_same, row_size, up_based, up_there}
 use Rattle.dc_proc.specs.Carried.{system}
 use Rattle.dc_proc.specs.Processes.{Held, IsCopied}
@@ -21,7 +21,7 @@ use Rattle.dc_world.specs.Slots.{based_in, held_in, size_in, slot_at}
 use Rattle.dc_world.specs.declared.slot.Slot.TheVariants.{Up}
 use Rattle.dc_world.proofs.Acknowledged.{world_committed, world_torn}
 use Rattle.dc_world.proofs.Beside.{and_some, some_and}
-use Rattle.dc_world.proofs.Joining.{number_low, room_for, told_same, told_words}
+use Rattle.dc_world.proofs.Joining.{least_low, number_low, room_for, told_same, told_words}
 use Rattle.dc_world.proofs.processes.Processes.commit_together.Goals as goal
 
 pub write_texts-requires-clause-up : goal.write_texts-requires-clause-up
@@ -190,7 +190,7 @@ returns-in-Ok-clause-goes g c images core together told go world =
     (λ d p r counts less left. let a = known stores0 p (stored0 p less) in let b = known stores1 p (stored1 p less) in
     subst (λ o. IsSaved (memory_of G o dev0) (text_at (length deref / length stores0) deref p) r) (sym a.1)
     (c.in-Ok.ensures.stands room first.0 first.1 d (some_and (λ z. G.numbers z dev1 d) (store_of new 0) first.0 first.1 counts) p a.0 b.0 a.1 b.1 r (some_and (λ z. G.leaves z dev1 d r) (store_of new p) b.0 b.1 left)))
-    (let o = over 0 some in omega (arith, o)) (search rules) (search rules) (search rules) (search rules) (search rules)
+    (least_low G met.told_contents met.some_number S together core old world told c.requires.stores c.requires.own c.requires.fit number some over) (search rules) (search rules) (search rules) (search rules) (search rules)
     (and_some (λ z. G.steady z dev1) (store_of new 0) first.0 first.1 (c.commit_all.ensures.steady room first.0 first.1))
     (λ d counts. c.in-Ok.ensures.decided room first.0 first.1 d (some_and (λ z. G.numbers z dev1 d) (store_of new 0) first.0 first.1 counts))
     (λ p less. let b = known stores1 p (stored1 p less) in and_some (λ z. G.floor z ≤ number) (store_of new p) b.0 b.1 (c.in-Ok.ensures.committed p b.0 b.1).floor)
@@ -254,7 +254,7 @@ returns-in-Err-clause-torn g c have images core together told go world =
     (λ p less. (c.power.ensures.falls p (inside1 p less)).down)
     (λ p less. let made = c.write_texts.ensures.made p (inside p less) in (c.power.ensures.falls p (inside1 p less)).based_same ∙ up_based (slot_at slots1 p) made.up ∙ ap (λ (h : Held). h.based) made.held_is
     ∙ sym (up_based (slot_at slots0 p) (fit_up G stores0 dev0 slots0 c.requires.stores c.requires.fit p (inside p less))))
-    (let o = over 0 some in omega (arith, o)) (c.power.ensures.long ∙ c.write_texts.ensures.long) (search rules) (search rules) (search rules) (search rules) (omega (arith, lines_are))
+    (least_low G met.told_contents met.some_number S together core old world told c.requires.stores c.requires.own c.requires.fit number some over) (c.power.ensures.long ∙ c.write_texts.ensures.long) (search rules) (search rules) (search rules) (search rules) (omega (arith, lines_are))
     (and_some (λ z. G.steady z dev1) (store_of new 0) first2.0 first2.1 (fell.steady dev1 (c.commit_all.ensures.steady room first1.0 first1.1)))
     (let l = c.requires.left in omega (arith, low, one, left_is, l))
     (number_low G met.told_contents met.some_number S together core old world told c.requires.stores c.requires.own c.requires.fit number some over)

@@ -52,7 +52,7 @@ returns-in-Err-clause-stopped g c stores at place images schedule core told_old 
       based_same = ap based_in c.put-in-Err.ensures.there ∙ c.in-Err.ensures.kept ∙ sym (ap based_in here);
       size_same = ap size_in c.put-in-Err.ensures.there ∙ c.in-Err.ensures.down.1.size_is ∙ sym (ap size_in here);
     } in
-    failing g.C.Checkpoint laws images core old new c.requires.alone world c.args.turn.now (subst (λ m. p < m) (sym long_old) c.requires.process) c.args.store.now c.recover.new.store at refl place c.recover.ensures.others
+    failing g.C.Checkpoint laws images core old new c.requires.alone world c.args.turn.now (subst (λ m. p < m) (sym long_old) c.requires.process) c.args.store.now c.recover.new.store at refl place c.recover.ensures.touches.others
     (λ r l. c.recover.ensures.stands r l) (ap is_up here) falls
     (λ q ne. c.put-in-Err.ensures.others q (λ e. ne (sym e)) ∙ sym (put_other slots0 p q (Some (Down c.args.down)) (λ e. ne (sym e))))
     (c.put-in-Err.ensures.long ∙ sym long_old) (ap (λ (w : Processes). w.protocol) c.put-in-Err.ensures.rest) (ap (λ (w : Processes). lists_of w.inputs.items) c.put-in-Err.ensures.rest)
@@ -83,7 +83,7 @@ impossible g c stores at place images schedule core told_old told_new now world 
     let up = c.in-Ok.up in
     let old = with_slot p (Down c.args.down) (stage_of stores c.args.dev.now c.args.self.now) in
     let long_old : length (slice_set slots0 p (Some (Down c.args.down))) ≡ length slots0 = length-set slots0 p (Some (Down c.args.down)) in
-    let place1 : g.C.Checkpoint.place c.recover.new.store ≡ p = c.recover.ensures.same.place_same ∙ place p c.args.store.now at in
+    let place1 : g.C.Checkpoint.place c.recover.new.store ≡ p = c.recover.ensures.touches.same.place_same ∙ place p c.args.store.now at in
     c.if-has_counts_for.ensures.none refl (returned_counts g.C.Checkpoint laws met.told_contents images schedule core old c.requires.alone now world c.args.turn.now
     (subst (λ m. p < m) (sym long_old) c.requires.process) c.args.store.now at (ap is_up (put_same slots0 p (Some (Down c.args.down)) c.requires.process)) c.recover.new.store (later 0 (stage_of (slice_set stores p c.recover.new.store) c.recover.new.dev c.put.new.self)) c.in-Ok.ensures.ready
     (subst (g.C.Checkpoint.told c.recover.new.dev) (sym place1) (told_new.told p (subst (λ m. p < m) (sym c.put.ensures.long) c.requires.process))) up c.in-Ok.ensures.number c.in-Ok.ensures.goes (λ r l. c.recover.ensures.stands r l) c.requires.few.0 c.requires.few.1)
@@ -99,8 +99,10 @@ returns-in-Err-clause-refused g c fault e stores at place images schedule core t
     let p = c.args.turn.now.p in
     let slots0 = c.args.self.now.slots.items in
     let inside : p < length (slice_set slots0 p (Some (Down c.args.down))) = subst (λ m. p < m) (sym (length-set slots0 p (Some (Down c.args.down)))) c.requires.process in
-    let left = g.met.C.Checkpoint.some_reading c.args.store.now c.args.dev.now (subst (g.C.Checkpoint.told c.args.dev.now) (sym (place p c.args.store.now at)) (told_old.told p inside)) 0 in
-    no_refusal g.C.Checkpoint images core (with_slot p (Down c.args.down) (stage_of stores c.args.dev.now c.args.self.now)) c.requires.alone world p inside c.args.store.now at left.0 fault left.1
+    let place1 : g.C.Checkpoint.place c.recover.new.store ≡ p = c.recover.ensures.touches.same.place_same ∙ place p c.args.store.now at in
+    let told1 = subst (g.C.Checkpoint.told c.recover.new.dev) (sym place1) (told_new.told p (subst (λ m. p < m) (sym c.put-in-Err.ensures.long) c.requires.process)) in
+    let left = g.met.C.Checkpoint.some_reading c.recover.new.store c.recover.new.dev told1 0 in
+    no_refusal g.C.Checkpoint images core (with_slot p (Down c.args.down) (stage_of stores c.args.dev.now c.args.self.now)) c.requires.alone world p inside c.args.store.now at left.0 fault (c.recover.ensures.stands left.0 left.1)
     (c.in-Err.ensures.refused fault (let same : c.in-Err.fault ≡ check.Refused fault = cc in ap Err same) left.0 left.1)
 
 pub returns-in-Ok-clause-others : goal.returns-in-Ok-clause-others
@@ -118,12 +120,12 @@ returns-in-Ok-clause-handled g c =
     let dev1 = c.recover.new.dev in
     let learned = c.rise.ensures.learned in
     let left = c.args.self.now.left in
-    let n_is : up.kernel.n ≡ n = ap (λ (f : Form). f.n) (sym c.in-Ok.ensures.paired.form_is) ∙ ap (λ (f : Form). f.n) c.recover.ensures.same.form_same ∙ c.requires.form.0 in
+    let n_is : up.kernel.n ≡ n = ap (λ (f : Form). f.n) (sym c.in-Ok.ensures.paired.form_is) ∙ ap (λ (f : Form). f.n) c.recover.ensures.touches.same.form_same ∙ c.requires.form.0 in
     let risen : IsHandled g.C.Checkpoint left store1 dev1 (Some (Up up)) = (
       record {
-        lent = c.recover.ensures.lent;
+        lent = c.recover.ensures.touches.lent;
         ready = c.in-Ok.ensures.ready;
-        sized = c.in-Ok.ensures.protocol.1 ∙ c.requires.sized ∙ ap (λ m. 4 * m) (sym c.recover.ensures.same.size_same);
+        sized = c.in-Ok.ensures.protocol.1 ∙ c.requires.sized ∙ ap (λ m. 4 * m) (sym c.recover.ensures.touches.same.size_same);
         paired = c.in-Ok.ensures.paired;
         whole = c.in-Ok.ensures.whole;
       },
@@ -167,13 +169,13 @@ returns-in-Ok-clause-turned g c stores at place images schedule core told_old to
     let long_old : length slots1 ≡ length slots0 = length-set slots0 p (Some (Down c.args.down)) in
     let no_more : c.args.self.now.lines + 0 ≡ c.args.self.now.lines = omega arith in
     let left_is : w2.left ≡ c.args.self.now.left = ap (λ (w : Processes). w.left) c.rise.ensures.rest in
-    let place1 : g.C.Checkpoint.place c.recover.new.store ≡ p = c.recover.ensures.same.place_same ∙ place p c.args.store.now at in
+    let place1 : g.C.Checkpoint.place c.recover.new.store ≡ p = c.recover.ensures.touches.same.place_same ∙ place p c.args.store.now at in
     let off : is_up (slot_at slots1 p) ≡ false = ap is_up (put_same slots0 p (Some (Down c.args.down)) c.requires.process) in
     let turned = returned g.C.Checkpoint laws met.told_contents images schedule core old c.requires.alone now world c.args.turn.now
     (subst (λ m. p < m) (sym long_old) c.requires.process) c.args.store.now at off c.recover.new.store new c.in-Ok.ensures.ready
     (subst (g.C.Checkpoint.told c.recover.new.dev) (sym place1) (told_new.told p (subst (λ m. p < m) (sym c.rise.ensures.long) c.requires.process)))
     up c.in-Ok.ensures.number c.in-Ok.ensures.goes (λ r l. c.recover.ensures.stands r l) c.requires.few.0 c.requires.few.1
-    refl place c.recover.ensures.others (knows_beside c.args.self.now p (Down c.args.down) c.requires.well c.requires.of c.requires.process)
+    refl place c.recover.ensures.touches.others (knows_beside c.args.self.now p (Down c.args.down) c.requires.well c.requires.of c.requires.process)
     upto (ap (λ s. slice_index (based_in s) p) (put_same slots0 p (Some (Up up)) c.requires.process))
     (λ q ne. ap (λ s. slice_index (based_in s) p) (put_other slots0 p q (Some (Up up)) ne ∙ sym (put_other slots0 p q (Some (Down c.args.down)) ne)))
     (subst (λ m. LearnsAll c.args.self.now.protocol m p upto (Some (Up up)) (slot_at w2.slots.items p)) (sym long_old) c.rise.ensures.learned)

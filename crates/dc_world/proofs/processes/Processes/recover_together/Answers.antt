@@ -8,8 +8,9 @@ use Rattle.dc_model.specs.declared.entry.Entry.TheVariants as entry
 use Rattle.dc_proc.proofs.Texts.{any_err}
 use Rattle.dc_proc.specs.Events.{HasCountsFor}
 use Rattle.dc_twophase.proofs.Pairs.{before_it, known, pair_then}
-use Rattle.dc_twophase.proofs.Preparing.{same_then}
-use Rattle.dc_twophase.specs.Recoveries.{AreFit, IsFit}
+use Rattle.dc_checkpoint.specs.Handles.{same_then}
+use Rattle.dc_checkpoint.specs.States.{IsFit}
+use Rattle.dc_twophase.specs.Recoveries.{AreFit}
 use Rattle.dc_twophase.specs.declared.faults.JointFault.TheVariants as joint
 use Rattle.dc_world.proofs.Fitting.{counts_risen, down_at, down_each, down_still, down_there, filled_own, filled_same, fit_risen, own_form, own_same, room_filled, up_there}
 use Rattle.dc_world.proofs.Recovers.{learns_there, recovery_counts, recovery_done, recovery_ends, recovery_refused, recovery_stopped}
@@ -77,10 +78,10 @@ rise_each-requires-clause-fit g c p saved at =
     let b = known c.recover_all.new.stores p (subst (λ m. p < m) long (slice_get_within saved1 p saved here)) in
     let a = before_it c.args.stores.now c.recover_all.new.stores p b.0 c.recover_all.auto.stores b.1 in
     let own = own_same G c.args.stores.now c.recover_all.new.stores n c.recover_all.auto.stores c.recover_all.ensures.same c.requires.own p b.0 b.1 in
-    let read = c.in_ok-recover_all.ensures.recovered.1 p b.0 saved b.1 here in (
+    let read = c.in_ok-recover_all.ensures.recovered.each p b.0 saved b.1 here in (
       subst (λ f. IsFit f saved) (own_form G n p a.0 (c.requires.own p a.0 a.1)) (c.recover_all.ensures.fit p a.0 saved a.1 here),
-      subst (λ m. IsKernel n m saved.kernel) own.form_p (subst (λ m. IsKernel m (G.form b.0).p saved.kernel) own.form_n read.kernel),
-      read.few,
+      subst (λ m. IsKernel n m saved.kernel) own.form_p (subst (λ m. IsKernel m (G.form b.0).p saved.kernel) own.form_n read.read.kernel),
+      read.read.few,
     )
 
 -- too many turns are left
@@ -134,7 +135,7 @@ impossible g c images schedule core told_old told_new now world =
     let counts = recovery_counts G images core (stage_of c.args.stores.now c.args.dev.now c.args.self.now) (stage_of c.recover_all.new.stores c.recover_all.new.dev c.rise_each.new.self) c.requires.together world
     c.requires.well.some c.requires.stores c.recover_all.auto.stores c.rise_each.ensures.long c.requires.down c.recover_all.ensures.stands c.recover_all.ensures.steady
     (own_same G c.args.stores.now c.recover_all.new.stores n c.recover_all.auto.stores c.recover_all.ensures.same c.requires.own)
-    (λ q less. told_new.told q (subst (λ m. q < m) (sym (c.power.ensures.long ∙ c.rise_each.ensures.long)) less)) met.some_reading met.some_number met.told_contents schedule now recovered.0 saved1 long recovered.1 recovered.2
+    (λ q less. told_new.told q (subst (λ m. q < m) (sym (c.power.ensures.long ∙ c.rise_each.ensures.long)) less)) met.some_reading met.some_number met.told_contents schedule now c.in_ok-recover_all.field-0 saved1 long recovered.each recovered.decided
     c.rise_each.new.self.slots.items (λ q v at. c.rise_each.ensures.risen q v (ap (λ xs. slice_get xs q) saved_are ∙ at)) c.requires.few.0 c.requires.few.1 c.requires.left c.in-Some.p
     (subst (λ m. c.in-Some.p < m) c.rise_each.ensures.long c.in-Some.ensures.some.0) in
     c.in-Some.ensures.some.1 (subst (λ l. HasCountsFor (2 * (l - 1)) (held_in (slot_at c.rise_each.new.self.slots.items c.in-Some.p)).kernel) (sym left_is) counts)
@@ -193,18 +194,18 @@ returns-clause-fit g c =
           (let a = before_it stores0 stores1 p x c.recover_all.auto.stores at in
           let less : p < n = subst (λ m. p < m) c.requires.stores (slice_get_within stores0 p a.0 a.1) in
           let v = known saved1 p (subst (λ m. p < m) (sym long) less) in
-          fit_risen G a.0 x dev0 dev1 recovered.0 n _ v.0 (slot_at slots0 p) (slot_at slots1 p) (slot_at slots2 p) (down_there G a.0 dev0 (slot_at slots0 p) (c.requires.down p a.0 a.1))
+          fit_risen G a.0 x dev0 dev1 c.in_ok-recover_all.field-0 n _ v.0 (slot_at slots0 p) (slot_at slots1 p) (slot_at slots2 p) (down_there G a.0 dev0 (slot_at slots0 p) (c.requires.down p a.0 a.1))
           (c.rise_each.ensures.risen p v.0 (ap (λ xs. slice_get xs p) saved_are ∙ v.1)) (learns p less) (λ u e. (c.learn_each.ensures.well.each p (Up u) (subst (λ m. p < m) (sym long2) less) e).0)
-          (c.recover_all.ensures.same p a.0 x a.1 at) (c.recover_all.ensures.lent p x at) (recovered.1 p x v.0 at v.1)),
+          (c.recover_all.ensures.same p a.0 x a.1 at) (c.recover_all.ensures.lent p x at) (recovered.each p x v.0 at v.1)),
       λ p less2.
           (let less : p < n = subst (λ m. p < m) long2 less2 in
           let a = known stores0 p (subst (λ m. p < m) (sym c.requires.stores) less) in
           let b = known stores1 p (subst (λ m. p < m) (sym (c.recover_all.auto.stores ∙ c.requires.stores)) less) in
           let v = known saved1 p (subst (λ m. p < m) (sym long) less) in
           let own = own_same G stores0 stores1 n c.recover_all.auto.stores c.recover_all.ensures.same c.requires.own p b.0 b.1 in
-          counts_risen G a.0 b.0 dev0 dev1 recovered.0 n _ v.0 (slot_at slots0 p) (slot_at slots1 p) (slot_at slots2 p) (down_there G a.0 dev0 (slot_at slots0 p) (c.requires.down p a.0 a.1))
+          counts_risen G a.0 b.0 dev0 dev1 c.in_ok-recover_all.field-0 n _ v.0 (slot_at slots0 p) (slot_at slots1 p) (slot_at slots2 p) (down_there G a.0 dev0 (slot_at slots0 p) (c.requires.down p a.0 a.1))
           (c.rise_each.ensures.risen p v.0 (ap (λ xs. slice_get xs p) saved_are ∙ v.1)) (learns p less) (2 * (c.args.self.now.left - 1))
-          (subst (λ l. HasCountsFor (2 * (l - 1)) (held_in (slot_at slots1 p)).kernel) left_is (has p (subst (λ m. p < m) (sym c.rise_each.ensures.long) less))) ((recovered.1 p b.0 v.0 b.1 v.1).kernel.n_is ∙ own.form_n)),
+          (subst (λ l. HasCountsFor (2 * (l - 1)) (held_in (slot_at slots1 p)).kernel) left_is (has p (subst (λ m. p < m) (sym c.rise_each.ensures.long) less))) ((recovered.each p b.0 v.0 b.1 v.1).read.kernel.n_is ∙ own.form_n)),
     )
 
 pub returns-clause-turned : goal.returns-clause-turned
@@ -229,7 +230,7 @@ returns-clause-turned g c images schedule core told_old told_new now world =
     let told : (q : ℕ) → q < n → G.told c.recover_all.new.dev q = λ q less. told_new.told q (subst (λ m. q < m) (sym long3) less) in
     let risen : (q : ℕ) (v : Saved) → slice_get saved1 q ≡ Some v → IsRisenFrom v (slot_at w0.slots.items q) (slot_at w1.slots.items q) = λ q v at. c.rise_each.ensures.risen q v (ap (λ xs. slice_get xs q) saved_are ∙ at) in
     let ends = recovery_ends G images core old new c.requires.together world c.requires.well.some c.requires.stores c.recover_all.auto.stores long3 c.requires.down c.recover_all.ensures.stands c.recover_all.ensures.steady
-    own told met.some_reading met.some_number met.told_contents schedule now recovered.0 saved1 long recovered.1 recovered.2 w1.slots.items risen c.requires.few.0 c.requires.few.1 c.requires.left in
+    own told met.some_reading met.some_number met.told_contents schedule now c.in_ok-recover_all.field-0 saved1 long recovered.each recovered.decided w1.slots.items risen c.requires.few.0 c.requires.few.1 c.requires.left in
     let learned : w3.acts.items ≡ w2.acts.items = search rules in
     let rose : w1.acts.items ≡ w0.acts.items = search rules in
     let exposed : w1.exposed.items ≡ w0.exposed.items = search rules in
@@ -239,7 +240,7 @@ returns-clause-turned g c images schedule core told_old told_new now world =
     let lines : w3.lines ≡ w0.lines = search rules in
     subst (λ m. IsTurned G images core old new (entry.Turn c.args.turn.now) (marked m None)) (sym c.recovered.ensures)
     (recovery_done G images core old new c.requires.together world c.requires.well.some c.requires.stores c.recover_all.auto.stores long3 c.requires.down c.recover_all.ensures.stands c.recover_all.ensures.steady
-    own told met.some_reading met.some_number met.told_contents schedule now recovered.0 saved1 long recovered.1 recovered.2 w1.slots.items risen c.requires.few.0 c.requires.few.1 c.requires.left
+    own told met.some_reading met.some_number met.told_contents schedule now c.in_ok-recover_all.field-0 saved1 long recovered.each recovered.decided w1.slots.items risen c.requires.few.0 c.requires.few.1 c.requires.left
     (learns_there n w2.slots.items w1.slots.items w3.slots.items cut_slots c.rise_each.ensures.long c.learn_each.ensures.learns) c.args.turn.now c.requires.process (reach_in w1)
     (λ q less. ap (λ xs. max (max (held_in (slot_at w1.slots.items q)).kernel.position (end_in (slot_at w1.slots.items q))) (slice_index xs q)) exposed) acts
     (search rules) (search rules) (search rules) (omega (arith, lines)))

@@ -1,9 +1,9 @@
 use Rattle.std.proofs.Common.{◌≡◌, ◌≢◌, ◌<◌, ◌≤◌, ◌∙◌, Some, rules, arith, length, slice_get, subst, sym, ⊎_elim}
+use Rattle.dc_checkpoint.specs.States.{IsFit}
 use Rattle.std.proofs.lemmas.Bool.{cases_eq}
 use Rattle.std.proofs.lemmas.Option.{slice_get_within}
 use Rattle.dc_kernel.specs.Kernels.{IsKernel}
 use Rattle.dc_twophase.proofs.Pairs.{known}
-use Rattle.dc_twophase.specs.Recoveries.{IsFit}
 use Rattle.dc_world.specs.Joints.{IsRisenFrom}
 use Rattle.dc_world.specs.Opened.{whose}
 use Rattle.dc_world.specs.Slots.{slot_at}

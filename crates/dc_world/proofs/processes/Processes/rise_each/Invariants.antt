@@ -1,6 +1,6 @@
 use Rattle.std.proofs.Common.{◌≡◌, ◌<◌, ◌≤◌, ℕ, Some, length, slice_get}
+use Rattle.dc_checkpoint.specs.States.{IsFit}
 use Rattle.dc_kernel.specs.declared.saved.Saved.{Saved}
-use Rattle.dc_twophase.specs.Recoveries.{IsFit}
 use Rattle.dc_world.specs.Joints.{IsRisenFrom}
 use Rattle.dc_world.specs.Opened.{whose}
 use Rattle.dc_world.specs.Processes.{IsWell}

@@ -1,9 +1,9 @@
 use Rattle.std.proofs.Common.{◌≡◌, ◌∙◌, Some, ap, length, refl, rules, set, subst, sym}
+use Rattle.dc_checkpoint.specs.States.{IsFit}
 use Rattle.std.proofs.lemmas.List.{get_or_default, get_or_read_under, set-set}
 use Rattle.std.proofs.lemmas.Option.{slice_get_read}
 use Rattle.dc_kernel.specs.Kernels.{IsKernel, Kernel}
 use Rattle.dc_twophase.proofs.Pairs.{at_other, at_same, one_only}
-use Rattle.dc_twophase.specs.Recoveries.{IsFit}
 use Rattle.dc_world.proofs.Slots.{put_same, well_put}
 use Rattle.dc_world.specs.Joints.{IsRisenFrom}
 use Rattle.dc_world.specs.Opened.{whose}

@@ -102,7 +102,7 @@ returns-in-Ok-clause-went g c stores at place images schedule core words words1 
     c.args.store.now c.take_in.new.store at u0 u1 there words words1
     told_old (memory_set g.C.Checkpoint stores p c.args.store.now c.take_in.new.store c.take_in.new.dev words1 at told1)
     a given c.requires.next.floor goes
-    refl place c.in-Ok.ensures.call.others t.same.others_same t.quiet
+    refl place c.in-Ok.ensures.call.touches.others t.same.others_same t.quiet
     (keeps_all slots0 c.note_exposed.new.self.slots.items c.tell.new.self.slots.items p u1 c.requires.process slots_note u0 c.commit_of-commit.result commit_is (λ e. ap (λ (w : Processes). w.slots.items) (c.tell.ensures.quiet e)) c.tell.ensures.learns)
     (learns_each slots0 c.note_exposed.new.self.slots.items c.tell.new.self.slots.items p u1 c.requires.process slots_note u0 c.commit_of-commit.result commit_is (λ e. ap (λ (w : Processes). w.slots.items) (c.tell.ensures.quiet e)) c.tell.ensures.learns)
     (λ q less up. inside_each c.args.self.now q p c.requires.well less c.requires.process up)
@@ -182,7 +182,7 @@ returns-in-Err-clause-fell g c stores at place images schedule core words alone 
       stopped.somewhere,
       stopped.may,
       world_stopped g.C.Checkpoint laws images inputs pr alone schedule c.args.self.now.entries core now old new world p inside c.args.store.now c.fall.new.store at u0 there words told_old a given u1.based.items down
-          refl place c.in-Err.ensures.call.others c.fall.ensures.falls.down
+          refl place c.in-Err.ensures.call.touches.others c.fall.ensures.falls.down
           (c.fall.ensures.falls.based_same ∙ ap based_in (still_there slots0 (slice_set slots0 p c.take_in.new.slot) c.fall.new.self.slots.items p u1 c.requires.process put_is))
           (hears_fallen slots0 (slice_set slots0 p c.take_in.new.slot) c.fall.new.self.slots.items p u1 c.requires.process put_is c.fall.ensures.learns)
           (λ q less up. inside_each c.args.self.now q p c.requires.well less c.requires.process up)
@@ -235,7 +235,7 @@ returns-in-Err-clause-handled g c =
     let put_is : slice_set slots0 p c.take_in.new.slot ≡ slice_set slots0 p (Some (Up u1)) = ap (slice_set slots0 p) t.there in
     let still : slot_at (slice_set slots0 p c.take_in.new.slot) p ≡ Some (Up u1) = still_there slots0 (slice_set slots0 p c.take_in.new.slot) c.fall.new.self.slots.items p u1 c.requires.process put_is in
     handled_down g.C.Checkpoint (c.args.self.now.left - 1) c.take_in.new.store c.fall.new.store c.take_in.new.dev (slot_at (slice_set slots0 p c.take_in.new.slot) p) (slot_at c.fall.new.self.slots.items p) c.fall.ensures.falls (subst IsSome (sym still) refl) c.fall.ensures.store
-    c.in-Err.ensures.call.lent_still (ap size_in still ∙ t.same.size_same ∙ c.requires.next.fit.sized ∙ ap (λ n. 4 * n) (sym c.in-Err.ensures.call.same.size_same))
+    c.in-Err.ensures.call.touches.lent (ap size_in still ∙ t.same.size_same ∙ c.requires.next.fit.sized ∙ ap (λ n. 4 * n) (sym c.in-Err.ensures.call.touches.same.size_same))
 
 pub returns-in-Ok-clause-handled : goal.returns-in-Ok-clause-handled
 returns-in-Ok-clause-handled g c =
@@ -255,14 +255,14 @@ returns-in-Ok-clause-handled g c =
     let one_more : (c.args.self.now.left - 1) + 1 ≡ c.args.self.now.left = omega (arith, c.requires.left) in
     let fit : IsHandled g.C.Checkpoint (c.args.self.now.left - 1) c.take_in.new.store c.take_in.new.dev (Some (Up u1)) = (
       record {
-        lent = c.in-Ok.ensures.call.lent_still;
+        lent = c.in-Ok.ensures.call.touches.lent;
         ready = c.in-Ok.ensures.ready;
-        sized = t.same.size_same ∙ c.requires.next.fit.sized ∙ ap (λ n. 4 * n) (sym c.in-Ok.ensures.call.same.size_same);
+        sized = t.same.size_same ∙ c.requires.next.fit.sized ∙ ap (λ n. 4 * n) (sym c.in-Ok.ensures.call.touches.same.size_same);
         paired = t.paired;
         whole = t.whole;
       },
       t.counts (c.args.self.now.left - 1) (subst (λ n. HasCountsFor n u0.kernel) (sym one_more) c.requires.next.counts),
-      (let a = c.in-Ok.ensures.call.floor_less in let b = c.requires.next.floor in omega (arith, a, b)),
+      (let a = c.in-Ok.ensures.call.floor in let b = c.requires.next.floor in omega (arith, a, b)),
     ) in
     handled_told slots0 c.note_exposed.new.self.slots.items c.tell.new.self.slots.items p u1 c.requires.process slots_note u0 c.commit_of-commit.result commit_is (λ e. ap (λ (w : Processes). w.slots.items) (c.tell.ensures.quiet e)) c.tell.ensures.learns
     g.C.Checkpoint (c.args.self.now.left - 1) c.take_in.new.store c.take_in.new.dev (subst (λ m. p < m) (sym (t.whole.links_long ∙ n_is)) c.requires.process)

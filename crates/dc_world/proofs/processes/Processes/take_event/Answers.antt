@@ -1,8 +1,8 @@
+use Rattle.dc_checkpoint.specs.Handles.{IsSame, same_start, same_then}
 use Rattle.std.proofs.Common.{◌≡◌, ◌≢◌, ◌∙◌, ◌<◌, ◌≤◌, ◌+◌, ◌-◌, ◌*◌, ◌^◌, ◌&&◌, ℕ, List, true, Option, None, Some, IfSome, IsSomeAnd, get_or, if◌then◌else◌, is_some, nat_lt, ap, arith, length, refl, slice_get, slice_index, slice_set, subst, sym, ⊎_elim}
 use Rattle.std.proofs.lemmas.Bool.{cases_eq}
 use Rattle.std.proofs.lemmas.List.{length-set}
 use Rattle.std.proofs.lemmas.Option.{slice_get-get_or, slice_get_within}
-use Rattle.dc_checkpoint.specs.Calls.{IsSameStore}
 use Rattle.dc_acts.specs.Counted.{acts_of}
 use Rattle.dc_checkpoint.specs.declared.checkpoint.Checkpoint as checkpoint
 use Rattle.dc_checkpoint.specs.States.{Reading}
@@ -32,7 +32,6 @@ use Rattle.dc_twophase.proofs.Calling.{One, call_at, call_each, pair_at}
 use Rattle.dc_twophase.proofs.Counting.{joint_ok, joint_refused}
 use Rattle.dc_twophase.proofs.Laws.{Laws}
 use Rattle.dc_twophase.proofs.Pairs.{at_other, at_same, before_it, known, one_only, pair_then}
-use Rattle.dc_twophase.proofs.Preparing.{same_then}
 use Rattle.dc_world.proofs.Allowing.{may_there}
 use Rattle.dc_world.proofs.Acts.{acts_turned}
 use Rattle.dc_world.proofs.Beside.{and_some, leaves_narrow, numbers_stay, some_and, some_there, steady_stays}
@@ -114,8 +113,8 @@ returns-in-Ok-clause-stores g c =
     let dev1 = c.take_in.new.dev in
     let stood : slice_get stores0 p ≡ Some store0 = slice_get-get_or stores0 p c.index-stores-p.result (subst (λ m. p < m) (sym c.requires.stores) c.requires.process) in
     let one : One _ _ = record { stores = stores0; k = p; before = store0; after = store1; old = dev0; new = dev1 } in
-    call_each G (IsSameStore G.place G.size G.form) (slice_get_within stores0 p store0 stood) (own_apart G (length slots0) stores0 c.requires.own) (call_at one G stood c.in-Ok.ensures.call.others c.in-Ok.ensures.call.continues)
-    (λ b still. record { place_same = refl; size_same = refl; form_same = refl }) (pair_at one (IsSameStore G.place G.size G.form) stood c.in-Ok.ensures.call.same)
+    call_each G (IsSame G) (slice_get_within stores0 p store0 stood) (own_apart G (length slots0) stores0 c.requires.own) (call_at one G stood c.in-Ok.ensures.call.touches.others c.in-Ok.ensures.call.touches.continues)
+    (λ b still. same_start b) (pair_at one (IsSame G) stood c.in-Ok.ensures.call.touches.same)
 
 pub returns-in-Ok-clause-others : goal.returns-in-Ok-clause-others
 returns-in-Ok-clause-others g c q none =
@@ -123,7 +122,7 @@ returns-in-Ok-clause-others g c q none =
     let stores0 = c.args.stores.now in
     let store0 = get_or stores0 p c.index-stores-p.result in
     let stood : slice_get stores0 p ≡ Some store0 = slice_get-get_or stores0 p c.index-stores-p.result (subst (λ m. p < m) (sym c.requires.stores) c.requires.process) in
-    c.in-Ok.ensures.call.others q (none p store0 stood)
+    c.in-Ok.ensures.call.touches.others q (none p store0 stood)
 
 pub returns-in-Ok-clause-joint : goal.returns-in-Ok-clause-joint
 returns-in-Ok-clause-joint g c =
@@ -135,7 +134,7 @@ returns-in-Ok-clause-joint g c =
     let store1 = c.take_in.new.store in
     let dev1 = c.take_in.new.dev in
     let one : One _ _ = record { stores = stores0; k = p; before = store0; after = store1; old = dev0; new = dev1 } in
-    joint_ok G (record { told_still = g.met.C.Checkpoint.told_still; counts_same = g.met.C.Checkpoint.counts_same }) one c.in-Ok.done c.in-Ok.done c.in-Ok.ensures.call.others c.in-Ok.ensures.call.counts
+    joint_ok G (record { told_still = g.met.C.Checkpoint.told_still; counts_same = g.met.C.Checkpoint.counts_same }) one c.in-Ok.done c.in-Ok.done c.in-Ok.ensures.call.touches.others c.in-Ok.ensures.call.touches.counts
 
 pub returns-in-Err-clause-others : goal.returns-in-Err-clause-others
 returns-in-Err-clause-others g c q none =
@@ -143,7 +142,7 @@ returns-in-Err-clause-others g c q none =
     let stores0 = c.args.stores.now in
     let store0 = get_or stores0 p c.index-stores-p.result in
     let stood : slice_get stores0 p ≡ Some store0 = slice_get-get_or stores0 p c.index-stores-p.result (subst (λ m. p < m) (sym c.requires.stores) c.requires.process) in
-    c.in-Err.ensures.call.others q (none p store0 stood)
+    c.in-Err.ensures.call.touches.others q (none p store0 stood)
 
 pub returns-in-Err-clause-joint : goal.returns-in-Err-clause-joint
 returns-in-Err-clause-joint g c =
@@ -156,7 +155,7 @@ returns-in-Err-clause-joint g c =
     let dev1 = c.take_in.new.dev in
     let stood : slice_get stores0 p ≡ Some store0 = slice_get-get_or stores0 p c.index-stores-p.result (subst (λ m. p < m) (sym c.requires.stores) c.requires.process) in
     let one : One _ _ = record { stores = stores0; k = p; before = store0; after = store1; old = dev0; new = dev1 } in
-    rw c.joint_fault.ensures (joint_refused G (record { told_still = g.met.C.Checkpoint.told_still; counts_same = g.met.C.Checkpoint.counts_same }) one c.in-Err.fault stood c.in-Err.ensures.call.others c.in-Err.ensures.call.counts)
+    rw c.joint_fault.ensures (joint_refused G (record { told_still = g.met.C.Checkpoint.told_still; counts_same = g.met.C.Checkpoint.counts_same }) one c.in-Err.fault stood c.in-Err.ensures.call.touches.others c.in-Err.ensures.call.touches.counts)
 
 pub returns-in-Err-clause-stores : goal.returns-in-Err-clause-stores
 returns-in-Err-clause-stores g c =
@@ -172,8 +171,8 @@ returns-in-Err-clause-stores g c =
     let one : One _ _ = record { stores = stores0; k = p; before = store0; after = store1; old = dev0; new = dev1 } in
     let set_long : length (slice_set stores0 p store1) ≡ length stores0 = length-set stores0 p store1 in
     pair_then stores0 (slice_set stores0 p store1) c.power.new.stores set_long (λ i b y z was now. same_then was now.same)
-    (call_each G (IsSameStore G.place G.size G.form) (slice_get_within stores0 p store0 stood) (own_apart G (length slots0) stores0 c.requires.own) (call_at one G stood c.in-Err.ensures.call.others c.in-Err.ensures.call.continues)
-    (λ b still. record { place_same = refl; size_same = refl; form_same = refl }) (pair_at one (IsSameStore G.place G.size G.form) stood c.in-Err.ensures.call.same)) c.power.ensures.stores
+    (call_each G (IsSame G) (slice_get_within stores0 p store0 stood) (own_apart G (length slots0) stores0 c.requires.own) (call_at one G stood c.in-Err.ensures.call.touches.others c.in-Err.ensures.call.touches.continues)
+    (λ b still. same_start b) (pair_at one (IsSame G) stood c.in-Err.ensures.call.touches.same)) c.power.ensures.stores
 
 pub returns-in-Ok-clause-shown : goal.returns-in-Ok-clause-shown
 returns-in-Ok-clause-shown g c b at =
@@ -226,15 +225,15 @@ returns-in-Ok-clause-fit g c q x at =
     (λ (same : p ≡ q). let is : x ≡ store1 = at_same stores0 p store1 x (subst (λ y. slice_get (slice_set stores0 p store1) y ≡ Some x) (sym same) at) in
     subst (λ z. IsFitAt G z dev1 (slot_at c.note_exposed.new.self.slots.items q)) (sym is) (subst (λ y. IsFitAt G store1 dev1 (slot_at c.note_exposed.new.self.slots.items y)) same
     (fit_at G store1 dev1 (slot_at c.note_exposed.new.self.slots.items p) u1 (slot_new p ∙ put_same slots0 p (Some (Up u1)) c.requires.process) (record {
-      lent = c.in-Ok.ensures.call.lent_still;
+      lent = c.in-Ok.ensures.call.touches.lent;
       ready = c.in-Ok.ensures.ready;
-      sized = t.same.size_same ∙ may.may.fit.sized ∙ ap (λ n. 4 * n) (sym c.in-Ok.ensures.call.same.size_same);
+      sized = t.same.size_same ∙ may.may.fit.sized ∙ ap (λ n. 4 * n) (sym c.in-Ok.ensures.call.touches.same.size_same);
       paired = t.paired;
       whole = t.whole;
     }))))
     (λ (ne : p ≢ q). let there : slice_get stores0 q ≡ Some x = sym (at_other stores0 p q store1 (λ e. ne (sym e))) ∙ at in
     subst (IsFitAt G x dev1) (sym (slot_new q ∙ put_other slots0 p q (Some (Up u1)) (λ e. ne (sym e))))
-    (fit_still G laws x dev0 dev1 (slot_at slots0 q) (c.in-Ok.ensures.call.others (G.place x) (λ e. ne (sym (c.requires.own p store0 stood).place_is ∙ sym e ∙ (c.requires.own q x there).place_is))) (c.requires.fit q x there)))
+    (fit_still G laws x dev0 dev1 (slot_at slots0 q) (c.in-Ok.ensures.call.touches.others (G.place x) (λ e. ne (sym (c.requires.own p store0 stood).place_is ∙ sym e ∙ (c.requires.own q x there).place_is))) (c.requires.fit q x there)))
     (cases_eq p q)
 
 pub returns-in-Ok-clause-counts : goal.returns-in-Ok-clause-counts
@@ -295,13 +294,13 @@ returns-in-Err-clause-down g c q x at =
     ⊎_elim
     (λ (same : p ≡ q). let is : b.0 ≡ store1 = at_same stores0 p store1 b.0 (subst (λ y. slice_get stores1 y ≡ Some b.0) (sym same) b.1) in
     let slot_is : slot_at slots1 q ≡ Some (Up u1) = ap (slot_at slots1) (sym same) ∙ slot_put p ∙ put_same slots0 p (Some (Up u1)) c.requires.process in
-    down_at G b.0 x dev1 (slot_at slots1 q) (slot_at c.power.new.self.slots.items q) fell (up_there (slot_at slots1 q) (ap is_up slot_is)) store_fell (subst (λ z. G.lent z dev1) (sym is) c.in-Err.ensures.call.lent_still)
-    (ap size_in slot_is ∙ t.same.size_same ∙ may.may.fit.sized ∙ ap (λ n. 4 * n) (sym c.in-Err.ensures.call.same.size_same) ∙ ap (λ z. 4 * G.size z) (sym is)))
+    down_at G b.0 x dev1 (slot_at slots1 q) (slot_at c.power.new.self.slots.items q) fell (up_there (slot_at slots1 q) (ap is_up slot_is)) store_fell (subst (λ z. G.lent z dev1) (sym is) c.in-Err.ensures.call.touches.lent)
+    (ap size_in slot_is ∙ t.same.size_same ∙ may.may.fit.sized ∙ ap (λ n. 4 * n) (sym c.in-Err.ensures.call.touches.same.size_same) ∙ ap (λ z. 4 * G.size z) (sym is)))
     (λ (ne : p ≢ q). let there : slice_get stores0 q ≡ Some b.0 = sym (at_other stores0 p q store1 (λ e. ne (sym e))) ∙ b.1 in
     let f = fit_there G b.0 dev0 (slot_at slots0 q) (c.requires.fit q b.0 there) in
     let slot_is : slot_at slots1 q ≡ Some (Up f.up) = slot_put q ∙ put_other slots0 p q (Some (Up u1)) (λ e. ne (sym e)) ∙ f.there in
     down_at G b.0 x dev1 (slot_at slots1 q) (slot_at c.power.new.self.slots.items q) fell (up_there (slot_at slots1 q) (ap is_up slot_is)) store_fell
-    (met.lent_still b.0 dev0 dev1 (c.in-Err.ensures.call.others (G.place b.0) (λ e. ne (sym (c.requires.own p store0 stood).place_is ∙ sym e ∙ (c.requires.own q b.0 there).place_is))) f.fit.lent)
+    (met.lent_still b.0 dev0 dev1 (c.in-Err.ensures.call.touches.others (G.place b.0) (λ e. ne (sym (c.requires.own p store0 stood).place_is ∙ sym e ∙ (c.requires.own q b.0 there).place_is))) f.fit.lent)
     (ap size_in slot_is ∙ f.fit.sized))
     (cases_eq p q)
 
@@ -353,7 +352,7 @@ returns-in-Ok-clause-happens g c images core together told go inside given world
     let place_own : (q : ℕ) (x : _) → slice_get stores0 q ≡ Some x → G.place x ≡ q = λ q x is. (c.requires.own q x is).place_is in
     let among : p ≡ 0 → (n : ℕ) → G.numbers store1 dev1 n → G.numbers store0 dev0 n = λ same. (t.steady glob (some_and (λ z. G.steady z dev0) (store_of old 0) store0 (subst (λ y. store_of old y ≡ Some store0) same stood) (world.decided together).steady)).1 in
     let new = stage_of (slice_set stores0 p store1) dev1 c.note_exposed.new.self in
-    let call = c.in-Ok.ensures.call in
+    let call = c.in-Ok.ensures.call.touches in
     let stops : G.stops dev0 (G.place store0) < 2 ^ 64 - 1 = subst (λ q. G.stops dev0 q < 2 ^ 64 - 1) (sym place) (told.stops p c.requires.process) in
     let faults : G.faults dev0 (G.place store0) < 2 ^ 64 - 1 = subst (λ q. G.faults dev0 q < 2 ^ 64 - 1) (sym place) (told.faults p c.requires.process) in
     let device : G.told dev1 (G.place store1) = subst (G.told dev1) (sym call.same.place_same) (call.counts.tells (let e = call.counts.calm.0 in omega (arith, e, stops)) (let e = call.counts.calm.1 in omega (arith, e, faults))
@@ -375,7 +374,7 @@ returns-in-Ok-clause-happens g c images core together told go inside given world
     (ap (λ ys. length ys) slots_note ∙ length-set slots0 p (Some (Up u1))) (ap (λ (w : Processes). w.protocol) c.note_exposed.ensures.rest) (ap (λ (w : Processes). lists_of w.inputs.items) c.note_exposed.ensures.rest)
     (acts_new ∙ acts_is) (is_some c.in-Ok.done)
     (λ _. exposes_shown images inputs pr p (own p core.acts) (core.procs p) words.0 u0 of.0 here may.may.runs a (called_by (next_of (over u0.guest words.0))) c.in-Ok.done refl showed together)
-    c.requires.well.exposed_long exposed_as (ap (λ (w : Processes). w.lines) c.note_exposed.ensures.rest) (t.uncommitted glob) call.floor_less
+    c.requires.well.exposed_long exposed_as (ap (λ (w : Processes). w.lines) c.note_exposed.ensures.rest) (t.uncommitted glob) c.in-Ok.ensures.call.floor
     (steady_stays G laws old new p store0 store1 refl place_own stood call.others (λ is. (t.steady glob is).0) (world.decided together).steady)
 
 pub returns-in-Err-clause-broken : goal.returns-in-Err-clause-broken
@@ -424,7 +423,7 @@ returns-in-Err-clause-broken g c have images core together told go inside given 
     let here : IsAt (system images inputs pr) p (own p core.acts) (core.procs p) words.0 (held u0) = here_going G (system images inputs pr) core old go world p inside store0 stood u0 may.there words.0 words.1 in
     let place_own : (q : ℕ) (x : _) → slice_get stores0 q ≡ Some x → G.place x ≡ q = λ q x is. (c.requires.own q x is).place_is in
     let among : p ≡ 0 → (n : ℕ) → G.numbers store1 dev1 n → G.numbers store0 dev0 n = λ same. (t.steady glob (some_and (λ z. G.steady z dev0) (store_of old 0) store0 (subst (λ y. store_of old y ≡ Some store0) same stood) (world.decided together).steady)).1 in
-    let call = c.in-Err.ensures.call in
+    let call = c.in-Err.ensures.call.touches in
     let S = system images inputs pr in
     let stores1 = slice_set stores0 p store1 in
     let mid = stage_of stores1 dev1 c.args.self.now in

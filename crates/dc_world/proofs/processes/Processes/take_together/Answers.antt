@@ -10,7 +10,7 @@ use Rattle.dc_proc.specs.Turns.{shown_of}
 use Rattle.dc_recovery.specs.Parts.Place.{InAfter, InBefore, InEvent}
 use Rattle.dc_twophase.proofs.Counting.{calm_then, joint_then}
 use Rattle.dc_twophase.proofs.Pairs.{known, pair_then}
-use Rattle.dc_twophase.proofs.Preparing.{same_then}
+use Rattle.dc_checkpoint.specs.Handles.{same_then}
 use Rattle.dc_twophase.specs.Stores.{on}
 use Rattle.dc_world.proofs.Alike.{makes_alike, shows_alike}
 use Rattle.dc_world.proofs.Allowing.{may_turn}

@@ -1,7 +1,7 @@
+use Rattle.dc_checkpoint.specs.Handles.{IsSame, same_start}
 use Rattle.std.proofs.Common.{◌≡◌, ◌<◌, ◌+◌, ◌-◌, ◌*◌, ◌∙◌, ℕ, List, true, Some, IfSome, ap, arith, get_or, inl, length, refl, slice_get, subst, sym}
 use Rattle.std.proofs.lemmas.Option.{slice_get-get_or}
 use Rattle.std.proofs.lemmas.Result.{IfOk-weaker, on_err_weaker}
-use Rattle.dc_checkpoint.specs.Calls.{IsSameStore}
 use Rattle.dc_guest.specs.Answers.{answer_of}
 use Rattle.dc_guest.specs.Guest.{event_of, machine_over, next_of, over}
 use Rattle.dc_model.specs.Runs.{own}
@@ -148,7 +148,7 @@ returns-in-Err-clause-turned g c images schedule core told_old told_new now worl
     (answered_idle G g.met.C.Checkpoint.told_contents images schedule core old new told_old now world c.args.turn.now c.requires.process store at place u there fit c.in-Err.idle c.in-Err.ensures.idle same (omega arith))
 
 pub returns-in-Err-clause-stores : goal.returns-in-Err-clause-stores
-returns-in-Err-clause-stores g c i b x at now = subst (λ z. IsSameStore g.C.Checkpoint.place g.C.Checkpoint.size g.C.Checkpoint.form b z) (sym (one_only c.args.stores.now i b x at now)) (record { place_same = refl; size_same = refl; form_same = refl })
+returns-in-Err-clause-stores g c i b x at now = subst (λ z. IsSame g.C.Checkpoint b z) (sym (one_only c.args.stores.now i b x at now)) (same_start b)
 
 pub returns-in-Err-clause-joint : goal.returns-in-Err-clause-joint
 returns-in-Err-clause-joint g c = joint_calm g.C.Checkpoint c.args.stores.now c.args.dev.now c.args.dev.now (mark.Idle c.in-Err.idle) (calm_start g.C.Checkpoint c.args.dev.now)

@@ -3,6 +3,7 @@ use Rattle.std.proofs.lemmas.Bool.{cases_eq}
 use Rattle.std.proofs.lemmas.Option.{slice_get_read}
 use Rattle.std.proofs.lemmas.Result.{IfOk-weaker, on_err_weaker}
 use Rattle.dc_checkpoint.specs.Calls.{IsCounted}
+use Rattle.dc_checkpoint.specs.Handles.{showing_of}
 use Rattle.dc_twophase.proofs.Laws.{Laws}
 use Rattle.dc_world.proofs.Waiting.{ready_next}
 use Rattle.dc_world.specs.Stages.{KeepsTelling}
@@ -37,7 +38,7 @@ returns-clause-counts g c =
     let p = c.args.turn.now.p in
     let inside : p < length c.args.self.now.stores.items = subst (λ m. p < m) (sym c.requires.ready.stores_long) c.requires.process in
     let at : slice_get c.args.self.now.stores.items p ≡ Some c.index_mut-store.result.now = slice_get_read c.args.self.now.stores.items (length c.args.self.now.stores.items) p c.index_mut-store.result.now refl inside c.index_mut-store.ensures.value in
-    subst (λ q. IsCounted g.C.Checkpoint.told g.C.Checkpoint.stops g.C.Checkpoint.faults q c.args.dev.now c.turn.new.dev c.turn.result) (c.requires.ready.own p c.index_mut-store.result.now at).place_is c.turn.ensures.counts
+    subst (λ q. IsCounted (showing_of g.C.Checkpoint).on q c.args.dev.now c.turn.new.dev c.turn.result) (c.requires.ready.own p c.index_mut-store.result.now at).place_is c.turn.ensures.call.counts
 
 pub returns-clause-others : goal.returns-clause-others
 returns-clause-others g c q ne =
@@ -77,7 +78,7 @@ returns-clause-tells g c q =
     let at : slice_get c.args.self.now.stores.items p ≡ Some c.index_mut-store.result.now = slice_get_read c.args.self.now.stores.items (length c.args.self.now.stores.items) p c.index_mut-store.result.now refl inside c.index_mut-store.ensures.value in
     let place_is = (c.requires.ready.own p c.index_mut-store.result.now at).place_is in
     ⊎_elim
-    (λ (here : p ≡ q). subst (KeepsTelling g.C.Checkpoint c.args.dev.now c.turn.new.dev) (place_is ∙ here) c.turn.ensures.counts.tells)
+    (λ (here : p ≡ q). subst (KeepsTelling g.C.Checkpoint c.args.dev.now c.turn.new.dev) (place_is ∙ here) c.turn.ensures.call.counts.tells)
     (λ (ne : p ≢ q). λ stops faults told. g.met.C.Checkpoint.told_still c.args.dev.now c.turn.new.dev q (c.turn.ensures.call.others q (λ e. ne (sym (e ∙ place_is)))) told)
     (cases_eq p q)
 
@@ -89,6 +90,6 @@ returns-clause-later g c q =
     let place_is = (c.requires.ready.own p c.index_mut-store.result.now at).place_is in
     ⊎_elim
     (λ (here : p ≡ q). subst (λ r. (g.C.Checkpoint.stops c.args.dev.now r ≤ g.C.Checkpoint.stops c.turn.new.dev r) × (g.C.Checkpoint.faults c.args.dev.now r ≤ g.C.Checkpoint.faults c.turn.new.dev r)) (place_is ∙ here)
-    (c.turn.ensures.counts.stops_later, c.turn.ensures.counts.faults_later))
+    (c.turn.ensures.call.counts.stops_later, c.turn.ensures.call.counts.faults_later))
     (λ (ne : p ≢ q). let same = g.met.C.Checkpoint.counts_same c.args.dev.now c.turn.new.dev q (c.turn.ensures.call.others q (λ e. ne (sym (e ∙ place_is)))) in (omega (arith, same.0), omega (arith, same.1)))
     (cases_eq p q)

@@ -1,5 +1,5 @@
 use Rattle.std.proofs.Common.{◌≡◌, ◌++◌, ◌∙◌, ap, drop, length, rules, subst, sym, take}
-use Rattle.dc_checkpoint.specs.Calls.{IsSameStore}
+use Rattle.dc_checkpoint.specs.Handles.{IsSame}
 use Rattle.dc_twophase.specs.Stores.{EachPair, IsNoPlace}
 use Rattle.dc_world.proofs.Felling.{all_written}
 use Rattle.dc_world.proofs.Partaking.{no_place}
@@ -18,7 +18,7 @@ returns-clause-ready g c =
     let all : stores1 ≡ new = all_written c.args.self.now.stores.len stores new (search rules) as_many in
     subst (λ xs. IsReady g.C.Checkpoint xs c.turn_together.new.dev (counted c.turn_together.new.self)) (sym all)
     (ready_together g.C.Checkpoint stores new c.args.dev.now c.turn_together.new.dev c.args.self.now.processes c.turn_together.new.self c.requires.together c.requires.ready as_many
-    (subst (λ xs. EachPair xs new (λ i. IsSameStore g.C.Checkpoint.place g.C.Checkpoint.size g.C.Checkpoint.form)) c.deref_mut.ensures.value c.turn_together.ensures.stores)
+    (subst (λ xs. EachPair xs new (λ i. IsSame g.C.Checkpoint)) c.deref_mut.ensures.value c.turn_together.ensures.stores)
     c.turn_together.ensures.well c.turn_together.ensures.rest c.turn_together.ensures.long c.turn_together.ensures.ready c.turn_together.ensures.room c.turn_together.ensures.acts_room c.turn_together.ensures.grown c.requires.left)
 
 pub returns-clause-others : goal.returns-clause-others

@@ -1,9 +1,7 @@
-ghost use Rattle.std.specs.Prelude.{◌≡◌, ◌⊎◌, Err, IfOk, None, Some, codes, option_map};
+ghost use Rattle.std.specs.Prelude.{◌≡◌, Err, IfOk, None, Some, codes, option_map};
 ghost use Rattle.clap.specs.Words.{app_of, first_of, found_of, new_app, rows_of, subcommand_rows_of, with_subcommand};
-ghost use Rattle.dc_run.specs.Command.{asked_of, asked_view, check_command, command_line, met, met_by, names_by, with_word};
-ghost use Rattle.dc_run.specs.declared.verdict.Verdict.{Verdict as Verdicts};
+ghost use Rattle.dc_command.specs.Command.{asked_of, asked_view, check_command, command_line, met, met_by, names_by, with_word};
 
-use crate::Verdict;
 use clap::error::ErrorKind;
 use clap::{Arg, ArgMatches, Command};
 use std::alloc::{AllocError, Global};
@@ -24,6 +22,15 @@ pub enum Asked<'a> {
     Check(Names<'a>),
     /// To assemble that source.
     Assemble(&'a str),
+}
+
+/// Why words are no command's.
+#[derive(Clone, Copy, Debug, PartialEq, Eq)]
+pub enum CommandFault {
+    /// They are not those of a command; asking for help is none.
+    Usage,
+    /// There was no memory to read them.
+    Memory,
 }
 
 /// Adds a command with the one word that it needs.
@@ -102,23 +109,22 @@ fn met<'a>(matches: &ArgMatches<'a>) -> Option<Asked<'a>>
 }
 
 /// What the words ask for; the first word is the program's name.
-pub fn command_in<'a>(alloc: Global, words: &'a [String]) -> Result<Asked<'a>, Verdict>
+pub fn command_in<'a>(alloc: Global, words: &'a [String]) -> Result<Asked<'a>, CommandFault>
     ensures asked { IfOk result (λ asked. asked_of words.entry.now ≡ Some (asked_view asked)) }
-    ensures usage { result ≡ Err Verdict.Usage → asked_of words.entry.now ≡ None }
-    ensures faults { (fault : Verdicts) → result ≡ Err fault → (fault ≡ Verdict.Usage) ⊎ (fault ≡ Verdict.WantOfMemory) }
+    ensures usage { result ≡ Err CommandFault.Usage → asked_of words.entry.now ≡ None }
 {
     let Ok(command) = command(alloc) else {
-        return Err(Verdict::WantOfMemory);
+        return Err(CommandFault::Memory);
     };
     let matches = match command.try_get_matches_from(words) {
         Ok(matches) => matches,
         Err(error) => match error.kind() {
-            ErrorKind::OutOfMemory => return Err(Verdict::WantOfMemory),
-            _ => return Err(Verdict::Usage),
+            ErrorKind::OutOfMemory => return Err(CommandFault::Memory),
+            _ => return Err(CommandFault::Usage),
         },
     };
     match met(&matches) {
         Some(asked) => Ok(asked),
-        None => Err(Verdict::Usage),
+        None => Err(CommandFault::Usage),
     }
 }

@@ -3,9 +3,9 @@ use Rattle.std.specs.Prelude.{ℕ, List, true, codes, map, Option, None, Some, S
 use Rattle.std.specs.declared.alloc.Global.{Global}
 use Rattle.clap.specs.Words.{App, Row, Rule, new_app, new_rule, with_rule, with_subcommand, fault_of, first_of, subcommand_of}
 use Rattle.clap.specs.Walk.{is_empty}
-use Rattle.dc_run.specs.declared.command.Asked.{Asked as asked'}
-use Rattle.dc_run.specs.declared.command.Asked.TheVariants as word
-use Rattle.dc_run.specs.declared.command.Names.{Names as names'}
+use Rattle.dc_command.specs.declared.command.Asked.{Asked as asked'}
+use Rattle.dc_command.specs.declared.command.Asked.TheVariants as word
+use Rattle.dc_command.specs.declared.command.Names.{Names as names'}
 
 -- the names of a plan, of a report and of an output
 pub record Names : Type 0 where
