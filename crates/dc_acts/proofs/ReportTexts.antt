@@ -3,6 +3,7 @@ use Rattle.std.proofs.Common.{◌≡◌, ◌∙◌, ◌+◌, ◌==◌, ◌<◌, 
 use Rattle.std.specs.Str.{bytes_eq}
 use Rattle.std.specs.List.{flat_map}
 use Rattle.std.proofs.lemmas.Bool.{cases_Bool}
+use Rattle.dc_limits.specs.declared.bounds.TheConstants.{ENTRIES}
 use Rattle.dc_model.specs.declared.act.Taken.{Taken}
 use Rattle.dc_words.specs.Texts.{fields_of, in_front, joined}
 use Rattle.dc_words.proofs.Joining.{fields_joined, fields_then}
@@ -62,7 +63,7 @@ module _ (n number next : ℕ) (acts : List Taken) (rest line after : List ℕ) 
 
 -- the act of a line is one of a process, at a turn from `next` on
 pub line_fits : (n next : ℕ) (acts : List Taken) (line : List ℕ) (x : Taken) → n ≤ 8 → length acts ≤ 1000000 → Ok (ActLine x) ≡ line_by n next acts (fields_of 32 line)
-    → (x.p < 8) × (next ≤ x.t) × (x.t ≤ 999999)
+    → (x.p < 8) × (next ≤ x.t) × (x.t < ENTRIES)
 line_fits n next acts line x few count e = let is = line_is_read n next acts line (ActLine x) few count (sym e) in (omega (arith, is.process, few), is.from, is.to)
 
 -- the first line

@@ -1,5 +1,6 @@
 -- The parts of a report's lines, as they are read one after the other.
-use Rattle.std.specs.Prelude.{ℕ, ◌&&◌, ◌==◌, List, [], ◌∷◌, Option, Some, None, Result, Ok, Err, if◌then◌else◌, nat_le, nat_lt}
+use Rattle.std.specs.Prelude.{ℕ, ◌+◌, ◌&&◌, ◌==◌, List, [], ◌∷◌, Option, Some, None, Result, Ok, Err, if◌then◌else◌, nat_le, nat_lt}
+use Rattle.dc_limits.specs.declared.bounds.TheConstants.{ENTRIES}
 use Rattle.dc_model.specs.declared.act.Act.{Act}
 use Rattle.dc_model.specs.declared.act.Act.TheVariants.{ReceiveFrom}
 use Rattle.dc_model.specs.declared.act.Taken.{Taken}
@@ -39,7 +40,7 @@ at_place next t (Some p) (Some act) = at_turn next t p act
 
 -- the act of a line by its parts: each is looked at before any of them is weighed
 abbrev pub weighed : ℕ → ℕ → List ℕ → List ℕ → Result Act ReportKind → Result Taken ReportKind
-weighed n next t p told = below 1000000 t >>= (λ turn. below n p >>= (λ process. sent_by n told >>= (λ act. at_place next turn process act)))
+weighed n next t p told = below ENTRIES t >>= (λ turn. below n p >>= (λ process. sent_by n told >>= (λ act. at_place next turn process act)))
 
 -- the act of the fields behind its line's name
 abbrev pub act_fields : ℕ → ℕ → List (List ℕ) → Result Taken ReportKind
@@ -70,7 +71,7 @@ tallied status acts None count lines = Err Count
 -- the last line by its fields: each is looked at before any of them is weighed
 abbrev pub summed : ℕ → List ℕ → List ℕ → List ℕ → List ℕ → Result Closing ReportKind
 summed acts status entries count lines = status_of status
-    >>= (λ s. below 1000001 entries >>= (λ e. below 1000001 count >>= (λ c. below 1000001 lines >>= (λ l. tallied s acts e c l))))
+    >>= (λ s. below (ENTRIES + 1) entries >>= (λ e. below (ENTRIES + 1) count >>= (λ c. below (ENTRIES + 1) lines >>= (λ l. tallied s acts e c l))))
 
 -- the report that a last line closes, or its fault
 abbrev pub closes : List Taken → Result Closing ReportKind → Result Report ReportKind

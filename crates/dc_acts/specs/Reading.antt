@@ -1,5 +1,6 @@
 -- The report of a text, or its first faulty line.
 use Rattle.std.specs.Prelude.{◌≡◌, ◌<◌, ◌≤◌, ℕ, suc, ◌^◌, ◌==◌, ◌&&◌, ◌||◌, Bool, true, List, [], ◌∷◌, ◌++◌, Result, Ok, Err, codes, bytes_eq, if◌then◌else◌, length, nat_le, nat_lt}
+use Rattle.dc_limits.specs.declared.bounds.TheConstants.{ENTRIES}
 use Rattle.dc_model.specs.declared.act.Act.{Act}
 use Rattle.dc_model.specs.declared.act.Act.TheVariants.{Plain, Clock, Random, InputNone, InputNext, InputEnd, ReceiveNone, ReceiveFrom}
 use Rattle.dc_model.specs.declared.act.Taken.{Taken}
@@ -69,7 +70,7 @@ has_sender n _ = true
 -- an act among n processes, at a turn from `next` on: else the first of the two faults
 abbrev pub placed : ℕ → ℕ → Taken → Result Taken ReportKind
 placed n next x = if nat_lt x.p n && has_sender n x.act
-    then (if nat_le next x.t && nat_le x.t 999999 then Ok x else Err Turn) else Err Process
+    then (if nat_le next x.t && nat_lt x.t ENTRIES then Ok x else Err Turn) else Err Process
 
 -- the act of a line: its turn, its process and what it was told
 abbrev pub taken_by : ℕ → ℕ → List ℕ → List ℕ → List (List ℕ) → Result Taken ReportKind
@@ -80,7 +81,7 @@ taken_by n next t p told = if is_number t && is_number p
 abbrev pub closed_by : List Taken → List ℕ → List ℕ → List ℕ → List ℕ → Result Report ReportKind
 closed_by acts status entries count lines =
     if is_number status && (is_status (value status) && (is_number entries && (is_number count && is_number lines))) then
-    (if value count == length acts && (nat_le (value entries) 1000000 && nat_le (value lines) (value entries))
+    (if value count == length acts && (nat_le (value entries) ENTRIES && nat_le (value lines) (value entries))
     then Ok (record { status = value status; entries = value entries; acts = acts; lines = value lines }) else Err Count)
     else Err Form
 
@@ -148,13 +149,13 @@ IsAct n _ = Unit {0}
 -- acts among n processes whose turns rise from `next` on
 abbrev pub AreActs : ℕ → ℕ → List Taken → Type 0
 AreActs n next [] = Unit {0}
-AreActs n next (x ∷ acts) = (x.p < n) × IsAct n x.act × (next ≤ x.t) × (x.t ≤ 999999) × AreActs n (suc x.t) acts
+AreActs n next (x ∷ acts) = (x.p < n) × IsAct n x.act × (next ≤ x.t) × (x.t < ENTRIES) × AreActs n (suc x.t) acts
 
 -- a report among n processes
 pub record IsReport (n : ℕ) (report : Report) : Type 0 where
   pub status : is_status report.status ≡ true
   pub acts : AreActs n 0 report.acts
-  pub entries : report.entries ≤ 1000000
+  pub entries : report.entries ≤ ENTRIES
   pub lines : report.lines ≤ report.entries
 
 -- the text of a report

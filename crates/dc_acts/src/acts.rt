@@ -2,12 +2,10 @@ ghost use Rattle.std.specs.Prelude.{◌≡◌, ◌≢◌, ◌<◌, ◌≤◌, �
 ghost use Rattle.dc_acts.specs.Counted.{acts_of, cut_acts};
 
 use crate::Reserved;
+use dc_limits::PROCESSES;
 use dc_model::Taken;
 use std::alloc::{AllocError, Global};
 use std::marker::Model;
-
-/// The most processes that can have acts.
-const PROCESSES: usize = 8;
 
 /// The acts of a run, in order. It is seen as their list and the room that was made for it.
 #[derive(Drop)]
@@ -51,7 +49,7 @@ impl Acts {
     /// Adds an act where there is room.
     pub fn push(&mut self, taken: Taken)
         requires room { length self.old.items < self.old.room }
-        requires process { taken.p < 8 }
+        requires process { taken.p < PROCESSES }
         requires few { length self.old.items < 2 ^ 32 - 1 }
         ensures items { self.new.items ≡ self.old.items ++ taken ∷ [] }
         ensures room { self.old.room ≤ self.new.room }

@@ -6,14 +6,9 @@ ghost use Rattle.dc_acts.specs.Reading.{act_by, act_by_one, act_by_three, act_by
 ghost use Rattle.dc_acts.specs.Parts.{act_fields, at_place, below, close_fields, closes, line_read, received_from, sent_by, status_of, summed, tallied, weighed};
 
 use crate::ReportKind;
+use dc_limits::ENTRIES;
 use dc_model::{Act, Taken};
 use dc_words::{NumberFault, first_field, read_number};
-
-/// Turns are numbered below this.
-const TURNS: u32 = 1_000_000;
-
-/// The counts of a last line are below this.
-const COUNTS: u32 = 1_000_001;
 
 /// What the last line of a report says, besides the count of its acts.
 #[derive(Clone, Copy, Debug, PartialEq, Eq)]
@@ -174,7 +169,7 @@ fn weigh(n: u32, next: u32, t: &[u8], p: &[u8], told: &[u8]) -> Result<Taken, Re
     requires { 0 < n }
     ensures { result ≡ weighed n next t.now p.now (act_by (fields_of 32 told.now)) }
 {
-    let turn = number(t, TURNS)?;
+    let turn = number(t, ENTRIES)?;
     let process = number(p, n)?;
     let act = act(n, told)?;
     place(next, turn, process, act)
@@ -251,15 +246,15 @@ fn sum(
     ensures { result ≡ summed acts first.now entries.now count.now lines.now }
 {
     let status = status(first)?;
-    let entries = number(entries, COUNTS)?;
-    let count = number(count, COUNTS)?;
-    let lines = number(lines, COUNTS)?;
+    let entries = number(entries, ENTRIES + 1)?;
+    let count = number(count, ENTRIES + 1)?;
+    let lines = number(lines, ENTRIES + 1)?;
     tally(status, acts, entries, count, lines)
 }
 
 /// The last line of so many acts, behind its name.
 fn close_line(acts: u32, fields: &[u8]) -> Result<Closing, ReportKind>
-    requires { acts ≤ 1000000 }
+    requires { acts ≤ ENTRIES }
     ensures { (list : List Taken) → length list ≡ acts → closes list result ≡ close_fields list (fields_of 32 fields.now) }
 {
     let Some((status, rest)) = first_field(b' ', fields) else {
@@ -280,7 +275,7 @@ fn close_line(acts: u32, fields: &[u8]) -> Result<Closing, ReportKind>
 /// A line of a report of `n` processes, behind so many acts with turns below `next`.
 pub fn read_line(n: u32, next: u32, acts: u32, line: &[u8]) -> Result<ReportLine, ReportKind>
     requires some { 0 < n }
-    requires few { acts ≤ 1000000 }
+    requires few { acts ≤ ENTRIES }
     ensures { (list : List Taken) → length list ≡ acts → line_read list result ≡ line_by n next list (fields_of 32 line.now) }
 {
     let Some((name, fields)) = first_field(b' ', line) else {

@@ -8,12 +8,10 @@ ghost use Rattle.dc_acts.specs.declared.fault.ReadError.TheVariants.{Memory, Ref
 
 use crate::fields::{Closing, ReportLine, read_line};
 use crate::{Acts, ReadError, ReportFault, ReportKind};
+use dc_limits::{ENTRIES, PROCESSES};
 use dc_model::Taken;
 use dc_words::first_field;
 use std::alloc::Global;
-
-/// The most acts of a report: its turns rise, and are below this.
-const ACTS: usize = 1_000_000;
 
 /// What a report says: the status of its run, how many entries have a mark, the acts, and how many whole lines there were.
 #[derive(Drop)]
@@ -62,7 +60,7 @@ fn room_for(alloc: Global, bytes: &[u8]) -> Option<Acts>
 {
     let lines = bytes.iter().filter(|c| **c == b'\n').count();
     let mut acts = Acts::new(alloc);
-    match acts.reserve(lines.min(ACTS)) {
+    match acts.reserve(lines.min(ENTRIES as usize)) {
         Ok(()) => Some(acts),
         Err(_) => None,
     }
@@ -70,7 +68,7 @@ fn room_for(alloc: Global, bytes: &[u8]) -> Option<Acts>
 
 /// Adds an act, whether there is room for it yet or not.
 fn add(acts: &mut Acts, taken: Taken) -> bool
-    requires process { taken.p < 8 }
+    requires process { taken.p < PROCESSES }
     requires few { length acts.old.items < 2 ^ 32 - 1 }
     ensures { result ≡ true → acts.new.items ≡ acts.old.items ++ taken ∷ [] }
 {
@@ -84,7 +82,7 @@ fn add(acts: &mut Acts, taken: Taken) -> bool
 /// The report of the lines behind the first.
 fn read_lines(alloc: Global, bytes: &[u8], n: u32) -> Result<Report, ReadError>
     requires some { 0 < n }
-    requires few { n ≤ 8 }
+    requires few { n ≤ PROCESSES }
     ensures { Reads result (report_from n 2 0 [] (fields_of 10 bytes.now)) }
 {
     let Some(mut acts) = room_for(alloc, bytes) else {
@@ -113,7 +111,7 @@ fn read_lines(alloc: Global, bytes: &[u8], n: u32) -> Result<Report, ReadError>
 /// The report of a text or its first fault.
 fn read(alloc: Global, bytes: &[u8], n: u32) -> Result<Report, ReadError>
     requires some { 0 < n }
-    requires few { n ≤ 8 }
+    requires few { n ≤ PROCESSES }
     ensures { Reads result (report_of n bytes.now) }
 {
     let Some((name, rest)) = first_field(b'\n', bytes) else {
@@ -128,7 +126,7 @@ fn read(alloc: Global, bytes: &[u8], n: u32) -> Result<Report, ReadError>
 /// The report of a text, for `n` processes. Each report has one text, and any other text is refused by its first faulty line.
 pub fn read_report(alloc: Global, bytes: &[u8], n: u32) -> Result<Report, ReadError>
     requires some { 0 < n }
-    requires few { n ≤ 8 }
+    requires few { n ≤ PROCESSES }
     ensures exact { Reads result (report_of n bytes.now) }
     ensures found { IfOk result (λ r. bytes.now ≡ text_of_report (seen r)) }
     ensures is { IfOk result (λ r. IsReport n (seen r)) }

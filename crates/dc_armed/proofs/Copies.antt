@@ -8,6 +8,7 @@ use Rattle.dc_media.specs.declared.tear.Tear.{Tear}
 use Rattle.dc_media.specs.Stores.{AreSameOrApart, CopiesLine, SetsWord, copied}
 use Rattle.dc_media.specs.Told.{Becomes, Device}
 use Rattle.dc_media.proofs.Copying.{one_more}
+use Rattle.dc_armed.specs.Laws.{GoesOn}
 use Rattle.dc_armed.specs.Torn.{IsInCalls, IsTornCopy, kept_words}
 
 module _ (k from to w : ℕ) (low : k < 16) (apart : AreSameOrApart from to) where
@@ -56,7 +57,7 @@ module _ {S T : Type 0} (device : Device S (List ℕ)) (p from to : ℕ) where
       → IsTornCopy device p (record { from = from; to = to; count = kept_words tear }) r a b
   whole_copy tear r a b keeps line lawful = full_copy (kept_words tear) r a b (omega arith) line lawful
 
-module _ {S : Type 0} (device : Device S (List ℕ)) (p from to k w : ℕ) (low : k < 16) (apart : AreSameOrApart from to) (a b c : S)
+module _ {S : Type 0} (device : Device S (List ℕ)) (on : GoesOn device) (p from to k w : ℕ) (low : k < 16) (apart : AreSameOrApart from to) (a b c : S)
     (word : IfSome (device.told b p) (λ words. w ≡ slice_index words (from + k)))
     (so_far : Becomes (device.told a p) (device.told b p) (λ before after. after ≡ copied k from to before)) (calls : IsInCalls {T = Unit {0}} device p k (Ok tt) a b) where
   -- after a store that was made
@@ -66,7 +67,7 @@ module _ {S : Type 0} (device : Device S (List ℕ)) (p from to k w : ℕ) (low 
   next_word (Err e) ok set = absurd cc
 
   pub next_calls : (r : Result (Unit {0}) DeviceFault) → false ≡ is_err r → IsInCalls device p 1 r b c → IsInCalls {T = Unit {0}} device p (k + 1) (Ok tt) a c
-  next_calls (Ok x) ok one = IsInCalls-then device p k 1 (Ok tt) (Ok x) a b c calls one
+  next_calls (Ok x) ok one = IsInCalls-then device on p k 1 (Ok tt) (Ok x) a b c calls one
   next_calls (Err e) ok one = absurd cc
 
   -- after one that was refused
@@ -79,5 +80,5 @@ module _ {S : Type 0} (device : Device S (List ℕ)) (p from to k w : ℕ) (low 
     made = k + 1;
     few = rw (lt-ltb count 16 few) (omega (arith, within));
     all = tt;
-    lawful = IsInCalls-then device p k 1 (Ok tt) (Err e) a b c calls one;
+    lawful = IsInCalls-then device on p k 1 (Ok tt) (Err e) a b c calls one;
   }

@@ -2,8 +2,10 @@
 use Rattle.std.proofs.Common.{◌≡◌, ◌≤◌, ◌+◌, ℕ, zero, suc, Result, Option, Ok, Err, refl, ap, sym, ◌∙◌, arith}
 use Rattle.std.specs.Result.{result_and}
 use Rattle.dc_media.specs.Told.{Device, IsSameStore, TellsOn}
+use Rattle.dc_media.specs.Calls.{Touches}
 use Rattle.dc_media.specs.Causes.{IsCaused, counted, counted_by}
 use Rattle.dc_armed.specs.Stops.{capped}
+use Rattle.dc_armed.specs.Laws.{GoesOn}
 use Rattle.dc_armed.specs.Torn.{IsInCalls}
 use Rattle.dc_media.specs.declared.faults.DeviceFault.{DeviceFault}
 
@@ -63,28 +65,43 @@ module _ {S C : Type 0} (device : Device S C) where
     calls_same = two.calls_same ∙ one.calls_same;
   }
 
+  -- what two calls in a row leave
+  pub Touches-then : GoesOn device → (p : ℕ) (a b c : S) → device.stops b p ≤ device.stops c p → device.faults b p ≤ device.faults c p
+      → Touches device p a b → Touches device p b c → Touches device p a c
+  Touches-then on p a b c stops faults one two = record {
+    tells = TellsOn-twice _ _ _ _ (device.told a p) (device.told b p) (device.told c p) stops faults one.tells two.tells;
+    others = λ q ne. same-twice a b c q (one.others q ne) (two.others q ne);
+    continues = on a b c one.continues two.continues;
+  }
+
   -- no call
-  pub IsInCalls-none : {T : Type 0} (p : ℕ) (x : T) (a : S) → IsInCalls device p 0 (Ok x) a a
-  IsInCalls-none p x a = record {
-    extent_same = refl;
-    tells = λ below below' some. some;
-    cause = record { stops_later = omega arith; faults_later = omega arith; stopped = λ e. absurd (cc); failed = λ e. absurd (cc); calm = (refl, refl) };
+  pub IsInCalls-none : {T : Type 0} → ((s : S) → device.continues s s) → (p : ℕ) (x : T) (a : S) → IsInCalls device p 0 (Ok x) a a
+  IsInCalls-none self p x a = record {
+    call = record {
+      touches = record {
+        tells = λ below below' some. some;
+        others = λ q ne. record { told_same = refl; extent_same = refl; stops_same = refl; faults_same = refl; calls_same = refl };
+        continues = self a;
+      };
+      extent = refl;
+      cause = record { stops_later = omega arith; faults_later = omega arith; stopped = λ e. absurd (cc); failed = λ e. absurd (cc); calm = (refl, refl) };
+    };
     calls = refl;
-    others = λ q ne. record { told_same = refl; extent_same = refl; stops_same = refl; faults_same = refl; calls_same = refl };
   }
 
   -- some calls and then some more
-  pub IsInCalls-then : {T : Type 0} (p j k : ℕ) (r s : Result T DeviceFault) (a b c : S)
+  pub IsInCalls-then : {T : Type 0} → GoesOn device → (p j k : ℕ) (r s : Result T DeviceFault) (a b c : S)
       → IsInCalls device p j r a b → IsInCalls device p k s b c → IsInCalls device p (j + k) (result_and r s) a c
-  IsInCalls-then p j k r s a b c one two = record {
-    extent_same = two.extent_same ∙ one.extent_same;
-    tells = TellsOn-twice _ _ _ _ (device.told a p) (device.told b p) (device.told c p) two.cause.stops_later two.cause.faults_later one.tells two.tells;
-    cause = IsCaused-then _ _ _ _ _ _ r s one.cause two.cause;
+  IsInCalls-then on p j k r s a b c one two = record {
+    call = record {
+      touches = Touches-then on p a b c two.call.cause.stops_later two.call.cause.faults_later one.call.touches two.call.touches;
+      extent = two.call.extent ∙ one.call.extent;
+      cause = IsCaused-then _ _ _ _ _ _ r s one.call.cause two.call.cause;
+    };
     calls = two.calls ∙ ap (counted_by k) one.calls ∙ sym (counted_by-more j k (device.calls a p));
-    others = λ q ne. same-twice a b c q (one.others q ne) (two.others q ne);
   }
 
   -- calls after one that is not counted
-  pub IsInCalls-after : {T : Type 0} (p k k' : ℕ) (r s : Result T DeviceFault) (a b c : S)
+  pub IsInCalls-after : {T : Type 0} → GoesOn device → (p k k' : ℕ) (r s : Result T DeviceFault) (a b c : S)
       → k ≡ k' → IsInCalls device p 0 r a b → IsInCalls device p k s b c → IsInCalls device p k' (result_and r s) a c
-  IsInCalls-after p k k' r s a b c e one two = let all : 0 + k ≡ k' = omega (arith, e) in rw all at (IsInCalls-then p 0 k r s a b c one two)
+  IsInCalls-after on p k k' r s a b c e one two = let all : 0 + k ≡ k' = omega (arith, e) in rw all at (IsInCalls-then on p 0 k r s a b c one two)

@@ -6,7 +6,7 @@ use Rattle.std.proofs.lemmas.Bool.{cases_eq}
 use Rattle.std.proofs.lemmas.List.{get_or-set_same, get_or-set_other, take_more}
 use Rattle.dc_media.specs.Firsts.{or_sooner}
 use Rattle.dc_media.proofs.Firsts.{first_by-push, first_by-push_other}
-use Rattle.dc_armed.specs.declared.stop.PlannedStop.{PlannedStop}
+use Rattle.dc_media.specs.declared.planned.PlannedStop.{PlannedStop}
 use Rattle.dc_armed.specs.declared.stop.Waiting.{Waiting}
 use Rattle.dc_armed.specs.Turns.{ComesNone, WaitFirst}
 use Rattle.dc_armed.specs.Stops.{first_stop, is_of, sooner_waiting, waiting_of}

@@ -9,6 +9,7 @@ use Rattle.dc_media.specs.Disk.{Disk, HasExtent, Writes}
 use Rattle.dc_media.specs.declared.tear.Tear.{Tear}
 use Rattle.dc_media.specs.Tears.{left, torn}
 use Rattle.dc_media.specs.Told.{Device}
+use Rattle.dc_armed.specs.Laws.{GoesOn}
 use Rattle.dc_armed.specs.Stops.{Plan, Comes}
 use Rattle.dc_armed.specs.Torn.{IsOverwrite, Overwrites, at_once, in_parts, torn_calls}
 use Rattle.dc_armed.proofs.Counting.{IsInCalls-none, IsInCalls-then}
@@ -21,24 +22,24 @@ module _ {S : Type 0} (device : Device S Disk) where
 
   -- two parts in a row
   pub IsOverwrite-then : {T : Type 0} (p at n m j k : ℕ) (f g h : List ℕ → List ℕ) (r s : Result T DeviceFault) (a b c : S)
-      → AllWhole → at + (n + m) ≤ device.extent a p
+      → AllWhole → GoesOn device → at + (n + m) ≤ device.extent a p
       → ((old : List ℕ) → length old ≡ n → length (f old) ≡ n) → ((old : List ℕ) → length old ≡ m → length (g old) ≡ m)
       → ((x y : List ℕ) → length x ≡ n → length y ≡ m → h (x ++ y) ≡ f x ++ g y)
       → IsOverwrite device p (record { at = at; count = n; make = f; calls = j }) r a b
       → IsOverwrite device p (record { at = at + n; count = m; make = g; calls = k }) s b c
       → IsOverwrite device p (record { at = at; count = n + m; make = h; calls = j + k }) (result_and r s) a c
-  IsOverwrite-then p at n m j k f g h r s a b c whole fits f_long g_long joins one two = record {
+  IsOverwrite-then p at n m j k f g h r s a b c whole on fits f_long g_long joins one two = record {
     bytes = Overwrites-then (device.extent a p) at n m f g h r s (device.told a p) (device.told b p) (device.told c p) fits (whole a p)
-        (rw one.lawful.extent_same at (whole b p)) f_long g_long joins one.bytes two.bytes;
-    lawful = IsInCalls-then device p j k r s a b c one.lawful two.lawful;
+        (rw one.lawful.call.extent at (whole b p)) f_long g_long joins one.bytes two.bytes;
+    lawful = IsInCalls-then device on p j k r s a b c one.lawful two.lawful;
   }
 
   -- no part
-  pub IsOverwrite-nothing : {T : Type 0} (p at : ℕ) (make : List ℕ → List ℕ) (x : T) (a : S) → make [] ≡ []
+  pub IsOverwrite-nothing : {T : Type 0} → ((s : S) → device.continues s s) → (p at : ℕ) (make : List ℕ → List ℕ) (x : T) (a : S) → make [] ≡ []
       → IsOverwrite device p (record { at = at; count = 0; make = make; calls = 0 }) (Ok x) a a
-  IsOverwrite-nothing p at make x a none = record {
+  IsOverwrite-nothing self p at make x a none = record {
     bytes = Overwrites-nothing at make x (device.told a p) none;
-    lawful = IsInCalls-none device p x a;
+    lawful = IsInCalls-none device self p x a;
   }
 
   -- what is made otherwise
@@ -100,17 +101,17 @@ module _ {S : Type 0} (device : Device S Disk) where
 
   -- the first bytes are written, and the others are left
   pub IsOverwrite-torn : {T : Type 0} (p at k : ℕ) (tear : Tear) (piece : List ℕ) (r s : Result T DeviceFault) (a b c : S)
-      → AllWhole device → at + length piece ≤ device.extent a p → k ≡ min (length piece) tear.keep
+      → AllWhole device → GoesOn device → at + length piece ≤ device.extent a p → k ≡ min (length piece) tear.keep
       → IsOverwrite device p (record { at = at; count = length (take k piece); make = (λ old. take k piece); calls = at_once (length (take k piece)) }) r a b
       → IsOverwrite device p (record { at = at + k; count = length piece - k; make = left tear.fill; calls = in_parts (length piece - k) }) s b c
       → IsOverwrite device p (record { at = at; count = length piece; make = (λ old. torn tear old piece); calls = torn_calls tear (length piece) }) (result_and r s) a c
-  IsOverwrite-torn p at k tear piece r s a b c whole fits is front rest =
+  IsOverwrite-torn p at k tear piece r s a b c whole on fits is front rest =
       let within : k ≤ length piece = omega arith in
       let long : length (take k piece) ≡ k = length-take-le k piece within in
       as_long p at (k + (length piece - k)) (length piece) (at_once k + in_parts (length piece - k)) (torn_calls tear (length piece))
       (λ old. torn tear old piece) (result_and r s) a c (omega arith) (ap (λ kept. at_once kept + in_parts (length piece - kept)) is)
       (IsOverwrite-then device p at k (length piece - k) (at_once k) (in_parts (length piece - k)) (λ old. take k piece) (left tear.fill) (λ old. torn tear old piece) r s a b c
-      whole (omega arith) (λ old e. long) (λ old e. length-left tear.fill old ∙ e) (torn-parts tear piece k is)
+      whole on (omega arith) (λ old e. long) (λ old e. length-left tear.fill old ∙ e) (torn-parts tear piece k is)
       (as_long p at (length (take k piece)) k (at_once (length (take k piece))) (at_once k) (λ old. take k piece) r a b long (ap at_once long) front) rest)
 
 -- one more part of so many bytes that are left, of which those so far were whole

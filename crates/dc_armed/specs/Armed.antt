@@ -23,10 +23,6 @@ all_stops stops armed p = stops armed.device p + came_to armed.plan p
 abbrev pub all_calls : {D : Type 0} → Armed D → ℕ → ℕ
 all_calls armed p = calls_to armed.plan p
 
--- an armed device as a device
-abbrev pub armed : {D C : Type 0} → Device D C → Device (Armed D) C
-armed device = showing (within device.told) (within device.extent) (all_stops device.stops) (within device.faults) all_calls
-
 -- the answer is that of the device within: its counts bear it out, and no planned stop came
 pub record IsOwn {D C T : Type 0} (device : Device D C) (p : ℕ) (result : Result T DeviceFault) (old new : Armed D) : Type 0 where
   pub cause : IsCaused (device.stops old.device p) (device.stops new.device p) (device.faults old.device p) (device.faults new.device p) result
@@ -73,10 +69,14 @@ abbrev pub IsAwaited : {D C : Type 0} → Device D C → ℕ → Armed D → Arm
 IsAwaited device p old new = IsUnrefused (all_stops device.stops) (within device.faults) p old new → 0 < calls_left (waiting_for old.plan p) → StillWaits device p old new
 
 -- a later state of an armed device: the device within is a later one, none of its stops, faults and calls is forgotten, and the plan has gone on
-pub record IsLater {D C : Type 0} (continues : D → D → Type 0) (device : Device D C) (old new : Armed D) : Type 0 where
-  pub later : continues old.device new.device
+pub record IsLater {D C : Type 0} (device : Device D C) (old new : Armed D) : Type 0 where
+  pub later : device.continues old.device new.device
   pub stopped : (p : ℕ) → device.stops old.device p ≤ device.stops new.device p
   pub failed : (p : ℕ) → device.faults old.device p ≤ device.faults new.device p
   pub called : (p : ℕ) → capped (device.calls old.device p) ≤ capped (device.calls new.device p)
   pub plan : Progresses old.plan new.plan
   pub awaited : (p : ℕ) → IsAwaited device p old new
+
+-- an armed device as a device
+abbrev pub armed : {D C : Type 0} → Device D C → Device (Armed D) C
+armed device = showing (within device.told) (within device.extent) (all_stops device.stops) (within device.faults) all_calls (IsLater device)

@@ -16,9 +16,13 @@ progresses_on old between new first then = record {
   once = λ p. omega (arith, first.once p, then.once p);
 }
 
-module _ {D C : Type 0} (continues : D → D → Type 0) (device : Device D C) where
+-- what continues a later state continues the first
+abbrev pub GoesOn : {D C : Type 0} → Device D C → Type 0
+GoesOn {D = D} device = (s t u : D) → device.continues s t → device.continues t u → device.continues s u
+
+module _ {D C : Type 0} (device : Device D C) where
   -- nothing was called
-  pub later_self : ((s : D) → continues s s) → (s : Armed D) → IsLater continues device s s
+  pub later_self : ((s : D) → device.continues s s) → (s : Armed D) → IsLater device s s
   later_self self s = record {
     later = self s.device;
     stopped = λ p. omega arith;
@@ -33,7 +37,7 @@ module _ {D C : Type 0} (continues : D → D → Type 0) (device : Device D C) w
   Unrefused p s t = IsUnrefused (all_stops device.stops) (within device.faults) p s t
 
   -- what refused no call of two in a row refused none of either
-  unrefused_first : (p : ℕ) (s t u : Armed D) → IsLater continues device s t → IsLater continues device t u → Unrefused p s u → Unrefused p s t
+  unrefused_first : (p : ℕ) (s t u : Armed D) → IsLater device s t → IsLater device t u → Unrefused p s u → Unrefused p s t
   unrefused_first p s t u first then same =
       let a = first.stopped p in let b = then.stopped p in let c = first.failed p in let d = then.failed p in let e = first.plan.later p in let f = then.plan.later p in record {
         stops_same = omega (arith, a, b, e, f, same.stops_same);
@@ -42,7 +46,7 @@ module _ {D C : Type 0} (continues : D → D → Type 0) (device : Device D C) w
         faults_below = omega (arith, d, same.faults_below);
       }
 
-  unrefused_then : (p : ℕ) (s t u : Armed D) → IsLater continues device s t → IsLater continues device t u → Unrefused p s u → Unrefused p t u
+  unrefused_then : (p : ℕ) (s t u : Armed D) → IsLater device s t → IsLater device t u → Unrefused p s u → Unrefused p t u
   unrefused_then p s t u first then same =
       let a = first.stopped p in let b = then.stopped p in let c = first.failed p in let d = then.failed p in let e = first.plan.later p in let f = then.plan.later p in record {
         stops_same = omega (arith, a, b, e, f, same.stops_same);
@@ -51,14 +55,14 @@ module _ {D C : Type 0} (continues : D → D → Type 0) (device : Device D C) w
         faults_below = same.faults_below;
       }
 
-  awaited_on : (p : ℕ) (s t u : Armed D) → IsLater continues device s t → IsLater continues device t u → IsAwaited device p s u
+  awaited_on : (p : ℕ) (s t u : Armed D) → IsLater device s t → IsLater device t u → IsAwaited device p s u
   awaited_on p s t u first then same waits =
       let one = first.awaited p (unrefused_first p s t u first then same) waits in
       let two = then.awaited p (unrefused_then p s t u first then same) one.waits in
       record { waits = two.waits; fewer = omega (arith, one.fewer, two.fewer) }
 
   -- one call and then more
-  pub later_on : ((s t u : D) → continues s t → continues t u → continues s u) → (s t u : Armed D) → IsLater continues device s t → IsLater continues device t u → IsLater continues device s u
+  pub later_on : GoesOn device → (s t u : Armed D) → IsLater device s t → IsLater device t u → IsLater device s u
   later_on on s t u first then = record {
     later = on s.device t.device u.device first.later then.later;
     stopped = λ p. omega (arith, first.stopped p, then.stopped p);

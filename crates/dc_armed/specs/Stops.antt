@@ -6,7 +6,7 @@ use Rattle.dc_media.specs.declared.TheConstants.{STORES}
 use Rattle.dc_media.specs.declared.tear.Tear.{Tear}
 use Rattle.dc_media.specs.Causes.{counted, counted_by}
 use Rattle.dc_media.specs.Firsts.{first_by}
-use Rattle.dc_armed.specs.declared.stop.PlannedStop.{PlannedStop}
+use Rattle.dc_media.specs.declared.planned.PlannedStop.{PlannedStop}
 use Rattle.dc_armed.specs.declared.stop.Waiting.{Waiting}
 
 -- of this turn and process; calls are numbered from 1 and processes are below `STORES`, so no other stop ever comes

@@ -1,20 +1,18 @@
 -- What is left of a torn call, and of a write that is made in parts.
-use Rattle.std.specs.Prelude.{◌≡◌, ◌≢◌, ◌⊎◌, ◌+◌, ◌-◌, ◌/◌, ℕ, min, List, length, take, drop, slice_index, slice_set, Option, Result, MatchResult, IsOk, OnOk, nat_lt, ◌≤◌, if◌then◌else◌}
+use Rattle.std.specs.Prelude.{◌≡◌, ◌⊎◌, ◌+◌, ◌-◌, ◌/◌, ℕ, min, List, length, take, drop, slice_index, slice_set, Option, Result, MatchResult, IsOk, OnOk, nat_lt, ◌≤◌, if◌then◌else◌}
 use Rattle.dc_media.specs.declared.faults.DeviceFault.{DeviceFault}
 use Rattle.dc_media.specs.declared.tear.Tear.{Tear}
-use Rattle.dc_media.specs.Causes.{IsCaused, counted_by}
+use Rattle.dc_media.specs.Calls.{IsCall}
+use Rattle.dc_media.specs.Causes.{counted_by}
 use Rattle.dc_media.specs.Disk.{Disk, Survives, spliced, with_pending}
 use Rattle.dc_media.specs.Stores.{copied}
 use Rattle.dc_media.specs.Tears.{torn, torn_word}
-use Rattle.dc_media.specs.Told.{Becomes, Device, IsSameStore, TellsOn}
+use Rattle.dc_media.specs.Told.{Becomes, Device}
 
 -- what the laws of a device say of a process's store after exactly so many counted calls, with this answer for all of them
 pub record IsInCalls {S C T : Type 0} (device : Device S C) (p count : ℕ) (result : Result T DeviceFault) (old new : S) : Type 0 where
-  pub extent_same : device.extent new p ≡ device.extent old p
-  pub tells : TellsOn (device.stops new p) (device.faults new p) (device.told old p) (device.told new p)
-  pub cause : IsCaused (device.stops old p) (device.stops new p) (device.faults old p) (device.faults new p) result
+  pub call : IsCall device p old new result
   pub calls : device.calls new p ≡ counted_by count (device.calls old p)
-  pub others : (q : ℕ) → q ≢ p → IsSameStore device old new q
 
 -- after a torn store the word is old or new
 abbrev pub torn_store : Tear → ℕ → ℕ → List ℕ → List ℕ

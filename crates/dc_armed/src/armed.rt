@@ -4,8 +4,7 @@ ghost use Rattle.dc_armed.specs.Turns.{WaitFirst, WaitNone};
 ghost use Rattle.dc_armed.specs.Stops.{calls_to, came_to, first_stop, is_of};
 
 use crate::plan::StopPlan;
-use crate::stop::PlannedStop;
-use dc_media::STORES;
+use dc_media::{PlannedStop, STORES};
 use std::marker::Model;
 
 /// A device of words or of disks, with stops that are planned for it.

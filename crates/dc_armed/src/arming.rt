@@ -2,11 +2,11 @@
 
 ghost use Rattle.std.specs.Prelude.{◌≡◌, ◌+◌, List, ◌∷◌, ◌++◌, false, []};
 ghost use Rattle.dc_armed.specs.Turns.{ComesNone, WaitFirst, WaitNone};
-ghost use Rattle.dc_armed.specs.declared.stop.PlannedStop.{PlannedStop};
+ghost use Rattle.dc_media.specs.declared.planned.PlannedStop.{PlannedStop};
 ghost use Rattle.dc_armed.specs.Stops.{is_of, sooner_waiting};
 
-use crate::stop::{PlannedStop, Waiting};
-use dc_media::STORES;
+use crate::stop::Waiting;
+use dc_media::{PlannedStop, STORES};
 
 /// No stop waits.
 pub(crate) fn none_waiting() -> [Option<Waiting>; STORES as usize]

@@ -1,8 +1,9 @@
-ghost use Rattle.std.specs.Prelude.{◌≡◌, ◌≢◌, ◌+◌, ◌<◌, ◌≤◌, ℕ, None, IfSome, OnOk, OnErr, length};
-ghost use Rattle.dc_media.specs.Causes.{IsCaused, IsMade, counted, counted_by};
+ghost use Rattle.std.specs.Prelude.{◌≡◌, ◌≢◌, ◌+◌, ◌<◌, ◌≤◌, ℕ, None, IfSome, OnOk, length};
+ghost use Rattle.dc_media.specs.Calls.{IsCall, IsMaking, Touches};
+ghost use Rattle.dc_media.specs.Causes.{counted, counted_by};
 ghost use Rattle.dc_media.specs.Disk.{Reads, Syncs, Writes, blank};
 ghost use Rattle.dc_media.specs.Devices.{of_disks};
-ghost use Rattle.dc_media.specs.Told.{TellsOn, IsSameStore, showing};
+ghost use Rattle.dc_media.specs.Told.{showing};
 ghost use Rattle.dc_armed.specs.Armed.{all_calls, all_stops, armed, within, ComesOrRefused, IsOwn, IsPlannedAlone, IsLater};
 ghost use Rattle.dc_armed.specs.Torn.{torn_calls, torn_disk};
 ghost use Rattle.dc_armed.specs.Stops.{after_answer, calls_to, came_to, due, one_fewer, waiting_for, Waits};
@@ -25,29 +26,23 @@ impl<D: Disks> Disks for Armed<D> {
 
     ghost calls = { all_calls };
 
-    ghost continues = { λ s t. IsLater D.continues (of_disks D.Disks) s t };
+    ghost continues = { λ s t. IsLater (of_disks D.Disks) s t };
 
     ghost told_extent = { λ a. D.told_extent a.device };
 
     ghost extent_fits = { λ a. D.extent_fits a.device };
 
-    ghost continues_self = { λ s. later_self D.continues (showing D.told D.extent D.stops D.faults D.calls) D.continues_self s };
+    ghost continues_self = { λ s. later_self (showing D.told D.extent D.stops D.faults D.calls D.continues) D.continues_self s };
 
-    ghost continues_on = { λ s t u first then. later_on D.continues (showing D.told D.extent D.stops D.faults D.calls) D.continues_on s t u first then };
+    ghost continues_on = { λ s t u first then. later_on (showing D.told D.extent D.stops D.faults D.calls D.continues) D.continues_on s t u first then };
 
     fn format(&mut self, alloc: Global, p: u32, bytes: u64) -> Result<(), MakeFault>
         requires { p < STORES }
-        ensures extent { OnOk result (D.extent self.new.device p ≡ bytes) }
-        ensures refused { OnErr result (D.extent self.new.device p ≡ D.extent self.old.device p) }
+        ensures making { IsMaking (armed (of_disks D.Disks)) p bytes self.old self.new result }
         ensures zeros { OnOk result (IfSome (D.told self.new.device p) (λ disk. disk ≡ blank bytes)) }
-        ensures tells { TellsOn (D.stops self.new.device p) (D.faults self.new.device p) (D.told self.old.device p) (D.told self.new.device p) }
-        ensures cause { IsMade (D.stops self.old.device p) (D.stops self.new.device p) (D.faults self.old.device p) (D.faults self.new.device p) result }
-        ensures calls { calls_to self.new.plan p ≡ calls_to self.old.plan p }
-        ensures others { (q : ℕ) → q ≢ p → IsSameStore (armed (of_disks D.Disks)) self.old self.new q }
-        ensures continues { IsLater D.continues (of_disks D.Disks) self.old self.new }
 
         // the device within
-        ensures untouched { (q : ℕ) → q ≢ p → IsSameStore (of_disks D.Disks) self.old.device self.new.device q }
+        ensures touches { Touches (of_disks D.Disks) p self.old.device self.new.device }
         ensures uncounted { D.calls self.new.device p ≡ D.calls self.old.device p }
 
         // no planned stop comes
@@ -63,15 +58,12 @@ impl<D: Disks> Disks for Armed<D> {
     /// No planned stop comes at it, and it is not counted.
     fn read(&mut self, p: u32, at: u64, to: &mut [u8]) -> Result<(), DeviceFault>
         requires { at + length to.old ≤ D.extent self.old.device p }
-        ensures extent { D.extent self.new.device p ≡ D.extent self.old.device p }
+        ensures call { IsCall (armed (of_disks D.Disks)) p self.old self.new result }
         ensures bytes { Reads at to.new result (D.told self.old.device p) (D.told self.new.device p) }
-        ensures tells { TellsOn (D.stops self.new.device p) (D.faults self.new.device p) (D.told self.old.device p) (D.told self.new.device p) }
         ensures calls { calls_to self.new.plan p ≡ calls_to self.old.plan p }
-        ensures others { (q : ℕ) → q ≢ p → IsSameStore (armed (of_disks D.Disks)) self.old self.new q }
-        ensures continues { IsLater D.continues (of_disks D.Disks) self.old self.new }
 
         // the device within
-        ensures untouched { (q : ℕ) → q ≢ p → IsSameStore (of_disks D.Disks) self.old.device self.new.device q }
+        ensures touches { Touches (of_disks D.Disks) p self.old.device self.new.device }
         ensures uncounted { D.calls self.new.device p ≡ D.calls self.old.device p }
 
         // the answer is the device's, and what waits after it
@@ -88,16 +80,12 @@ impl<D: Disks> Disks for Armed<D> {
     #[tactic(auto, using(crate::proofs::Counting::capped_later))]
     fn write(&mut self, p: u32, at: u64, from: &[u8]) -> Result<(), DeviceFault>
         requires { at + length from.now ≤ D.extent self.old.device p }
-        ensures extent { D.extent self.new.device p ≡ D.extent self.old.device p }
+        ensures call { IsCall (armed (of_disks D.Disks)) p self.old self.new result }
         ensures bytes { Writes at from.now result (D.told self.old.device p) (D.told self.new.device p) }
-        ensures tells { TellsOn (D.stops self.new.device p) (D.faults self.new.device p) (D.told self.old.device p) (D.told self.new.device p) }
-        ensures cause { IsCaused (all_stops D.stops self.old p) (all_stops D.stops self.new p) (D.faults self.old.device p) (D.faults self.new.device p) result }
         ensures calls { calls_to self.new.plan p ≡ counted (calls_to self.old.plan p) }
-        ensures others { (q : ℕ) → q ≢ p → IsSameStore (armed (of_disks D.Disks)) self.old self.new q }
-        ensures continues { IsLater D.continues (of_disks D.Disks) self.old self.new }
 
         // the device within
-        ensures untouched { (q : ℕ) → q ≢ p → IsSameStore (of_disks D.Disks) self.old.device self.new.device q }
+        ensures touches { Touches (of_disks D.Disks) p self.old.device self.new.device }
 
         // what a planned stop does, and what waits after a call
         ensures once { due self.old.plan p ≡ None → D.calls self.new.device p ≡ counted (D.calls self.old.device p) }
@@ -121,16 +109,12 @@ impl<D: Disks> Disks for Armed<D> {
 
     /// At a planned stop nothing is made sure of, and the answer is `Stopped`.
     fn sync(&mut self, p: u32) -> Result<(), DeviceFault>
-        ensures extent { D.extent self.new.device p ≡ D.extent self.old.device p }
+        ensures call { IsCall (armed (of_disks D.Disks)) p self.old self.new result }
         ensures bytes { Syncs result (D.told self.old.device p) (D.told self.new.device p) }
-        ensures tells { TellsOn (D.stops self.new.device p) (D.faults self.new.device p) (D.told self.old.device p) (D.told self.new.device p) }
-        ensures cause { IsCaused (all_stops D.stops self.old p) (all_stops D.stops self.new p) (D.faults self.old.device p) (D.faults self.new.device p) result }
         ensures calls { calls_to self.new.plan p ≡ counted (calls_to self.old.plan p) }
-        ensures others { (q : ℕ) → q ≢ p → IsSameStore (armed (of_disks D.Disks)) self.old self.new q }
-        ensures continues { IsLater D.continues (of_disks D.Disks) self.old self.new }
 
         // the device within
-        ensures untouched { (q : ℕ) → q ≢ p → IsSameStore (of_disks D.Disks) self.old.device self.new.device q }
+        ensures touches { Touches (of_disks D.Disks) p self.old.device self.new.device }
 
         // what a planned stop does, and what waits after a call
         ensures once { due self.old.plan p ≡ None → D.calls self.new.device p ≡ counted (D.calls self.old.device p) }

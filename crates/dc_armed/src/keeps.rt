@@ -1,8 +1,9 @@
-ghost use Rattle.std.specs.Prelude.{◌≡◌, ◌≢◌, ◌+◌, ◌<◌, ◌≤◌, ℕ, false, length, None, IfSome, OnOk, OnErr, replicate};
-ghost use Rattle.dc_media.specs.Causes.{AreCounted, IsCaused, IsMade, counted, counted_by};
+ghost use Rattle.std.specs.Prelude.{◌≡◌, ◌≢◌, ◌+◌, ◌<◌, ◌≤◌, ℕ, false, length, None, IfSome, OnOk, replicate};
+ghost use Rattle.dc_media.specs.Calls.{IsCall, IsMaking, Touches};
+ghost use Rattle.dc_media.specs.Causes.{AreCounted, counted, counted_by};
 ghost use Rattle.dc_media.specs.Stores.{AreSameOrApart, CopiesLine, SetsWord, SetsWords, copied};
 ghost use Rattle.dc_media.specs.Devices.{of_words};
-ghost use Rattle.dc_media.specs.Told.{TellsOn, IsSameStore, showing};
+ghost use Rattle.dc_media.specs.Told.{showing};
 ghost use Rattle.dc_armed.specs.Armed.{all_calls, all_stops, armed, within, ComesOrRefused, IsOwn, IsPlannedAlone, IsLater};
 ghost use Rattle.dc_armed.specs.Torn.{at_once, copy_calls, kept_words, torn_store};
 ghost use Rattle.dc_armed.specs.Rows.{AreCountedDown, ComesInRow, due_within, row_calls};
@@ -26,29 +27,23 @@ impl<K: Keeps> Keeps for Armed<K> {
 
     ghost calls = { all_calls };
 
-    ghost continues = { λ s t. IsLater K.continues (of_words K.Keeps) s t };
+    ghost continues = { λ s t. IsLater (of_words K.Keeps) s t };
 
     ghost told_extent = { λ a. K.told_extent a.device };
 
     ghost extent_fits = { λ a. K.extent_fits a.device };
 
-    ghost continues_self = { λ s. later_self K.continues (showing K.told K.extent K.stops K.faults K.calls) K.continues_self s };
+    ghost continues_self = { λ s. later_self (showing K.told K.extent K.stops K.faults K.calls K.continues) K.continues_self s };
 
-    ghost continues_on = { λ s t u first then. later_on K.continues (showing K.told K.extent K.stops K.faults K.calls) K.continues_on s t u first then };
+    ghost continues_on = { λ s t u first then. later_on (showing K.told K.extent K.stops K.faults K.calls K.continues) K.continues_on s t u first then };
 
     fn format(&mut self, alloc: Global, p: u32, words: u32) -> Result<(), MakeFault>
         requires { p < STORES }
-        ensures extent { OnOk result (K.extent self.new.device p ≡ words) }
-        ensures refused { OnErr result (K.extent self.new.device p ≡ K.extent self.old.device p) }
+        ensures making { IsMaking (armed (of_words K.Keeps)) p words self.old self.new result }
         ensures zeros { OnOk result (IfSome (K.told self.new.device p) (λ ws. ws ≡ replicate words 0)) }
-        ensures tells { TellsOn (K.stops self.new.device p) (K.faults self.new.device p) (K.told self.old.device p) (K.told self.new.device p) }
-        ensures cause { IsMade (K.stops self.old.device p) (K.stops self.new.device p) (K.faults self.old.device p) (K.faults self.new.device p) result }
-        ensures calls { calls_to self.new.plan p ≡ calls_to self.old.plan p }
-        ensures others { (q : ℕ) → q ≢ p → IsSameStore (armed (of_words K.Keeps)) self.old self.new q }
-        ensures continues { IsLater K.continues (of_words K.Keeps) self.old self.new }
 
         // the device within
-        ensures untouched { (q : ℕ) → q ≢ p → IsSameStore (of_words K.Keeps) self.old.device self.new.device q }
+        ensures touches { Touches (of_words K.Keeps) p self.old.device self.new.device }
         ensures uncounted { K.calls self.new.device p ≡ K.calls self.old.device p }
 
         // no planned stop comes
@@ -66,16 +61,12 @@ impl<K: Keeps> Keeps for Armed<K> {
     /// The answer is then `Stopped`, unless the device refuses the call, which is passed on.
     fn store(&mut self, p: u32, i: u32, w: u32) -> Result<(), DeviceFault>
         requires { i < K.extent self.old.device p }
-        ensures extent { K.extent self.new.device p ≡ K.extent self.old.device p }
+        ensures call { IsCall (armed (of_words K.Keeps)) p self.old self.new result }
         ensures word { SetsWord i w result (K.told self.old.device p) (K.told self.new.device p) }
-        ensures tells { TellsOn (K.stops self.new.device p) (K.faults self.new.device p) (K.told self.old.device p) (K.told self.new.device p) }
-        ensures cause { IsCaused (all_stops K.stops self.old p) (all_stops K.stops self.new p) (K.faults self.old.device p) (K.faults self.new.device p) result }
         ensures calls { calls_to self.new.plan p ≡ counted (calls_to self.old.plan p) }
-        ensures others { (q : ℕ) → q ≢ p → IsSameStore (armed (of_words K.Keeps)) self.old self.new q }
-        ensures continues { IsLater K.continues (of_words K.Keeps) self.old self.new }
 
         // the device within
-        ensures untouched { (q : ℕ) → q ≢ p → IsSameStore (of_words K.Keeps) self.old.device self.new.device q }
+        ensures touches { Touches (of_words K.Keeps) p self.old.device self.new.device }
 
         // what a planned stop does, and what waits after a call
         ensures once { due self.old.plan p ≡ None → K.calls self.new.device p ≡ counted (K.calls self.old.device p) }
@@ -101,16 +92,12 @@ impl<K: Keeps> Keeps for Armed<K> {
     /// Where no planned stop waits for one of these stores, the words are set by one call of the device; else by a store of each.
     fn store_words(&mut self, p: u32, i: u32, words: &[u32]) -> Result<(), DeviceFault>
         requires { i + length words.now ≤ K.extent self.old.device p }
-        ensures extent { K.extent self.new.device p ≡ K.extent self.old.device p }
+        ensures call { IsCall (armed (of_words K.Keeps)) p self.old self.new result }
         ensures words { SetsWords i words.now result (K.told self.old.device p) (K.told self.new.device p) }
-        ensures tells { TellsOn (K.stops self.new.device p) (K.faults self.new.device p) (K.told self.old.device p) (K.told self.new.device p) }
-        ensures cause { IsCaused (all_stops K.stops self.old p) (all_stops K.stops self.new p) (K.faults self.old.device p) (K.faults self.new.device p) result }
         ensures calls { AreCounted (length words.now) result (calls_to self.old.plan p) (calls_to self.new.plan p) }
-        ensures others { (q : ℕ) → q ≢ p → IsSameStore (armed (of_words K.Keeps)) self.old self.new q }
-        ensures continues { IsLater K.continues (of_words K.Keeps) self.old self.new }
 
         // the device within
-        ensures untouched { (q : ℕ) → q ≢ p → IsSameStore (of_words K.Keeps) self.old.device self.new.device q }
+        ensures touches { Touches (of_words K.Keeps) p self.old.device self.new.device }
 
         // what a planned stop does, and what waits after it
         ensures stops { IfSome (due_within (length words.now) (waiting_for self.old.plan p)) (λ stop. ComesInRow (of_words K.Keeps) p stop (record { index = i; words = words.now }) result self.old self.new) }
@@ -135,21 +122,16 @@ impl<K: Keeps> Keeps for Armed<K> {
     /// At a planned stop as many words are copied as are kept, one by one, or all of them by one call.
     ///
     /// The answer is then `Stopped`, unless the device refuses a call, which is passed on.
-    #[tactic(auto, using(crate::proofs::Counting::capped_later))]
     fn copy_line(&mut self, p: u32, from: u32, to: u32) -> Result<(), DeviceFault>
         requires source { from + 16 ≤ K.extent self.old.device p }
         requires place { to + 16 ≤ K.extent self.old.device p }
         requires apart { AreSameOrApart from to }
-        ensures extent { K.extent self.new.device p ≡ K.extent self.old.device p }
+        ensures call { IsCall (armed (of_words K.Keeps)) p self.old self.new result }
         ensures line { CopiesLine from to result (K.told self.old.device p) (K.told self.new.device p) }
-        ensures tells { TellsOn (K.stops self.new.device p) (K.faults self.new.device p) (K.told self.old.device p) (K.told self.new.device p) }
-        ensures cause { IsCaused (all_stops K.stops self.old p) (all_stops K.stops self.new p) (K.faults self.old.device p) (K.faults self.new.device p) result }
         ensures calls { calls_to self.new.plan p ≡ counted (calls_to self.old.plan p) }
-        ensures others { (q : ℕ) → q ≢ p → IsSameStore (armed (of_words K.Keeps)) self.old self.new q }
-        ensures continues { IsLater K.continues (of_words K.Keeps) self.old self.new }
 
         // the device within
-        ensures untouched { (q : ℕ) → q ≢ p → IsSameStore (of_words K.Keeps) self.old.device self.new.device q }
+        ensures touches { Touches (of_words K.Keeps) p self.old.device self.new.device }
 
         // what a planned stop does, and what waits after a call
         ensures once { due self.old.plan p ≡ None → K.calls self.new.device p ≡ counted (K.calls self.old.device p) }
@@ -179,16 +161,12 @@ impl<K: Keeps> Armed<K> {
     /// What is told stays told also where so many planned stops came that their count stands still.
     fn store_each(&mut self, p: u32, i: u32, words: &[u32]) -> Result<(), DeviceFault>
         requires { i + length words.now ≤ K.extent self.old.device p }
-        ensures extent { K.extent self.new.device p ≡ K.extent self.old.device p }
+        ensures call { IsCall (armed (of_words K.Keeps)) p self.old self.new result }
         ensures words { SetsWords i words.now result (K.told self.old.device p) (K.told self.new.device p) }
-        ensures tells { TellsOn (K.stops self.new.device p) (K.faults self.new.device p) (K.told self.old.device p) (K.told self.new.device p) }
-        ensures cause { IsCaused (all_stops K.stops self.old p) (all_stops K.stops self.new p) (K.faults self.old.device p) (K.faults self.new.device p) result }
         ensures calls { AreCounted (length words.now) result (calls_to self.old.plan p) (calls_to self.new.plan p) }
-        ensures others { (q : ℕ) → q ≢ p → IsSameStore (armed (of_words K.Keeps)) self.old self.new q }
-        ensures continues { IsLater K.continues (of_words K.Keeps) self.old self.new }
 
         // the device within
-        ensures untouched { (q : ℕ) → q ≢ p → IsSameStore (of_words K.Keeps) self.old.device self.new.device q }
+        ensures touches { Touches (of_words K.Keeps) p self.old.device self.new.device }
 
         // what a planned stop does, and what waits after it
         ensures stops { IfSome (due_within (length words.now) (waiting_for self.old.plan p)) (λ stop. ComesInRow (of_words K.Keeps) p stop (record { index = i; words = words.now }) result self.old self.new) }

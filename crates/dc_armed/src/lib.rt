@@ -10,4 +10,3 @@ mod stop;
 mod torn;
 
 pub use armed::Armed;
-pub use stop::PlannedStop;

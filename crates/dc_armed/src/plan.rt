@@ -7,8 +7,8 @@ ghost use Rattle.dc_armed.specs.Turns.{WaitFirst, WaitNone};
 ghost use Rattle.dc_armed.specs.Stops.{after_answer, calls_to, came_to, due, due_of, fewer_by, one_fewer, waiting_for, waits_within, Calls, CallsInRow, Comes, Waits};
 
 use crate::arming::{arm, next_turn, none_waiting};
-use crate::stop::{PlannedStop, Waiting};
-use dc_media::{DeviceFault, STORES, Tear};
+use crate::stop::Waiting;
+use dc_media::{DeviceFault, PlannedStop, STORES, Tear};
 use std::marker::Model;
 
 /// The planned stops, those that wait in the turn that runs, how many came, and how many calls were made.

@@ -1,4 +1,4 @@
-ghost use Rattle.std.specs.Prelude.{◌≡◌, ◌≢◌, ◌+◌, ◌<◌, ◌≤◌, ℕ, length};
+ghost use Rattle.std.specs.Prelude.{◌+◌, ◌<◌, ◌≤◌, length};
 ghost use Rattle.dc_media.specs.Tears.{left, torn};
 ghost use Rattle.dc_media.specs.Devices.{of_disks, of_words};
 ghost use Rattle.dc_media.specs.Stores.{AreSameOrApart};
@@ -12,8 +12,7 @@ const PART: usize = 64;
 /// Writes bytes of a disk, with no call where there are none.
 fn write_part<D: Disks>(disks: &mut D, p: u32, at: u64, front: &[u8]) -> Result<(), DeviceFault>
     requires { at + length front.now ≤ D.extent disks.old p }
-    ensures made { IsOverwrite (of_disks D.Disks) p (record { at = at; count = length front.now; make = (λ old. front.now); calls = at_once (length front.now) }) result disks.old disks.new }
-    ensures continues { D.continues disks.old disks.new }
+    ensures { IsOverwrite (of_disks D.Disks) p (record { at = at; count = length front.now; make = (λ old. front.now); calls = at_once (length front.now) }) result disks.old disks.new }
 {
     if front.is_empty() {
         return Ok(());
@@ -24,8 +23,7 @@ fn write_part<D: Disks>(disks: &mut D, p: u32, at: u64, front: &[u8]) -> Result<
 /// Reads bytes of a disk and writes them back, so that they are pending.
 fn write_back<D: Disks>(disks: &mut D, p: u32, at: u64, bytes: &mut [u8]) -> Result<(), DeviceFault>
     requires { at + length bytes.old ≤ D.extent disks.old p }
-    ensures made { IsOverwrite (of_disks D.Disks) p (record { at = at; count = length bytes.old; make = (λ old. old); calls = at_once (length bytes.old) }) result disks.old disks.new }
-    ensures continues { D.continues disks.old disks.new }
+    ensures { IsOverwrite (of_disks D.Disks) p (record { at = at; count = length bytes.old; make = (λ old. old); calls = at_once (length bytes.old) }) result disks.old disks.new }
 {
     let read = disks.read(p, at, bytes);
     let written = write_part(disks, p, at, bytes);
@@ -42,8 +40,7 @@ fn leave_part<D: Disks>(
 ) -> Result<(), DeviceFault>
     requires few { count ≤ PART }
     requires fits { at + count ≤ D.extent disks.old p }
-    ensures made { IsOverwrite (of_disks D.Disks) p (record { at = at; count = count; make = left fill; calls = at_once count }) result disks.old disks.new }
-    ensures continues { D.continues disks.old disks.new }
+    ensures { IsOverwrite (of_disks D.Disks) p (record { at = at; count = count; make = left fill; calls = at_once count }) result disks.old disks.new }
 {
     match fill {
         Some(byte) => {
@@ -66,8 +63,7 @@ fn leave<D: Disks>(
     fill: Option<u8>,
 ) -> Result<(), DeviceFault>
     requires { at + count ≤ D.extent disks.old p }
-    ensures made { IsOverwrite (of_disks D.Disks) p (record { at = at; count = count; make = left fill; calls = in_parts count }) result disks.old disks.new }
-    ensures continues { D.continues disks.old disks.new }
+    ensures { IsOverwrite (of_disks D.Disks) p (record { at = at; count = count; make = left fill; calls = in_parts count }) result disks.old disks.new }
 {
     let mut answer = Ok(());
     let mut done = 0;
@@ -89,8 +85,7 @@ pub(crate) fn torn_store<K: Keeps>(
     w: u32,
 ) -> Result<(), DeviceFault>
     requires { i < K.extent keeps.old p }
-    ensures made { IsTornStore (of_words K.Keeps) p (record { tear = tear; index = i; word = w }) result keeps.old keeps.new }
-    ensures continues { K.continues keeps.old keeps.new }
+    ensures { IsTornStore (of_words K.Keeps) p (record { tear = tear; index = i; word = w }) result keeps.old keeps.new }
 {
     if tear.keep == 0 {
         return Ok(());
@@ -110,8 +105,7 @@ fn copy_words<K: Keeps>(
     requires source { from + 16 ≤ K.extent keeps.old p }
     requires place { to + 16 ≤ K.extent keeps.old p }
     requires apart { AreSameOrApart from to }
-    ensures made { IsTornCopy (of_words K.Keeps) p (record { from = from; to = to; count = count }) result keeps.old keeps.new }
-    ensures continues { K.continues keeps.old keeps.new }
+    ensures { IsTornCopy (of_words K.Keeps) p (record { from = from; to = to; count = count }) result keeps.old keeps.new }
 {
     for k in 0..count {
         let word = keeps.load(p, from + k);
@@ -135,8 +129,7 @@ pub(crate) fn torn_copy<K: Keeps>(
     requires source { from + 16 ≤ K.extent keeps.old p }
     requires place { to + 16 ≤ K.extent keeps.old p }
     requires apart { AreSameOrApart from to }
-    ensures made { IsTornCopy (of_words K.Keeps) p (record { from = from; to = to; count = kept_words tear }) result keeps.old keeps.new }
-    ensures continues { K.continues keeps.old keeps.new }
+    ensures { IsTornCopy (of_words K.Keeps) p (record { from = from; to = to; count = kept_words tear }) result keeps.old keeps.new }
 {
     if tear.keep >= 16 {
         return keeps.copy_line(p, from, to);
@@ -156,8 +149,7 @@ pub(crate) fn torn_write<D: Disks>(
     from: &[u8],
 ) -> Result<(), DeviceFault>
     requires { at + length from.now ≤ D.extent disks.old p }
-    ensures made { IsOverwrite (of_disks D.Disks) p (record { at = at; count = length from.now; make = (λ old. torn tear old from.now); calls = torn_calls tear (length from.now) }) result disks.old disks.new }
-    ensures continues { D.continues disks.old disks.new }
+    ensures { IsOverwrite (of_disks D.Disks) p (record { at = at; count = length from.now; make = (λ old. torn tear old from.now); calls = torn_calls tear (length from.now) }) result disks.old disks.new }
 {
     let keep = from.len().min(tear.keep as usize);
     let front = write_part(disks, p, at, &from[..keep]);

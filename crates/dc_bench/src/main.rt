@@ -11,6 +11,7 @@ mod worlds;
 
 ghost use Rattle.std.specs.Prelude.{◌<◌, ◌≤◌, ◌-◌, ◌^◌};
 
+use dc_limits::{ENTRIES, PROCESSES};
 use dc_media::STORES;
 use dc_memmedia::MemKeeps;
 use dc_protocols::Protocol;
@@ -47,11 +48,11 @@ fn calls_of(alloc: Global, keeps: &mut MemKeeps, what: &str, p: u32, count: u32)
     } else if what == "showing" {
         turns::turns::<Segment<MemKeeps>>(alloc, keeps, Protocol::Cpvs, &turns::SHOWING, count)?;
     } else if what == "entries" {
-        let (n, count) = (p.clamp(1, 8), count.min(1_000_000));
+        let (n, count) = (p.clamp(1, PROCESSES as u32), count.min(ENTRIES));
         worlds::entries::<Segment<MemKeeps>>(alloc, keeps, &turns::COMPUTING, n, count)?;
         return Some(keeps.calls(0));
     } else if what == "idle" {
-        let (n, count) = (p.clamp(1, 8), count.min(1_000_000));
+        let (n, count) = (p.clamp(1, PROCESSES as u32), count.min(ENTRIES));
         worlds::entries::<Segment<MemKeeps>>(alloc, keeps, &worlds::ENDING, n, count)?;
         return Some(keeps.calls(0));
     } else if what == "stores" {

@@ -8,9 +8,8 @@ ghost use Rattle.dc_proc.specs.Ups.{IsFit};
 
 use crate::work::{first, made};
 use dc_acts::Acts;
-use dc_checkpoint::Checkpoint;
+use dc_checkpoint::{CheckFault, Checkpoint};
 use dc_guest::Answer;
-use dc_kernel::CheckFault;
 use dc_media::{Keeps, STORES};
 use dc_proc::Up;
 use dc_protocols::Protocol;

@@ -4,8 +4,8 @@ ghost use Rattle.std.specs.Prelude.{◌≡◌, ◌+◌, ◌*◌, ◌<◌, ◌≤
 ghost use Rattle.dc_checkpoint.specs.Handles.{IsSame};
 ghost use Rattle.dc_kernel.specs.Layout.{kernel_words};
 
-use dc_checkpoint::Checkpoint;
-use dc_kernel::{CheckFault, Kernel, kernel_words};
+use dc_checkpoint::{CheckFault, Checkpoint};
+use dc_kernel::{Kernel, kernel_words};
 use std::alloc::{AllocError, Global};
 
 /// Loads so many words of a memory, each where the one before leads: its place, that word and one, added up.

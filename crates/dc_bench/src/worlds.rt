@@ -7,6 +7,7 @@ ghost use Rattle.dc_world.specs.Worlds.{MayRun};
 
 use dc_checkpoint::Checkpoint;
 use dc_elf::Image;
+use dc_limits::{ENTRIES, PROCESSES};
 use dc_memmedia::MemSink;
 use dc_model::{Entry, Turn};
 use dc_protocols::Protocol;
@@ -93,8 +94,8 @@ pub fn entries<C: Checkpoint + Drop>(
     count: u32,
 ) -> Option<()>
     requires some { 0 < n }
-    requires few { n ≤ 8 }
-    requires turns { count ≤ 1000000 }
+    requires few { n ≤ PROCESSES }
+    requires turns { count ≤ ENTRIES }
 {
     let Ok(setup) = setup_of(alloc, Protocol::Cpvs, words, n) else {
         return None;

@@ -2,6 +2,7 @@ ghost use Rattle.std.specs.Prelude.{◌≡◌};
 ghost use Rattle.dc_calls.specs.Calls.{Fits, call_of, is_within};
 
 use dc_isa::Regs;
+use dc_limits::{INPUT_BYTES, MESSAGE_BYTES};
 
 /// What an `ecall` asks for. The call's number is in x17, its arguments are in x10, x11 and x12.
 #[derive(Clone, Copy, Debug, PartialEq, Eq)]
@@ -31,8 +32,8 @@ pub enum Call {
 /// The most bytes that one output shows.
 const OUTPUT: u32 = 256;
 
-/// The most bytes of a record and of a message, and the least room that a guest gives for one.
-const RECORD: u32 = 64;
+/// The most bytes of a message, as a register counts them.
+const MESSAGE: u32 = MESSAGE_BYTES as u32;
 
 /// Whether bytes from an address on lie within a memory of this many bytes.
 fn is_within(from: u32, count: u32, size: u32) -> bool
@@ -50,13 +51,13 @@ pub fn read_call(regs: &Regs, size: u32, p: u32, n: u32) -> Call
     match regs.x[17] {
         1 => Call::Exit(first),
         2 if second <= OUTPUT && is_within(first, second, size) => Call::Output(first, second),
-        3 if second >= RECORD && is_within(first, second, size) => Call::Input(first, second),
+        3 if second >= INPUT_BYTES && is_within(first, second, size) => Call::Input(first, second),
         4 => Call::Clock,
         5 => Call::Random,
-        6 if first < n && first != p && third <= RECORD && is_within(second, third, size) => {
+        6 if first < n && first != p && third <= MESSAGE && is_within(second, third, size) => {
             Call::Send(first, second, third)
         }
-        7 if second >= RECORD && is_within(first, second, size) => Call::Receive(first, second),
+        7 if second >= MESSAGE && is_within(first, second, size) => Call::Receive(first, second),
         8 => Call::Own,
         2 | 3 | 6 | 7 => Call::BadArgument,
         _ => Call::Unknown,

@@ -1,7 +1,8 @@
 ghost use Rattle.std.specs.Prelude.{◌≡◌, ◌<◌, ◌-◌, ◌^◌, All, IfOk, length, map};
 ghost use Rattle.dc_check.specs.Findings.{finding_of, seen_finding};
 ghost use Rattle.dc_guest.specs.Guest.{guests_of};
-ghost use Rattle.dc_plain.specs.Playing.{CanStart, lists_of, seen_image};
+ghost use Rattle.dc_elf.specs.Loaded.{CanStart, seen_image};
+ghost use Rattle.dc_words.specs.Lists.{lists_of};
 
 use crate::comparing::{Unlike, compare_lines};
 use crate::finding::Finding;

@@ -5,7 +5,9 @@ ghost use Rattle.dc_guest.specs.Guest.{Guest, guests_of};
 ghost use Rattle.dc_model.specs.Drawn.{draws, may_answer};
 ghost use Rattle.dc_model.specs.World.{World, apply};
 ghost use Rattle.dc_model.specs.declared.visible.Visible.{Visible as Records};
-ghost use Rattle.dc_plain.specs.Playing.{CanStart, lists_of, seen_image, world_in};
+ghost use Rattle.dc_elf.specs.Loaded.{CanStart, seen_image};
+ghost use Rattle.dc_words.specs.Lists.{lists_of};
+ghost use Rattle.dc_plain.specs.Playing.{world_in};
 ghost use Rattle.dc_check.specs.Played.{Plays, Stands, played};
 
 use dc_acts::line_of;

@@ -1,11 +1,11 @@
 -- What the calls of a store say besides what its images stand for.
-use Rattle.std.specs.Prelude.{◌≡◌, ◌≢◌, ◌≤◌, ◌<◌, ◌^◌, ◌-◌, ℕ, List, Bool, true, false, Result, OnOk, IfOk, IsErrOf, length}
+use Rattle.std.specs.Prelude.{◌≡◌, ◌≢◌, ◌⊎◌, ◌≤◌, ◌<◌, ◌^◌, ◌-◌, ℕ, List, Bool, true, false, Result, OnOk, IfOk, IsErrOf, length}
 use Rattle.dc_media.specs.Causes.{Rose}
 use Rattle.dc_media.specs.declared.faults.MakeFault.{MakeFault}
 use Rattle.dc_media.specs.declared.faults.MakeFault.TheVariants as make
-use Rattle.dc_kernel.specs.declared.faults.CheckFault.{CheckFault}
-use Rattle.dc_kernel.specs.declared.faults.CheckFault.TheVariants as check
-use Rattle.dc_kernel.specs.declared.faults.StoreFault.{StoreFault}
+use Rattle.dc_checkpoint.specs.declared.faults.CheckFault.{CheckFault}
+use Rattle.dc_checkpoint.specs.declared.faults.CheckFault.TheVariants as check
+use Rattle.dc_checkpoint.specs.declared.faults.StoreFault.{StoreFault}
 use Rattle.dc_checkpoint.specs.States.{Form, Reading, State, form_in, unlogged}
 
 -- what a device shows of the stores on it, by their numbers
@@ -80,6 +80,10 @@ AreBelow bound numbers = (e : ℕ) → numbers e → e < bound
 -- each is this one
 abbrev pub AreAll : ℕ → (ℕ → Type 0) → Type 0
 AreAll number numbers = (e : ℕ) → numbers e → e ≡ number
+
+-- each is at least this one, or 0, where nothing was decided
+abbrev pub AreFrom : ℕ → (ℕ → Type 0) → Type 0
+AreFrom number numbers = (e : ℕ) → numbers e → (e ≡ 0) ⊎ (number ≤ e)
 
 -- none is over all that were there before
 abbrev pub AreNoHigher : (ℕ → Type 0) → (ℕ → Type 0) → Type 0

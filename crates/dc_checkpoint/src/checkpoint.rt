@@ -2,10 +2,12 @@ ghost use Rattle.std.specs.Prelude.{All, ◌≡◌, ◌≢◌, ◌⊎◌, ◌<�
 ghost use Rattle.dc_media.specs.Told.{Becomes};
 ghost use Rattle.dc_kernel.specs.Records.{IsRecord};
 ghost use Rattle.dc_words.specs.Words.{masked};
-ghost use Rattle.dc_checkpoint.specs.Calls.{AddsNothing, AreAll, AreAmong, AreBelow, AreNoHigher, FallsStore, IsCall, IsHandle, IsMaking, IsSameStore, IsUnrefused, KeepsNumbers, Narrows, Touches, always, device, handle, on, showing};
+ghost use Rattle.dc_checkpoint.specs.Calls.{AddsNothing, AreAll, AreAmong, AreBelow, AreFrom, AreNoHigher, FallsStore, IsCall, IsHandle, IsMaking, IsSameStore, IsUnrefused, KeepsNumbers, Narrows, Touches, always, device, handle, on, showing};
 ghost use Rattle.dc_checkpoint.specs.States.{Form, Gives, IsFit, IsForm, IsLogged, IsRead, IsSaved, IsText, Reading, State, form_in, number_in, unlogged};
 
-use dc_kernel::{CheckFault, LogRecord, Saved, StoreFault};
+use crate::{CheckFault, StoreFault};
+use dc_kernel::{LogRecord, Saved};
+use dc_limits::LOGGED_EVENTS;
 use dc_media::{MakeFault, STORES};
 use std::alloc::{AllocError, Global};
 
@@ -18,7 +20,7 @@ use std::alloc::{AllocError, Global};
 ///
 /// After a call that was stopped, failed or refused, after `fall`, and after a `format` that was stopped, only `decided`, `recover`
 /// and `fall` may be called until a `recover` is Ok; between an Ok `prepare` and its `finish` only `load`, `decide` and `decided`
-/// besides. All room is taken by `format`; no other call takes memory.
+/// besides. All room is taken by `format` and `attach`; no other call takes memory.
 ///
 /// The protocols that decide when a process commits, and two-phase commit, are those of Lowell and Chen, *Discount Checking*
 /// (1998) and *Exploring failure transparency and the limits of generic recovery* (2000).
@@ -61,6 +63,9 @@ pub trait Checkpoint: Sized {
 
     /// It may decide on this number.
     ghost decidable: { Self → Self.Device → ℕ → Type 0 };
+
+    /// It may log an event beside what was decided since its last state.
+    ghost loggable: { Self → Type 0 };
 
     /// The decided number is one that only `decide` and `commit` may change.
     ghost steady: { Self → Self.Device → Type 0 };
@@ -169,7 +174,8 @@ pub trait Checkpoint: Sized {
         requires lent { lent self.old dev.old }
         requires ready { ready self.old dev.old }
         requires record { IsRecord (form self.old).n rec.now }
-        requires room { logged self.old < 64 }
+        requires room { logged self.old < LOGGED_EVENTS }
+        requires decisions { loggable self.old }
         ensures call { IsCall (showing (device told stops faults untouched continues) (handle place size form first floor) lent leaves numbers steady) (on self.old dev.old) (on self.new dev.new) result }
         ensures decided_stays { KeepsNumbers (showing (device told stops faults untouched continues) (handle place size form first floor) lent leaves numbers steady) always (on self.old dev.old) (on self.new dev.new) }
         ensures ready { OnOk result (ready self.new dev.new) }
@@ -215,7 +221,7 @@ pub trait Checkpoint: Sized {
         requires lent { lent self.old dev.old }
         requires prepared { prepared self.old dev.old g }
         ensures touches { Touches (showing (device told stops faults untouched continues) (handle place size form first floor) lent leaves numbers steady) (on self.old dev.old) (on self.new dev.new) result }
-        ensures decided_stays { KeepsNumbers (showing (device told stops faults untouched continues) (handle place size form first floor) lent leaves numbers steady) always (on self.old dev.old) (on self.new dev.new) }
+        ensures decided_stays { KeepsNumbers (showing (device told stops faults untouched continues) (handle place size form first floor) lent leaves numbers steady) (AreFrom g) (on self.old dev.old) (on self.new dev.new) }
         ensures ready { OnOk result (ready self.new dev.new) }
         ensures memory { OnOk result (Becomes (contents self.old dev.old) (contents self.new dev.new) (λ before after. after ≡ before)) }
         ensures number { OnOk result ((number self.new ≡ g) × (logged self.new ≡ 0)) }
@@ -263,6 +269,9 @@ pub trait Checkpoint: Sized {
     /// Drops what is volatile. It makes no call of the device, and a recovery is owed.
     fn fall(&mut self)
         ensures falls { FallsStore (showing (device told stops faults untouched continues) (handle place size form first floor) lent leaves numbers steady) self.old self.new };
+
+    /// A ready store may log: it decided once at most since its last state.
+    ghost may_log: { (c : Self) (dev : Self.Device) → ready c dev → loggable c };
 
     /// A ready store stands for the same under each decided number from its floor on.
     ghost settled: { (c : Self) (dev : Self.Device) → ready c dev → (d e : ℕ) (reading : Reading) → floor c ≤ d → floor c ≤ e → leaves c dev d reading → leaves c dev e reading };

@@ -3,6 +3,8 @@
 #![tactic(auto)]
 
 mod checkpoint;
+mod faults;
 
 pub use checkpoint::Checkpoint;
-pub use dc_kernel::{CheckFault, LogRecord, Saved, StoreFault};
+pub use dc_kernel::{LogRecord, Saved};
+pub use faults::{CheckFault, StoreFault};

@@ -9,7 +9,7 @@ use Rattle.dc_media.specs.declared.TheConstants.{STORES}
 use Rattle.dc_armed.specs.Armed.{Armed, IsLater, IsUnrefused, all_stops, within}
 use Rattle.dc_armed.specs.Stops.{calls_left, capped, first_stop, is_of, waiting_for, waiting_of}
 use Rattle.dc_armed.specs.Turns.{WaitFirst}
-use Rattle.dc_armed.specs.declared.stop.PlannedStop.{PlannedStop}
+use Rattle.dc_media.specs.declared.planned.PlannedStop.{PlannedStop}
 use Rattle.dc_course.specs.Planned.{fewer_within}
 
 -- calls are numbered from 1
@@ -17,8 +17,8 @@ call_some : (stop : PlannedStop) (turn p : ℕ) → is_of turn p stop ≡ true �
 call_some stop turn p is =
     let some = (and_parts ((stop.turn == turn) && (stop.process == p) && nat_lt stop.process STORES) (nat_lt 0 stop.call) is).1 in grind (arith, nat_tests, some)
 
-module _ {D C : Type 0} (continues : D → D → Type 0) (device : Device D C) (s m t : Armed D) (turn p : ℕ) (lent : m.device ≡ s.device) (came : m.plan.came ≡ s.plan.came) (waits : WaitFirst s.plan.stops turn m.plan.waiting)
-    (later : IsLater continues device m t) (same : IsUnrefused (all_stops device.stops) (within device.faults) p s t) where
+module _ {D C : Type 0} (device : Device D C) (s m t : Armed D) (turn p : ℕ) (lent : m.device ≡ s.device) (came : m.plan.came ≡ s.plan.came) (waits : WaitFirst s.plan.stops turn m.plan.waiting)
+    (later : IsLater device m t) (same : IsUnrefused (all_stops device.stops) (within device.faults) p s t) where
   -- nothing was refused since the turn began
   same_since : IsUnrefused (all_stops device.stops) (within device.faults) p m t
   same_since =
@@ -35,7 +35,7 @@ module _ {D C : Type 0} (continues : D → D → Type 0) (device : Device D C) (
   by (Some stop) is found =
       let left : calls_left (waiting_for m.plan p) ≡ stop.call = ap calls_left (waits p ∙ ap (option_map waiting_of) is) in
       let calls = ap (λ d. capped (device.calls d p)) lent in
-      let fewer = fewer_within continues device m t p stop.call left (call_some stop turn p found.passes) later same_since in omega (arith, calls, fewer)
+      let fewer = fewer_within device m t p stop.call left (call_some stop turn p found.passes) later same_since in omega (arith, calls, fewer)
 
   -- the first stop that is planned for the turn comes, or fewer calls were made
   pub fewer_at : IsFoundFirst (is_of turn p) (λ stop. stop.call) s.plan.stops (first_stop s.plan.stops turn p) → IfSome (first_stop s.plan.stops turn p) (λ stop. capped (device.calls t.device p) < capped (device.calls s.device p) + stop.call)

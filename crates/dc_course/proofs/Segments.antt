@@ -11,9 +11,9 @@ use Rattle.dc_twophase.proofs.Pairs.{known}
 use Rattle.dc_world.specs.Opened.{whose}
 use Rattle.dc_world.specs.Stages.{decided_by}
 use Rattle.std.proofs.lemmas.List.{length-map}
-use Rattle.dc_armed.specs.declared.stop.PlannedStop.{PlannedStop}
+use Rattle.dc_media.specs.declared.planned.PlannedStop.{PlannedStop}
 use Rattle.dc_model.specs.declared.entry.Entry.{Entry}
-use Rattle.dc_plain.specs.Playing.{seen_image}
+use Rattle.dc_elf.specs.Loaded.{seen_image}
 use Rattle.dc_world.specs.declared.opening.Setup.{Setup}
 use Rattle.dc_course.specs.Courses.{Counts, IsCourse, StoresLeft, counts_of, setting_of}
 use Rattle.dc_course.specs.Headline.{Account, Setting}

@@ -1,9 +1,10 @@
 -- What a whole run promises: of what it lists and shows, of how it ended, and of the devices that it was lent.
 use Rattle.std.specs.Prelude.{◌≡◌, ◌<◌, ◌-◌, ◌^◌, ℕ, Bool, true, false, List, IsSomeAnd, Some, length, map, slice_get}
-use Rattle.dc_armed.specs.declared.stop.PlannedStop.{PlannedStop}
+use Rattle.dc_media.specs.declared.planned.PlannedStop.{PlannedStop}
 use Rattle.dc_checkpoint.specs.declared.checkpoint.Checkpoint as checkpoint
 use Rattle.dc_model.specs.declared.entry.Entry.{Entry}
-use Rattle.dc_plain.specs.Playing.{lists_of, seen_image}
+use Rattle.dc_elf.specs.Loaded.{seen_image}
+use Rattle.dc_words.specs.Lists.{lists_of}
 use Rattle.dc_proc.specs.Worlds.{StoresStand}
 use Rattle.dc_protocols.specs.Rules.{is_global}
 use Rattle.dc_recovery.specs.Core.{Core}

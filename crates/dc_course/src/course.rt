@@ -15,6 +15,7 @@ use crate::ending::Ending;
 use crate::planned::Planned;
 use crate::running::Running;
 use dc_acts::{Acts, Reserved};
+use dc_limits::{ENTRIES, PROCESSES};
 use dc_media::Sink;
 use dc_model::{Entry, Mark};
 use dc_world::{OpenFault, Setup, TurnFault, World};
@@ -92,10 +93,10 @@ pub fn run<C: Planned + Drop, O: Sink>(
     out: &mut O,
 ) -> Result<Course, OpenFault>
     requires some { 0 < length setup.images.items }
-    requires few { length setup.images.items ≤ 8 }
+    requires few { length setup.images.items ≤ PROCESSES }
     requires inputs { length setup.inputs.items ≡ length setup.images.items }
     requires good { All CanOpen setup.images.items }
-    requires entries { length schedule.now ≤ 1000000 }
+    requires entries { length schedule.now ≤ ENTRIES }
     requires processes { All (IsOfProcesses (length setup.images.items)) schedule.now }
     requires idle { C.idle dev.old }
     // Where the devices tell what they hold, the promise; and what a fault of a device or of the output says.

@@ -1,4 +1,4 @@
-use dc_kernel::StoreFault;
+use dc_checkpoint::StoreFault;
 
 /// How a run ended.
 #[derive(Clone, Copy, Debug, PartialEq, Eq)]

@@ -13,8 +13,9 @@ ghost use Rattle.dc_world.specs.Worlds.{IsOfProcesses};
 ghost use Rattle.dc_world.specs.declared.faults.OpenFault.TheVariants as opening;
 
 use crate::course::{Course, run};
-use dc_armed::{Armed, PlannedStop};
-use dc_media::{Keeps, Sink};
+use dc_armed::Armed;
+use dc_limits::{ENTRIES, PROCESSES};
+use dc_media::{Keeps, PlannedStop, Sink};
 use dc_model::Entry;
 use dc_vista::Segment;
 use dc_world::{OpenFault, Setup};
@@ -30,10 +31,10 @@ pub fn run_on_memory<K: Keeps, O: Sink>(
     out: &mut O,
 ) -> Result<Course, OpenFault>
     requires some { 0 < length setup.images.items }
-    requires few { length setup.images.items ≤ 8 }
+    requires few { length setup.images.items ≤ PROCESSES }
     requires inputs { length setup.inputs.items ≡ length setup.images.items }
     requires good { All CanOpen setup.images.items }
-    requires entries { length schedule.now ≤ 1000000 }
+    requires entries { length schedule.now ≤ ENTRIES }
     requires processes { All (IsOfProcesses (length setup.images.items)) schedule.now }
     ensures headline { IfOk result (λ course. TellsStores K.Keeps (length setup.images.items) keeps.old keeps.new →
         IsCourse (setting_of setup schedule.now stops.items) (account_of course) course.ending (output (O.held out.old) (O.held out.new)) (counts_of K.stops (capped_by K.calls) keeps.old keeps.new)

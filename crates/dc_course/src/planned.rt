@@ -1,7 +1,7 @@
 //! Stores whose devices stop as a plan says.
 
 ghost use Rattle.std.specs.Prelude.{◌≡◌, ◌≤◌, ◌<◌, ◌+◌, ◌-◌, ◌^◌, ℕ, IfSome, List, false};
-ghost use Rattle.dc_armed.specs.declared.stop.PlannedStop.{PlannedStop as PlannedStops};
+ghost use Rattle.dc_media.specs.declared.planned.PlannedStop.{PlannedStop as PlannedStops};
 ghost use Rattle.dc_armed.specs.Armed.{IsUnrefused};
 ghost use Rattle.dc_armed.specs.Stops.{capped, first_stop};
 ghost use Rattle.dc_armed.specs.Turns.{WaitNone};
@@ -84,7 +84,7 @@ impl<K: Keeps> Planned for Segment<Armed<K>> {
 
     ghost calls = { λ dev p. capped (K.calls dev.device p) };
 
-    ghost lasts = { λ old new. Lasts K.continues (of_words K.Keeps) old new };
+    ghost lasts = { λ old new. Lasts (of_words K.Keeps) old new };
 
     ghost loan = { λ old new. K.continues old.device new.device };
 
@@ -95,15 +95,15 @@ impl<K: Keeps> Planned for Segment<Armed<K>> {
         dev.at_turn(turn);
     }
 
-    ghost idle_none = { λ old new p none later. none_within K.continues (showing K.told K.extent K.stops K.faults K.calls) old new p none later };
+    ghost idle_none = { λ old new p none later. none_within (showing K.told K.extent K.stops K.faults K.calls K.continues) old new p none later };
 
-    ghost idle_stopped = { λ old new p none later rose less. stopped_within K.continues (showing K.told K.extent K.stops K.faults K.calls) old new p none later rose less };
+    ghost idle_stopped = { λ old new p none later rose less. stopped_within (showing K.told K.extent K.stops K.faults K.calls K.continues) old new p none later rose less };
 
-    ghost lasts_within = { λ old new later. lasts_within K.continues (showing K.told K.extent K.stops K.faults K.calls) old new later };
+    ghost lasts_within = { λ old new later. lasts_within (showing K.told K.extent K.stops K.faults K.calls K.continues) old new later };
 
-    ghost lasts_self = { λ dev. lasts_self K.continues (showing K.told K.extent K.stops K.faults K.calls) K.continues_self dev };
+    ghost lasts_self = { λ dev. lasts_self (showing K.told K.extent K.stops K.faults K.calls K.continues) K.continues_self dev };
 
-    ghost lasts_on = { λ old mid new first then. lasts_on K.continues (showing K.told K.extent K.stops K.faults K.calls) K.continues_on old mid new first then };
+    ghost lasts_on = { λ old mid new first then. lasts_on (showing K.told K.extent K.stops K.faults K.calls K.continues) K.continues_on old mid new first then };
 
     ghost loan_same = { λ old new last. last.later };
 

@@ -15,6 +15,7 @@ ghost use Rattle.dc_world.specs.declared.faults.TurnFault.{TurnFault as TurnFaul
 
 use crate::planned::Planned;
 use dc_acts::Reserved;
+use dc_limits::ENTRIES;
 use dc_media::Sink;
 use dc_model::{Entry, Mark};
 use dc_world::{TurnFault, World};
@@ -101,7 +102,7 @@ impl<C: Planned + Drop> Running<C> {
         requires left { length schedule.now ≤ self.old.world.processes.left }
         requires processes { All (IsOfProcesses (length self.old.world.processes.slots.items)) schedule.now }
         requires room { length schedule.now ≤ self.old.marks.room }
-        requires few { length schedule.now ≤ 1000000 }
+        requires few { length schedule.now ≤ ENTRIES }
         ensures ready { MayRun C.Checkpoint self.new.world dev.new }
         ensures long { length self.new.world.processes.slots.items ≡ length self.old.world.processes.slots.items }
         ensures used { OnOk result (length self.new.marks.items ≡ length schedule.now) }

@@ -14,8 +14,8 @@ use cases::{
     ENTRIES, FAULTS, LOGS, MESSAGES, OPENINGS, ROWS, SPOILED, TOGETHER, TOGETHER_TORN, TORN,
 };
 use coming::comes_to;
-use dc_armed::PlannedStop;
 use dc_cases::is_read;
+use dc_media::PlannedStop;
 use dc_memmedia::ListedCall;
 use dc_model::Entry;
 use runs::{run_lent, run_refused};

@@ -6,8 +6,8 @@ mod lent;
 
 use crate::calling::{Rig, at, byte, bytes, cases_hold, code, settings, small, words};
 use cases::{DISKS, WORDS};
-use dc_armed::{Armed, PlannedStop};
-use dc_media::{DeviceFault, Disks, Keeps, MakeFault, Tear};
+use dc_armed::Armed;
+use dc_media::{DeviceFault, Disks, Keeps, MakeFault, PlannedStop, Tear};
 use fakes::{FakeDisk, FakeWords};
 use std::alloc::Global;
 use std::test::Fail;

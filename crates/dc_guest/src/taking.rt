@@ -13,6 +13,7 @@ use crate::answer::Answer;
 use dc_calls::{BAD_ARGUMENT, Call, END_OF_INPUT, NOTHING_YET, Reply, UNKNOWN, answer};
 use dc_events::Next;
 use dc_isa::Regs;
+use dc_limits::MESSAGE_BYTES;
 use dc_links::Message;
 use dc_rv32::{Bus, write_bytes};
 
@@ -34,7 +35,7 @@ fn reply(regs: &mut Regs, first: u32, second: Option<u32>)
 /// Puts an input or a message into memory.
 fn put<B: Bus>(bus: &mut B, to: u32, message: &Message) -> Result<(), B::Stop>
     requires live { B.live bus.old }
-    requires within { to + 64 ≤ 4 * B.count bus.old }
+    requires within { to + MESSAGE_BYTES ≤ 4 * B.count bus.old }
     ensures put { OnOk result (Becomes (B.told bus.old) (B.told bus.new) (λ before after. (regs : Regs) → machine_of regs after ≡ put_at (machine_of regs before) to message.now)) }
     ensures count { B.count bus.new ≡ B.count bus.old }
     ensures live { OnOk result (B.live bus.new) }
@@ -54,7 +55,7 @@ pub(crate) fn hand_over<B: Bus>(
     sender: Option<u32>,
 ) -> Result<(), B::Stop>
     requires live { B.live bus.old }
-    requires within { to + 64 ≤ 4 * B.count bus.old }
+    requires within { to + MESSAGE_BYTES ≤ 4 * B.count bus.old }
     ensures taken { OnOk result (Becomes (B.told bus.old) (B.told bus.new) (λ before after.
         machine_of regs.new after ≡ answered (put_at (machine_of regs.old before) to message.now) (length message.now) sender)) }
     ensures count { B.count bus.new ≡ B.count bus.old }

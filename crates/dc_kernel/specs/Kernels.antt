@@ -1,6 +1,7 @@
 -- What of a process is saved beside its memory.
 use Rattle.std.specs.Prelude.{ℕ, ◌≡◌, ◌≤◌, ◌<◌, ◌^◌, ◌%◌, List, length, replicate, slice_index}
 use Rattle.std.specs.List.{AllByRecursion}
+use Rattle.dc_limits.specs.declared.sizes.TheConstants.{PROCESSES}
 use Rattle.dc_isa.specs.declared.regs.Regs.{Regs}
 use Rattle.dc_links.specs.Links.{Link, link_to, unused}
 use Rattle.dc_words.specs.Words.{AllBelow}
@@ -66,7 +67,7 @@ pub record IsLink (link : Link) : Type 0 where
 
 -- the values of a kernel, the messages apart
 pub record IsProcess (n p : ℕ) (status : Status) (regs : Regs) (received : List ℕ) (links : List Link) : Type 0 where
-  pub few : n ≤ 8
+  pub few : n ≤ PROCESSES
   pub one_of : p < n
   pub status_is : IsStatus status
   pub regs_are : IsRegs regs

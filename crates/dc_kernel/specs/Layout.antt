@@ -1,5 +1,6 @@
 -- Where the values of a kernel's text stand, in words: version 1.
 use Rattle.std.specs.Prelude.{ℕ, zero, suc, ◌+◌, ◌*◌, List, [], ◌∷◌, take, drop}
+use Rattle.dc_limits.specs.declared.sizes.TheConstants.{KEPT_MESSAGES, MESSAGE_BYTES}
 
 -- the version of the text
 abbrev pub version : ℕ
@@ -79,11 +80,11 @@ slots_at = 3
 
 -- how many slots an entry has
 abbrev pub slot_count : ℕ
-slot_count = 8
+slot_count = KEPT_MESSAGES
 
 -- the most bytes of a message
 abbrev pub message_room : ℕ
-message_room = 64
+message_room = MESSAGE_BYTES
 
 -- the words of so many bytes
 abbrev pub message_words : ℕ

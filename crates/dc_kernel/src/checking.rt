@@ -10,7 +10,7 @@ use crate::layout::{
     SLOT_COUNT, SLOT_WORDS, SLOTS_AT, STATUS_AT, VERSION, VERSION_AT, kernel_words,
 };
 use crate::status::GREATEST_CAUSE;
-use dc_links::MESSAGE_ROOM;
+use dc_limits::{MESSAGE_BYTES, PROCESSES};
 use dc_words::bytes_of;
 
 fn is_zero(words: &[u32]) -> bool
@@ -26,11 +26,11 @@ fn are_zero(bytes: &[u8]) -> bool
 }
 
 /// The bytes of a slot.
-pub fn slot_bytes(slot: &[u32]) -> [u8; MESSAGE_ROOM]
+pub fn slot_bytes(slot: &[u32]) -> [u8; MESSAGE_BYTES]
     requires { length slot.now ≡ slot_words }
     ensures { result ≡ bytes_in (drop 1 slot.now) }
 {
-    let mut bytes = [0; MESSAGE_ROOM];
+    let mut bytes = [0; MESSAGE_BYTES];
     bytes_of(&slot[BYTES_AT..], &mut bytes);
     bytes
 }
@@ -41,7 +41,7 @@ fn is_slot(slot: &[u32]) -> bool
     ensures { result ≡ is_slot slot.now }
 {
     let length = slot[LENGTH_AT] as usize;
-    length <= MESSAGE_ROOM && are_zero(&slot_bytes(slot)[length..])
+    length <= MESSAGE_BYTES && are_zero(&slot_bytes(slot)[length..])
 }
 
 /// Whether each of the first slots holds a message.
@@ -94,7 +94,7 @@ fn are_entries(n: u32, entries: &[u32]) -> bool
 
 /// Whether words of the right number are of process `p` of `n`, with entries that are.
 fn has_counts(n: u32, p: u32, words: &[u32]) -> bool
-    requires few { n ≤ 8 }
+    requires few { n ≤ PROCESSES }
     requires one_of { p < n }
     requires long { length words.now ≡ kernel_words n }
     ensures { result ≡ has_counts n p words.now }
@@ -130,7 +130,7 @@ fn has_status(words: &[u32]) -> bool
 /// The first thing that is wrong with words as the text of a kernel of process `p` of `n`.
 #[tactic(auto, unfolding(crate::specs::Faults::kernel_fault))]
 pub fn fault_in(n: u32, p: u32, words: &[u32]) -> Option<KernelFault>
-    requires few { n ≤ 8 }
+    requires few { n ≤ PROCESSES }
     requires one_of { p < n }
     ensures { result ≡ kernel_fault n p words.now }
 {

@@ -16,6 +16,7 @@ use crate::layout::{
 };
 use crate::status::Status;
 use dc_isa::Regs;
+use dc_limits::PROCESSES;
 use dc_links::{Links, Message};
 
 fn status_in(status: u32, code: u32) -> Status
@@ -68,7 +69,7 @@ fn read_link(links: &mut Links, q: u32, entry: &[u32])
 
 /// Sets what was received from and sent to each process to what the entries say.
 fn read_entries(received: &mut [u32], links: &mut Links, entries: &[u32])
-    requires few { length received.old ≤ 8 }
+    requires few { length received.old ≤ PROCESSES }
     requires receivers { length links.old ≡ length received.old }
     requires long { length entries.now ≡ entry_words * length received.old }
     requires entries { list_all is_entry (parts (length received.old) entry_words entries.now) ≡ true }

@@ -13,6 +13,7 @@ use crate::layout::{
     VERSION, VERSION_AT, VISIBLE_AT,
 };
 use crate::status::Status;
+use dc_limits::PROCESSES;
 use dc_links::{Links, Message};
 use dc_words::words_of;
 
@@ -79,7 +80,7 @@ fn write_entry(received: u32, links: &Links, q: u32, entry: &mut [u32])
 
 /// Writes the entries of all processes.
 fn write_entries(received: &[u32], links: &Links, entries: &mut [u32])
-    requires few { length received.now ≤ 8 }
+    requires few { length received.now ≤ PROCESSES }
     requires receivers { length links.now ≡ length received.now }
     requires room { length entries.old ≡ entry_words * length received.now }
     ensures text { entries.new ≡ entries_text received.now links.now }

@@ -5,6 +5,7 @@ ghost use Rattle.dc_links.specs.Links.{link_to, trimmed, unused, with_sent};
 
 use crate::status::Status;
 use dc_isa::Regs;
+use dc_limits::{KEPT_MESSAGES, PROCESSES};
 use dc_links::{Links, Message};
 use std::alloc::{AllocError, Global};
 use std::marker::Model;
@@ -48,7 +49,7 @@ impl Model for Kernel {
 impl Kernel {
     /// A process that is running and has done nothing. All memory is taken here.
     pub fn new(alloc: Global, n: u32, p: u32) -> Result<Kernel, AllocError>
-        requires few { n ≤ 8 }
+        requires few { n ≤ PROCESSES }
         requires one_of { p < n }
         ensures { IfOk result (λ k. k ≡ seen.fresh n p) }
     {
@@ -69,7 +70,7 @@ impl Kernel {
     /// How many processes there are.
     pub fn n(&self) -> u32
         ensures n { result ≡ self.now.n }
-        ensures few { result ≤ 8 }
+        ensures few { result ≤ PROCESSES }
         ensures one_of { self.now.p < result }
     {
         self.n
@@ -204,7 +205,7 @@ impl Kernel {
     pub fn keep(&mut self, q: u32, message: &Message)
         requires other { q ≢ self.old.p }
         requires one_of { q < self.old.n }
-        requires room { length (link_to self.old.links q).kept < 8 }
+        requires room { length (link_to self.old.links q).kept < KEPT_MESSAGES }
         requires sent { (link_to self.old.links q).sent < 2 ^ 32 - 1 }
         ensures { self.new ≡ record self.old { links = slice_set self.old.links q (with_sent (link_to self.old.links q) message.now) } }
     {

@@ -3,7 +3,7 @@
 ghost use Rattle.std.specs.Prelude.{◌≡◌, ◌≤◌, ◌+◌, ◌*◌};
 ghost use Rattle.dc_kernel.specs.Layout.{kernel_words};
 
-use dc_links::MESSAGE_ROOM;
+use dc_limits::{KEPT_MESSAGES, MESSAGE_BYTES, PROCESSES};
 
 /// The version of the text.
 pub const VERSION: u32 = 1;
@@ -60,7 +60,7 @@ pub const KEPT_AT: usize = 2;
 pub const SLOTS_AT: usize = 3;
 
 /// How many slots an entry has.
-pub const SLOT_COUNT: usize = 8;
+pub const SLOT_COUNT: usize = KEPT_MESSAGES;
 
 /// Of a slot: how many bytes its message has.
 pub const LENGTH_AT: usize = 0;
@@ -69,14 +69,14 @@ pub const LENGTH_AT: usize = 0;
 pub const BYTES_AT: usize = 1;
 
 /// The words of a slot.
-pub const SLOT_WORDS: usize = BYTES_AT + MESSAGE_ROOM / 4;
+pub const SLOT_WORDS: usize = BYTES_AT + MESSAGE_BYTES / 4;
 
 /// The words of an entry.
 pub const ENTRY_WORDS: usize = SLOTS_AT + SLOT_COUNT * SLOT_WORDS;
 
 /// How many words the text of a kernel of `n` processes has.
 pub fn kernel_words(n: u32) -> usize
-    requires { n ≤ 8 }
+    requires { n ≤ PROCESSES }
     ensures { result ≡ kernel_words n }
 {
     ENTRIES_AT + n as usize * ENTRY_WORDS

@@ -1,6 +1,7 @@
 -- A message is the list of its bytes.
 use Rattle.std.specs.Prelude.{ℕ, ◌-◌, List, ◌++◌, length, replicate}
+use Rattle.dc_limits.specs.declared.sizes.TheConstants.{MESSAGE_BYTES}
 
--- a message in a room of 64 bytes: zeros after its bytes
+-- a message in the room of one: zeros after its bytes
 abbrev pub padded : List ℕ → List ℕ
-padded message = message ++ replicate (64 - length message) 0
+padded message = message ++ replicate (MESSAGE_BYTES - length message) 0

@@ -6,4 +6,4 @@ mod links;
 mod message;
 
 pub use links::Links;
-pub use message::{MESSAGE_ROOM, Message};
+pub use message::Message;

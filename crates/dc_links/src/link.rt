@@ -3,11 +3,9 @@ ghost use Rattle.dc_links.specs.Links.{unused, message_numbered, none_kept, with
 
 use crate::message::Message;
 use circular_buffer::HeapCircularBuffer;
+use dc_limits::KEPT_MESSAGES;
 use std::alloc::{AllocError, Global};
 use std::marker::Model;
-
-/// The most messages that are kept for one receiver.
-const MOST_KEPT: usize = 8;
 
 /// What was sent to one receiver.
 #[derive(Drop)]
@@ -18,13 +16,14 @@ pub struct Link {
 
 impl Model for Link {
     ghost use Rattle.std.specs.Prelude.{◌≡◌, ◌≤◌, length};
+    ghost use Rattle.dc_limits.specs.declared.sizes.TheConstants.{KEPT_MESSAGES};
     ghost use Rattle.dc_links.specs.Links as seen;
 
     ghost Value = { seen.Link };
 
     ghost view = { λ l. record { sent = l.sent; kept = l.ring.items } };
 
-    ghost invariant = { λ l. (l.ring.capacity ≡ 8) × (length l.ring.items ≤ 8) × (length l.ring.items ≤ l.sent) };
+    ghost invariant = { λ l. (l.ring.capacity ≡ KEPT_MESSAGES) × (length l.ring.items ≤ KEPT_MESSAGES) × (length l.ring.items ≤ l.sent) };
 }
 
 impl Link {
@@ -34,7 +33,7 @@ impl Link {
     {
         Ok(Link {
             sent: 0,
-            ring: HeapCircularBuffer::with_capacity(alloc, MOST_KEPT)?,
+            ring: HeapCircularBuffer::with_capacity(alloc, KEPT_MESSAGES)?,
         })
     }
 
@@ -49,15 +48,15 @@ impl Link {
     /// How many of them are kept.
     pub fn kept_count(&self) -> u32
         ensures count { result ≡ length self.now.kept }
-        ensures few { result ≤ 8 }
+        ensures few { result ≤ KEPT_MESSAGES }
     {
         self.ring.len() as u32
     }
 
     /// Whether no other message can be kept.
     pub fn is_full(&self) -> bool
-        ensures full { IsTrue result ↔ (length self.now.kept ≡ 8) }
-        ensures few { length self.now.kept ≤ 8 }
+        ensures full { IsTrue result ↔ (length self.now.kept ≡ KEPT_MESSAGES) }
+        ensures few { length self.now.kept ≤ KEPT_MESSAGES }
     {
         self.ring.is_full()
     }
@@ -82,7 +81,7 @@ impl Link {
 
     /// Sends one message more.
     pub fn keep(&mut self, message: &Message)
-        requires room { length self.old.kept < 8 }
+        requires room { length self.old.kept < KEPT_MESSAGES }
         requires sent { self.old.sent < 2 ^ 32 - 1 }
         ensures kept { self.new ≡ with_sent self.old message.now }
         ensures numbered { message_numbered self.new self.old.sent ≡ Some message.now }

@@ -3,6 +3,7 @@ ghost use Rattle.dc_links.specs.Links.{unused, link_to, message_numbered, none_k
 
 use crate::link::Link;
 use crate::message::Message;
+use dc_limits::{KEPT_MESSAGES, PROCESSES};
 use std::alloc::{AllocError, Global};
 use std::marker::Model;
 
@@ -26,7 +27,7 @@ impl Links {
     /// Nothing sent to any of `n` receivers. All memory is taken here.
     pub fn new(alloc: Global, n: u32) -> Result<Links, AllocError>
         requires some { 1 ≤ n }
-        requires few { n ≤ 8 }
+        requires few { n ≤ PROCESSES }
         ensures { IfOk result (λ l. l ≡ replicate n unused) }
     {
         let mut links = Vec::with_capacity(alloc, n as usize)?;
@@ -49,7 +50,7 @@ impl Links {
     pub fn kept_count(&self, q: u32) -> u32
         requires { q < length self.now }
         ensures count { result ≡ length (link_to self.now q).kept }
-        ensures few { result ≤ 8 }
+        ensures few { result ≤ KEPT_MESSAGES }
     {
         self.links[q as usize].kept_count()
     }
@@ -58,7 +59,7 @@ impl Links {
     pub fn is_full(&self, q: u32) -> bool
         requires { q < length self.now }
         ensures full { IsTrue result ↔ (length (link_to self.now q).kept ≡ 8) }
-        ensures few { length (link_to self.now q).kept ≤ 8 }
+        ensures few { length (link_to self.now q).kept ≤ KEPT_MESSAGES }
     {
         self.links[q as usize].is_full()
     }
@@ -82,7 +83,7 @@ impl Links {
     /// Sends receiver `q` one message more.
     pub fn keep(&mut self, q: u32, message: &Message)
         requires receiver { q < length self.old }
-        requires room { length (link_to self.old q).kept < 8 }
+        requires room { length (link_to self.old q).kept < KEPT_MESSAGES }
         requires sent { (link_to self.old q).sent < 2 ^ 32 - 1 }
         ensures kept { self.new ≡ slice_set self.old q (with_sent (link_to self.old q) message.now) }
         ensures receivers { length self.new ≡ length self.old }

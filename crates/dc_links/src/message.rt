@@ -1,27 +1,26 @@
 ghost use Rattle.std.specs.Prelude.{◌≡◌, ◌≤◌, length};
 ghost use Rattle.dc_links.specs.Message.{padded};
 
+use dc_limits::MESSAGE_BYTES;
 use std::marker::Model;
 
-/// The most bytes of a message.
-pub const MESSAGE_ROOM: usize = 64;
-
-/// A message of at most 64 bytes. It is seen as their list.
+/// A message. It is seen as the list of its bytes.
 #[derive(Clone, Copy, Debug, PartialEq, Eq)]
 pub struct Message {
-    bytes: [u8; MESSAGE_ROOM],
+    bytes: [u8; MESSAGE_BYTES],
     len: usize,
 }
 
 impl Model for Message {
     ghost use Rattle.std.specs.Prelude.{ℕ, List, length, take, ◌≤◌, ◌≡◌};
+    ghost use Rattle.dc_limits.specs.declared.sizes.TheConstants.{MESSAGE_BYTES};
     ghost use Rattle.dc_links.specs.Message.{padded};
 
     ghost Value = { List ℕ };
 
     ghost view = { λ m. take m.len m.bytes };
 
-    ghost invariant = { λ m. (m.len ≤ 64) × (m.bytes ≡ padded (take m.len m.bytes)) × (length m.bytes ≡ 64) };
+    ghost invariant = { λ m. (m.len ≤ MESSAGE_BYTES) × (m.bytes ≡ padded (take m.len m.bytes)) × (length m.bytes ≡ MESSAGE_BYTES) };
 
     ghost inverse = { λ v. record { bytes = padded v; len = length v } };
 }
@@ -29,10 +28,10 @@ impl Model for Message {
 impl Message {
     /// A copy of the bytes.
     pub fn new(bytes: &[u8]) -> Message
-        requires { length bytes.now ≤ 64 }
+        requires { length bytes.now ≤ MESSAGE_BYTES }
         ensures { result ≡ bytes.now }
     {
-        let mut room = [0; MESSAGE_ROOM];
+        let mut room = [0; MESSAGE_BYTES];
         room[..bytes.len()].copy_from_slice(bytes);
         Message {
             bytes: room,
@@ -43,7 +42,7 @@ impl Message {
     /// The bytes.
     pub fn as_slice(&self) -> &[u8]
         ensures bytes { result.now ≡ self.now }
-        ensures short { length result.now ≤ 64 }
+        ensures short { length result.now ≤ MESSAGE_BYTES }
     {
         &self.bytes[..self.len]
     }
@@ -51,7 +50,7 @@ impl Message {
     /// The bytes with the zeros after them.
     pub fn as_padded(&self) -> &[u8]
         ensures bytes { result.now ≡ padded self.now }
-        ensures length { length result.now ≡ 64 }
+        ensures length { length result.now ≡ MESSAGE_BYTES }
     {
         &self.bytes
     }

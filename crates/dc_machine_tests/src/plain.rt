@@ -1,5 +1,5 @@
 ghost use Rattle.std.specs.Prelude.{◌≡◌, ◌≤◌, ◌<◌, IfOk, length};
-ghost use Rattle.dc_plain.specs.Playing.{CanStart};
+ghost use Rattle.dc_elf.specs.Loaded.{CanStart};
 
 use dc_elf::Image;
 use dc_links::Message;

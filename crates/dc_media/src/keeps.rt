@@ -1,8 +1,9 @@
-ghost use Rattle.std.specs.Prelude.{refl, ◌≡◌, ◌≢◌, ◌+◌, ◌<◌, ◌≤◌, ◌^◌, List, ℕ, Option, length, IfSome, OnOk, OnErr, slice_index, replicate};
+ghost use Rattle.std.specs.Prelude.{refl, ◌≡◌, ◌+◌, ◌<◌, ◌≤◌, ◌^◌, List, ℕ, Option, length, IfSome, OnOk, slice_index, replicate};
 ghost use Rattle.std.proofs.Common.{◌∙◌};
-ghost use Rattle.dc_media.specs.Causes.{AreCounted, IsCaused, IsMade, counted};
+ghost use Rattle.dc_media.specs.Calls.{IsCall, IsMaking};
+ghost use Rattle.dc_media.specs.Causes.{AreCounted, counted};
 ghost use Rattle.dc_media.specs.Stores.{AreSameOrApart, CopiesLine, SetsWord, SetsWords};
-ghost use Rattle.dc_media.specs.Told.{TellsOn, IsSameStore, showing};
+ghost use Rattle.dc_media.specs.Told.{showing};
 
 use crate::{DeviceFault, MakeFault, STORES};
 use std::alloc::Global;
@@ -32,14 +33,8 @@ pub trait Keeps {
     /// Makes a store of zeros.
     fn format(&mut self, alloc: Global, p: u32, words: u32) -> Result<(), MakeFault>
         requires { p < STORES }
-        ensures extent { OnOk result (extent self.new p ≡ words) }
-        ensures refused { OnErr result (extent self.new p ≡ extent self.old p) }
-        ensures zeros { OnOk result (IfSome (told self.new p) (λ ws. ws ≡ replicate words 0)) }
-        ensures tells { TellsOn (stops self.new p) (faults self.new p) (told self.old p) (told self.new p) }
-        ensures cause { IsMade (stops self.old p) (stops self.new p) (faults self.old p) (faults self.new p) result }
-        ensures calls { calls self.new p ≡ calls self.old p }
-        ensures others { (q : ℕ) → q ≢ p → IsSameStore (showing told extent stops faults calls) self.old self.new q }
-        ensures continues { continues self.old self.new };
+        ensures making { IsMaking (showing told extent stops faults calls continues) p words self.old self.new result }
+        ensures zeros { OnOk result (IfSome (told self.new p) (λ ws. ws ≡ replicate words 0)) };
 
     /// The word at an index.
     fn load(&self, p: u32, i: u32) -> u32
@@ -49,37 +44,25 @@ pub trait Keeps {
     /// Sets the word at an index. A refused call leaves it old or new.
     fn store(&mut self, p: u32, i: u32, w: u32) -> Result<(), DeviceFault>
         requires { i < extent self.old p }
-        ensures extent { extent self.new p ≡ extent self.old p }
+        ensures call { IsCall (showing told extent stops faults calls continues) p self.old self.new result }
         ensures word { SetsWord i w result (told self.old p) (told self.new p) }
-        ensures tells { TellsOn (stops self.new p) (faults self.new p) (told self.old p) (told self.new p) }
-        ensures cause { IsCaused (stops self.old p) (stops self.new p) (faults self.old p) (faults self.new p) result }
-        ensures calls { calls self.new p ≡ counted (calls self.old p) }
-        ensures others { (q : ℕ) → q ≢ p → IsSameStore (showing told extent stops faults calls) self.old self.new q }
-        ensures continues { continues self.old self.new };
+        ensures calls { calls self.new p ≡ counted (calls self.old p) };
 
     /// Sets words in a row from an index on, as stores of one after the other would. At a refused one the first of them are set.
     fn store_words(&mut self, p: u32, i: u32, words: &[u32]) -> Result<(), DeviceFault>
         requires { i + length words.now ≤ extent self.old p }
-        ensures extent { extent self.new p ≡ extent self.old p }
+        ensures call { IsCall (showing told extent stops faults calls continues) p self.old self.new result }
         ensures words { SetsWords i words.now result (told self.old p) (told self.new p) }
-        ensures tells { TellsOn (stops self.new p) (faults self.new p) (told self.old p) (told self.new p) }
-        ensures cause { IsCaused (stops self.old p) (stops self.new p) (faults self.old p) (faults self.new p) result }
-        ensures calls { AreCounted (length words.now) result (calls self.old p) (calls self.new p) }
-        ensures others { (q : ℕ) → q ≢ p → IsSameStore (showing told extent stops faults calls) self.old self.new q }
-        ensures continues { continues self.old self.new };
+        ensures calls { AreCounted (length words.now) result (calls self.old p) (calls self.new p) };
 
     /// Copies a line of 16 words to an index that is the same or lies apart. A refused call copies the first of them, in order.
     fn copy_line(&mut self, p: u32, from: u32, to: u32) -> Result<(), DeviceFault>
         requires source { from + 16 ≤ extent self.old p }
         requires place { to + 16 ≤ extent self.old p }
         requires apart { AreSameOrApart from to }
-        ensures extent { extent self.new p ≡ extent self.old p }
+        ensures call { IsCall (showing told extent stops faults calls continues) p self.old self.new result }
         ensures line { CopiesLine from to result (told self.old p) (told self.new p) }
-        ensures tells { TellsOn (stops self.new p) (faults self.new p) (told self.old p) (told self.new p) }
-        ensures cause { IsCaused (stops self.old p) (stops self.new p) (faults self.old p) (faults self.new p) result }
-        ensures calls { calls self.new p ≡ counted (calls self.old p) }
-        ensures others { (q : ℕ) → q ≢ p → IsSameStore (showing told extent stops faults calls) self.old self.new q }
-        ensures continues { continues self.old self.new };
+        ensures calls { calls self.new p ≡ counted (calls self.old p) };
 
     /// A told store has its extent.
     ghost told_extent: { (s : Self) (p : ℕ) → IfSome (told s p) (λ ws. length ws ≡ extent s p) };

@@ -1,5 +1,5 @@
 -- What a call does to the words of a process.
-use Rattle.std.proofs.Common.{◌≡◌, ◌≢◌, ℕ, zero, suc, min, ◌+◌, ◌-◌, ◌^◌, ◌<◌, ◌≤◌, ◌==◌, ◌&&◌, ◌⊎◌, nat_lt, List, [], ◌∷◌, Bool, true, false, Option, None, Some, refl, sym, subst, ap, ◌∙◌, arith, inl, inr, ⊎_elim, get_or, slice_index, slice_set, length, replicate, length-set, length-take, get_or-take, get_or-set_same}
+use Rattle.std.proofs.Common.{◌≡◌, ◌≢◌, ℕ, zero, suc, min, ◌+◌, ◌-◌, ◌^◌, ◌<◌, ◌≤◌, ◌==◌, ◌&&◌, ◌⊎◌, nat_lt, List, [], ◌∷◌, true, false, Option, None, Some, refl, sym, subst, ap, ◌∙◌, arith, inl, inr, ⊎_elim, get_or, slice_index, slice_set, length, replicate, length-set, length-take, get_or-take, get_or-set_same}
 use Rattle.std.proofs.lemmas.Bool.{and_parts, cases_Bool, lt-ltb, ltb-true}
 use Rattle.std.proofs.lemmas.List.{length-replicate, set-get_or, take_all}
 use Rattle.std.proofs.Math.Seq.{take-set-lt}

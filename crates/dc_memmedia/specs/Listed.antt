@@ -35,7 +35,7 @@ faults_of calls p = (counts_of calls p).faults
 
 -- a device whose state has such calls
 abbrev pub counting : {S C : Type 0} → (S → Calls) → (S → ℕ → Option C) → (S → ℕ → ℕ) → Device S C
-counting calls told extent = showing told extent (λ s p. stops_of (calls s) p) (λ s p. faults_of (calls s) p) (λ s p. calls_of (calls s) p)
+counting calls told extent = showing told extent (λ s p. stops_of (calls s) p) (λ s p. faults_of (calls s) p) (λ s p. calls_of (calls s) p) (λ old new. Unit {0})
 
 -- of this process and number
 abbrev pub is_call : ℕ → ℕ → ListedCall → Bool

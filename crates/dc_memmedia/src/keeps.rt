@@ -1,7 +1,7 @@
-ghost use Rattle.std.specs.Prelude.{◌≡◌, ◌≢◌, ◌+◌, ◌<◌, ◌≤◌, [], ℕ, false, IfOk, IfSome, IsErrOf, IsOk, OnErr, OnOk, replicate, slice_index, length};
-ghost use Rattle.dc_media.specs.Causes.{AreCounted, IsCaused, IsMade, counted};
+ghost use Rattle.std.specs.Prelude.{◌≡◌, ◌+◌, ◌<◌, ◌≤◌, [], false, IfOk, IfSome, IsErrOf, IsOk, OnErr, OnOk, replicate, slice_index, length};
+ghost use Rattle.dc_media.specs.Calls.{IsCall, IsMaking};
+ghost use Rattle.dc_media.specs.Causes.{AreCounted, counted};
 ghost use Rattle.dc_media.specs.Stores.{AreSameOrApart, CopiesLine, SetsWord, SetsWords};
-ghost use Rattle.dc_media.specs.Told.{IsSameStore, TellsOn};
 ghost use Rattle.dc_memmedia.specs.Keeps.{StoresRow, after, after_words, copied_line, in_memory, stored, told_words, with_words, words_of};
 ghost use Rattle.dc_memmedia.specs.Listed.{answer_of, calls_of, faults_of, next_call, none_made, stops_of};
 ghost use Rattle.dc_memmedia.specs.Due.{is_near};
@@ -104,12 +104,9 @@ impl MemKeeps {
     /// Sets words in a row by a store of each, until one is refused.
     fn store_each(&mut self, p: u32, i: u32, words: &[u32]) -> Result<(), DeviceFault>
         requires { i + length words.now ≤ length (words_of self.old p) }
-        ensures extent { length (words_of self.new p) ≡ length (words_of self.old p) }
+        ensures call { IsCall in_memory p self.old self.new result }
         ensures words { SetsWords i words.now result (told_words self.old p) (told_words self.new p) }
-        ensures tells { TellsOn (stops_of self.new.calls p) (faults_of self.new.calls p) (told_words self.old p) (told_words self.new p) }
-        ensures cause { IsCaused (stops_of self.old.calls p) (stops_of self.new.calls p) (faults_of self.old.calls p) (faults_of self.new.calls p) result }
         ensures calls { AreCounted (length words.now) result (calls_of self.old.calls p) (calls_of self.new.calls p) }
-        ensures others { (q : ℕ) → q ≢ p → IsSameStore in_memory self.old self.new q }
 
         // exactly when it is refused, and all that it changes
         ensures row { StoresRow p i words.now result self.old self.new }
@@ -149,16 +146,11 @@ impl Keeps for MemKeeps {
 
     fn format(&mut self, alloc: Global, p: u32, words: u32) -> Result<(), MakeFault>
         requires { p < STORES }
-        ensures extent { OnOk result (length (words_of self.new p) ≡ words) }
-        ensures refused { OnErr result (self.new ≡ self.old) }
+        ensures making { IsMaking in_memory p words self.old self.new result }
         ensures zeros { OnOk result (IfSome (told_words self.new p) (λ ws. ws ≡ replicate words 0)) }
-        ensures tells { TellsOn (stops_of self.new.calls p) (faults_of self.new.calls p) (told_words self.old p) (told_words self.new p) }
-        ensures cause { IsMade (stops_of self.old.calls p) (stops_of self.new.calls p) (faults_of self.old.calls p) (faults_of self.new.calls p) result }
-        ensures calls { calls_of self.new.calls p ≡ calls_of self.old.calls p }
-        ensures others { (q : ℕ) → q ≢ p → IsSameStore in_memory self.old self.new q }
-        ensures continues { Unit {0} }
 
-        // it fails for want of memory alone
+        // it fails for want of memory alone, and changes nothing then
+        ensures refused { OnErr result (self.new ≡ self.old) }
         ensures made { OnOk result (self.new ≡ with_words p (replicate words 0) self.old) }
         ensures calm { ¬ IsErrOf result MakeFault.Failed }
     {
@@ -181,13 +173,9 @@ impl Keeps for MemKeeps {
 
     fn store(&mut self, p: u32, i: u32, w: u32) -> Result<(), DeviceFault>
         requires { i < length (words_of self.old p) }
-        ensures extent { length (words_of self.new p) ≡ length (words_of self.old p) }
+        ensures call { IsCall in_memory p self.old self.new result }
         ensures word { SetsWord i w result (told_words self.old p) (told_words self.new p) }
-        ensures tells { TellsOn (stops_of self.new.calls p) (faults_of self.new.calls p) (told_words self.old p) (told_words self.new p) }
-        ensures cause { IsCaused (stops_of self.old.calls p) (stops_of self.new.calls p) (faults_of self.old.calls p) (faults_of self.new.calls p) result }
         ensures calls { calls_of self.new.calls p ≡ counted (calls_of self.old.calls p) }
-        ensures others { (q : ℕ) → q ≢ p → IsSameStore in_memory self.old self.new q }
-        ensures continues { Unit {0} }
 
         // exactly when it is refused, and all that it changes
         ensures answer { result ≡ answer_of (next_call self.old.calls p) }
@@ -202,13 +190,9 @@ impl Keeps for MemKeeps {
     /// Where none of its calls is listed, they are counted and the words are set at once; else by a store of each.
     fn store_words(&mut self, p: u32, i: u32, words: &[u32]) -> Result<(), DeviceFault>
         requires { i + length words.now ≤ length (words_of self.old p) }
-        ensures extent { length (words_of self.new p) ≡ length (words_of self.old p) }
+        ensures call { IsCall in_memory p self.old self.new result }
         ensures words { SetsWords i words.now result (told_words self.old p) (told_words self.new p) }
-        ensures tells { TellsOn (stops_of self.new.calls p) (faults_of self.new.calls p) (told_words self.old p) (told_words self.new p) }
-        ensures cause { IsCaused (stops_of self.old.calls p) (stops_of self.new.calls p) (faults_of self.old.calls p) (faults_of self.new.calls p) result }
         ensures calls { AreCounted (length words.now) result (calls_of self.old.calls p) (calls_of self.new.calls p) }
-        ensures others { (q : ℕ) → q ≢ p → IsSameStore in_memory self.old self.new q }
-        ensures continues { Unit {0} }
 
         // exactly when it is refused, and all that it changes
         ensures row { StoresRow p i words.now result self.old self.new }
@@ -231,13 +215,9 @@ impl Keeps for MemKeeps {
         requires source { from + 16 ≤ length (words_of self.old p) }
         requires place { to + 16 ≤ length (words_of self.old p) }
         requires apart { AreSameOrApart from to }
-        ensures extent { length (words_of self.new p) ≡ length (words_of self.old p) }
+        ensures call { IsCall in_memory p self.old self.new result }
         ensures line { CopiesLine from to result (told_words self.old p) (told_words self.new p) }
-        ensures tells { TellsOn (stops_of self.new.calls p) (faults_of self.new.calls p) (told_words self.old p) (told_words self.new p) }
-        ensures cause { IsCaused (stops_of self.old.calls p) (stops_of self.new.calls p) (faults_of self.old.calls p) (faults_of self.new.calls p) result }
         ensures calls { calls_of self.new.calls p ≡ counted (calls_of self.old.calls p) }
-        ensures others { (q : ℕ) → q ≢ p → IsSameStore in_memory self.old self.new q }
-        ensures continues { Unit {0} }
 
         // exactly when it is refused, and all that it changes
         ensures answer { result ≡ answer_of (next_call self.old.calls p) }

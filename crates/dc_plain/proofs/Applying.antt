@@ -9,7 +9,9 @@ use Rattle.dc_elf.specs.Images.{Image}
 use Rattle.dc_elf.specs.declared.image.Image as loaded
 use Rattle.dc_guest.specs.Guest.{Guest, guests_of}
 use Rattle.dc_model.specs.World.{World, apply, apply_answer, happened, opened, answer_for}
-use Rattle.dc_plain.specs.Playing.{answer_to, if_fits, lists_of, local_at, local_in, Played, played, procs_of, seen_image, standing_of, world_at, world_in}
+use Rattle.dc_elf.specs.Loaded.{seen_image}
+use Rattle.dc_words.specs.Lists.{lists_of}
+use Rattle.dc_plain.specs.Playing.{answer_to, if_fits, local_at, local_in, Played, played, procs_of, standing_of, world_at, world_in}
 use Rattle.dc_model.specs.Guests.{Answer, Guests}
 use Rattle.dc_model.specs.Process.{Local, begun, fits}
 use Rattle.dc_plain.proofs.Fitting.{items_are}

@@ -6,7 +6,8 @@ use Rattle.std.proofs.lemmas.List.{length-append, length-map}
 use Rattle.std.proofs.lemmas.Option.{slice_get-map, slice_get_past}
 use Rattle.dc_elf.specs.declared.image.Image as loaded
 use Rattle.dc_guest.specs.Guest.{guests_of}
-use Rattle.dc_plain.specs.Playing.{begun_at, local_at, local_of, procs_of, seen_image, started_at}
+use Rattle.dc_elf.specs.Loaded.{seen_image}
+use Rattle.dc_plain.specs.Playing.{begun_at, local_at, local_of, procs_of, started_at}
 use Rattle.dc_model.specs.Process.{begun}
 use Rattle.dc_plain.proofs.Lists.{get_end, get_front}
 use Rattle.dc_plain.specs.declared.process.Process.{Process}

@@ -13,7 +13,8 @@ use Rattle.dc_guest.specs.Answers.{may_answer}
 use Rattle.dc_guest.specs.Guest.{Guest, coming, event_of, guests_of, next_of}
 use Rattle.dc_guest.proofs.Coming.{by_kind, kind_at, not_ended}
 use Rattle.dc_model.specs.World.{World, answer_for}
-use Rattle.dc_plain.specs.Playing.{answer_to, can_be, ends_well, items_of, lists_of, local_at, local_of, procs_of}
+use Rattle.dc_words.specs.Lists.{items_of, lists_of}
+use Rattle.dc_plain.specs.Playing.{answer_to, can_be, ends_well, local_at, local_of, procs_of}
 use Rattle.dc_model.specs.Guests.{Answer, Event, Guests, is_clock, is_input, is_random, is_receive, is_sure}
 use Rattle.dc_model.specs.Process.{Local, fits, is_next_input}
 use Rattle.dc_model.specs.Guests.Event.{AtEnd, AtInternal, AtClock, AtRandom, AtInput, AtReceive, AtVisible, AtSend}

@@ -10,7 +10,7 @@ use Rattle.dc_guest.specs.Answers.{effect_of}
 use Rattle.dc_model.specs.declared.visible.Body.{Body}
 use Rattle.dc_guest.specs.declared.effect.Effect.TheVariants.{Nothing, Shows, Sends}
 use Rattle.dc_guest.specs.Guest.{Guest, after_answer, coming, guests_of}
-use Rattle.dc_plain.specs.Playing.{items_of}
+use Rattle.dc_words.specs.Lists.{items_of}
 use Rattle.dc_plain.proofs.Lists.{get_set_same, get_set_other}
 use Rattle.dc_model.specs.Guests.{Answer, Event}
 use Rattle.dc_model.specs.Process.{Local, moved, posted, shows, took_from, took_input}

@@ -2,7 +2,6 @@
 use Rattle.std.specs.Prelude.{◌≡◌, ◌<◌, ◌≤◌, ◌+◌, ◌%◌, ◌^◌, ℕ, All, Bool, not, is_some, true, ◌&&◌, List, [], Option, None, Some, Vec, IfSome, if◌then◌else◌, length, map, slice_get, slice_index, unwrap_or, vec_capacity}
 use Rattle.std.specs.declared.alloc.Global.{Global}
 use Rattle.dc_elf.specs.Images.{Image}
-use Rattle.dc_elf.specs.declared.image.Image as loaded
 use Rattle.dc_events.specs.Kinds.{kind_of}
 use Rattle.dc_guest.specs.Answers.{may_answer}
 use Rattle.dc_guest.specs.Guest.{Guest, coming, next_of, started}
@@ -13,13 +12,9 @@ use Rattle.dc_model.specs.Guests.Answer.{InputEnd, InputNext, ReceiveFrom}
 use Rattle.dc_model.specs.Guests.Event.{AtSend, AtVisible}
 use Rattle.dc_model.specs.declared.act.Act.{Act}
 use Rattle.dc_plain.specs.declared.process.Process.{Process}
+use Rattle.dc_words.specs.Lists.{items_of, lists_of}
 use Rattle.dc_model.specs.declared.visible.Body.{Body}
 use Rattle.dc_model.specs.declared.visible.Visible.{Visible}
-
--- the items of a vector, if it is there
-abbrev pub items_of : {A : Type 0} → Option (Vec A Global) → List A
-items_of None = []
-items_of (Some v) = v.items
 
 -- a process by its fields
 abbrev pub local_of : Process → Local Guest
@@ -30,14 +25,6 @@ local_of l = record {
   sent = λ q. items_of (slice_get l.sent.items q);
   visible = l.visible;
 }
-
--- an image by its fields
-abbrev pub seen_image : loaded.Image → Image
-seen_image image = record { memory = image.memory.items; entry = image.entry }
-
--- an image in which a guest can begin
-abbrev pub CanStart : loaded.Image → Type 0
-CanStart image = (16 ≤ length image.memory.items) × (length image.memory.items < 2 ^ 32) × (length image.memory.items % 4 ≡ 0) × (image.entry % 4 ≡ 0)
 
 -- process p of n before its first act, by its image
 abbrev pub started_at : ℕ → ℕ → Option Image → Local Guest
@@ -59,10 +46,6 @@ procs_of processes p = local_at (length processes) p (slice_get processes p)
 -- each is a process of so many
 abbrev pub AreAmong : ℕ → List Process → Type 0
 AreAmong n processes = All (λ (l : Process). l.guest.count ≡ n) processes
-
--- the items of each vector
-abbrev pub lists_of : {A : Type 0} → List (Vec A Global) → List (List A)
-lists_of vectors = map (λ v. v.items) vectors
 
 -- the answer that an act of a process gives, if it fits
 abbrev pub if_fits : {Mc : Type 0} → Guests Mc → World Mc → ℕ → Option Answer → Option Answer

@@ -8,5 +8,4 @@ mod playing;
 mod process;
 
 pub use hosted::HostedGuest;
-pub use memory::words_in;
 pub use plain::{ApplyFault, Plain};

@@ -4,11 +4,12 @@ ghost use Rattle.std.specs.Prelude.{◌≡◌, ◌≤◌, ◌<◌, ◌+◌, ◌-
 ghost use Rattle.dc_elf.specs.Images.{Image as Images};
 ghost use Rattle.dc_guest.specs.Answers.{answer_of};
 ghost use Rattle.dc_guest.specs.Guest.{coming, guests_of};
-ghost use Rattle.dc_plain.specs.Playing.{CanCount, CanStart, CanTake, HasRoom, IsWithin, begun_at, body_of, can_be, items_of, local_of, seen_image};
+ghost use Rattle.dc_elf.specs.Loaded.{CanStart, seen_image};
+ghost use Rattle.dc_words.specs.Lists.{items_of};
+ghost use Rattle.dc_plain.specs.Playing.{CanCount, CanTake, HasRoom, IsWithin, begun_at, body_of, can_be, local_of};
 ghost use Rattle.dc_model.specs.Process.{moved, took_from, took_input};
 
 use crate::hosted::HostedGuest;
-use crate::memory::words_in;
 use crate::process::Process;
 use dc_calls::Call;
 use dc_elf::Image;
@@ -16,6 +17,7 @@ use dc_events::{Kind, Next};
 use dc_guest::{Answer, Effect};
 use dc_links::Message;
 use dc_model::Body;
+use dc_words::to_words;
 use std::alloc::{AllocError, Global};
 
 /// Counts an input that was taken.
@@ -58,7 +60,7 @@ impl Process {
         ensures begun { IfOk result (λ l. local_of l ≡ begun_at p count (seen_image image.now)) }
         ensures count { IfOk result (λ l. l.guest.count ≡ count) }
     {
-        let words = words_in(alloc, &image.memory)?;
+        let words = to_words(alloc, &image.memory)?;
         Ok(Process {
             guest: HostedGuest::new(p, count, words, image.entry),
             place: 0,

@@ -1,6 +1,8 @@
 -- What holds of each plan that is read.
 use Rattle.std.specs.Prelude.{◌≡◌, ◌≤◌, ◌<◌, ◌^◌, ◌%◌, ℕ, true, All, Option, None, Some, length}
-use Rattle.dc_armed.specs.declared.stop.PlannedStop.{PlannedStop}
+use Rattle.dc_limits.specs.declared.bounds.TheConstants.{ENTRIES, INPUT_BYTES}
+use Rattle.dc_limits.specs.declared.sizes.TheConstants.{PROCESSES}
+use Rattle.dc_media.specs.declared.planned.PlannedStop.{PlannedStop}
 use Rattle.dc_plan.specs.Built.{is_medium_built}
 use Rattle.dc_plan.specs.Plans.{Plan, Source, InFile, FromSeed}
 use Rattle.dc_plan.specs.declared.plan.Medium.{Medium}
@@ -9,7 +11,7 @@ use Rattle.dc_plan.specs.declared.plan.Medium.TheVariants as medium
 -- a file, or up to a million turns from a seed below 2 ^ 63
 abbrev pub IsSourceAllowed : Source → Type 0
 IsSourceAllowed (InFile name) = Unit {0}
-IsSourceAllowed (FromSeed start turns) = (start < 2 ^ 63) × (turns ≤ 1000000)
+IsSourceAllowed (FromSeed start turns) = (start < 2 ^ 63) × (turns ≤ ENTRIES)
 
 -- nothing is filled on the medium Rio, and on the disk by a byte
 abbrev pub MayFill : Medium → Option ℕ → Type 0
@@ -19,7 +21,7 @@ MayFill medium.Disk (Some byte) = byte ≤ 255
 
 -- a stop of one of the guests that is within every bound
 pub record IsStopAllowed (medium : Medium) (guests : ℕ) (stop : PlannedStop) : Type 0 where
-  pub turn : stop.turn ≤ 999999
+  pub turn : stop.turn < ENTRIES
   pub process : stop.process < guests
   pub call_least : 1 ≤ stop.call
   pub call_most : stop.call ≤ 4000000000
@@ -33,9 +35,9 @@ pub record IsAllowed (plan : Plan) : Type 0 where
   pub memory_most : plan.memory ≤ 1048576
   pub memory_pages : plan.memory % 4096 ≡ 0
   pub guests_least : 1 ≤ length plan.guests
-  pub guests_most : length plan.guests ≤ 8
+  pub guests_most : length plan.guests ≤ PROCESSES
   pub inputs : length plan.inputs ≡ length plan.guests
-  pub records : All (All (λ bytes. length bytes ≤ 64)) plan.inputs
+  pub records : All (All (λ bytes. length bytes ≤ INPUT_BYTES)) plan.inputs
   pub schedule : IsSourceAllowed plan.schedule
   pub stops : All (IsStopAllowed plan.medium (length plan.guests)) plan.stops
   pub stops_most : length plan.stops ≤ 1000

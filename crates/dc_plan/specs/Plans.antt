@@ -4,11 +4,13 @@
 use Rattle.std.specs.Prelude.{bytes_eq, ◌≡◌, ℕ, ◌%◌, ◌==◌, List, [], length, map, replicate, codes, Bool, true, ◌||◌, ◌&&◌, not, Option, Some, None, is_some, Result, Ok, Err, if◌then◌else◌, nat_le, string_bytes, unwrap_or}
 use Rattle.std.specs.List.{list_all}
 use Rattle.std.specs.Str.{is_utf8}
+use Rattle.dc_limits.specs.declared.bounds.TheConstants.{ENTRIES}
+use Rattle.dc_limits.specs.declared.sizes.TheConstants.{PROCESSES}
 use Rattle.toml.specs.Data.{Data, Members, get_member}
 use Rattle.toml.specs.Parse.{parse_document}
 use Rattle.dc_words.specs.Hex.{bytes_of_hex}
 use Rattle.dc_words.specs.Results.{◌>>=◌, or_fault}
-use Rattle.dc_armed.specs.declared.stop.PlannedStop.{PlannedStop}
+use Rattle.dc_media.specs.declared.planned.PlannedStop.{PlannedStop}
 use Rattle.dc_protocols.specs.declared.protocol.Protocol.{Protocol}
 use Rattle.dc_protocols.specs.declared.protocol.Protocol.TheVariants as protocol
 use Rattle.dc_plan.specs.Keys.{key_text, is_key}
@@ -93,9 +95,9 @@ medium_row ms = needed key.Medium ms >>= (λ d. tested key.Medium (is_text d) tr
 abbrev pub memory_row : Members → Result ℕ PlanFault
 memory_row ms = needed key.Memory ms >>= (λ d. tested key.Memory (is_whole d) true (is_between 65536 1048576 d && natural_in d % 4096 == 0) (natural_in d))
 
--- guests: up to 8 names of their files
+-- guests: up to so many names of their files
 abbrev pub guests_row : Members → Result (List (List ℕ)) PlanFault
-guests_row ms = needed key.Guests ms >>= (λ d. tested key.Guests (is_array_of is_text d) (nat_le (length (items_in d)) 8) (nat_le 1 (length (items_in d)))
+guests_row ms = needed key.Guests ms >>= (λ d. tested key.Guests (is_array_of is_text d) (nat_le (length (items_in d)) PROCESSES) (nat_le 1 (length (items_in d)))
     (map text_in (items_in d)))
 
 -- the bytes of a record, by its text
@@ -146,7 +148,7 @@ seed_row ms = optional None (λ d. tested key.Seed (is_whole d) true
 -- turns: up to a million, needed with a seed, and not beside a schedule
 abbrev pub turns_row : Members → Result (Option ℕ) PlanFault
 turns_row ms = if has key.Turns ms || not (has key.Seed ms)
-    then optional None (λ d. tested key.Turns (is_whole d) true (not (has key.Schedule ms) && is_between 0 1000000 d) (Some (natural_in d))) (at_key key.Turns ms)
+    then optional None (λ d. tested key.Turns (is_whole d) true (not (has key.Schedule ms) && is_between 0 ENTRIES d) (Some (natural_in d))) (at_key key.Turns ms)
     else Err (Missing key.Turns)
 
 -- stop: up to 1,000 tables of the keys of a stop; none where the key is absent

@@ -1,5 +1,5 @@
-use dc_armed::PlannedStop;
 use dc_links::Message;
+use dc_media::PlannedStop;
 use dc_protocols::Protocol;
 
 /// Where checkpoints are kept.

@@ -14,6 +14,7 @@ use crate::keys::{Key, at_key};
 use crate::plan::Medium;
 use crate::stops::{are_stops_complete, are_stops_right, is_array_of_stops};
 use crate::values::{is_array_of_texts, items_in, text_in};
+use dc_limits::{ENTRIES, PROCESSES};
 use dc_protocols::Protocol;
 use toml::{Table, Value};
 
@@ -23,12 +24,6 @@ const LEAST_MEMORY: u32 = 65_536;
 const MOST_MEMORY: u32 = 1_048_576;
 
 const PAGE: u32 = 4_096;
-
-/// The most guests.
-const MOST_GUESTS: usize = 8;
-
-/// The most turns that are drawn from a seed.
-const MOST_TURNS: u32 = 1_000_000;
 
 /// The most stops.
 const MOST_STOPS: usize = 1_000;
@@ -128,7 +123,7 @@ pub fn guests_in(table: &Table) -> Result<&[Value], PlanFault>
         return Err(PlanFault::Kind(Key::Guests));
     }
     let guests = items_in(value);
-    if guests.len() > MOST_GUESTS {
+    if guests.len() > PROCESSES {
         return Err(PlanFault::TooMany(Key::Guests));
     }
     if guests.is_empty() {
@@ -211,7 +206,7 @@ pub fn turns_in(table: &Table) -> Result<Option<u32>, PlanFault>
         return Err(PlanFault::Kind(Key::Turns));
     };
     match u32::try_from(number) {
-        Ok(turns) if turns <= MOST_TURNS && !has(Key::Schedule, table) => Ok(Some(turns)),
+        Ok(turns) if turns <= ENTRIES && !has(Key::Schedule, table) => Ok(Some(turns)),
         _ => Err(PlanFault::Range(Key::Turns)),
     }
 }

@@ -3,7 +3,7 @@ use Rattle.std.proofs.Common.{◌≡◌, ◌∙◌, ℕ, List, [], ◌∷◌, re
 use Rattle.dc_checkpoint.specs.Calls.{IsCall, Moment}
 use Rattle.dc_checkpoint.specs.Handles.{showing_of}
 use Rattle.dc_checkpoint.specs.declared.checkpoint.Checkpoint as checkpoint
-use Rattle.dc_kernel.specs.declared.faults.CheckFault.{CheckFault}
+use Rattle.dc_checkpoint.specs.declared.faults.CheckFault.{CheckFault}
 use Rattle.dc_proc.specs.Calls.{Stores, done, refused}
 use Rattle.dc_proc.specs.Following.{DeviceLaws, stores_none, stores_then}
 use Rattle.dc_rv32.specs.Stores.{BreakOff, Follow, OnceAtMost}

@@ -10,7 +10,7 @@ use Rattle.dc_guest.specs.Nexts.{IfWaits, Waits}
 use Rattle.dc_guest.specs.declared.effect.Effect.{Effect}
 use Rattle.dc_guest.specs.declared.effect.Effect.TheVariants.{Nothing, Shows, Sends}
 use Rattle.dc_kernel.specs.Kernels.{Kernel}
-use Rattle.dc_kernel.specs.declared.faults.CheckFault.{CheckFault}
+use Rattle.dc_checkpoint.specs.declared.faults.CheckFault.{CheckFault}
 use Rattle.dc_kernel.specs.declared.status.Status.{Status as KernelStatus}
 use Rattle.dc_kernel.specs.declared.status.Status.TheVariants.{Running}
 use Rattle.dc_kernel.specs.Layout.{kernel_words}

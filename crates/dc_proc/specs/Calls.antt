@@ -3,7 +3,7 @@ use Rattle.std.specs.Prelude.{◌≡◌, Result, Ok, Err, OnOk}
 use Rattle.dc_checkpoint.specs.Calls.{AddsNothing, IsCall, Moment}
 use Rattle.dc_checkpoint.specs.Handles.{showing_of}
 use Rattle.dc_checkpoint.specs.declared.checkpoint.Checkpoint as checkpoint
-use Rattle.dc_kernel.specs.declared.faults.CheckFault.{CheckFault}
+use Rattle.dc_checkpoint.specs.declared.faults.CheckFault.{CheckFault}
 
 -- so far each call was done
 abbrev pub done : Result (Unit {0}) CheckFault

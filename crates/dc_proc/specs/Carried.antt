@@ -1,5 +1,7 @@
 -- What calls on one process over its store leave of it: whole, or cut off.
 use Rattle.std.specs.Prelude.{◌≤◌, ℕ, List, slice_index}
+use Rattle.dc_limits.specs.declared.bounds.TheConstants.{LOGGED_EVENTS}
+use Rattle.dc_limits.specs.declared.sizes.TheConstants.{KEPT_MESSAGES}
 use Rattle.dc_checkpoint.specs.declared.checkpoint.Checkpoint as checkpoint
 use Rattle.dc_elf.specs.Images.{Image}
 use Rattle.dc_guest.specs.Guest.{Guest, guests_of}
@@ -11,7 +13,7 @@ use Rattle.dc_recovery.specs.Systems.{System, system_of}
 
 -- the guests of this program under a protocol: eight messages of one sender may be uncommitted and are kept, and a log holds 64 answers
 abbrev pub system : List Image → List (List (List ℕ)) → Protocol → System Guest
-system images inputs protocol = system_of (guests_of images inputs) protocol 8 64
+system images inputs protocol = system_of (guests_of images inputs) protocol KEPT_MESSAGES LOGGED_EVENTS
 
 -- a process: its store, the device that is lent to that, and what it holds
 pub record Process (C D : Type 0) : Type 0 where

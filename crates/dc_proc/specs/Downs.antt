@@ -1,10 +1,11 @@
 -- What is left of a process that fell, and what one is that rose.
 use Rattle.std.specs.Prelude.{◌≡◌, ◌<◌, ◌≤◌, ℕ, List, Option, Result, Ok, Err, length, slice_index, vec_capacity}
+use Rattle.dc_limits.specs.declared.bounds.TheConstants.{LOGGED_EVENTS}
 use Rattle.dc_checkpoint.specs.States.{Gives, Reading}
 use Rattle.dc_elf.specs.Images.{Image}
 use Rattle.dc_guest.specs.Guest.{Guest}
 use Rattle.dc_kernel.specs.Layout.{kernel_words}
-use Rattle.dc_kernel.specs.declared.faults.CheckFault.{CheckFault}
+use Rattle.dc_checkpoint.specs.declared.faults.CheckFault.{CheckFault}
 use Rattle.dc_kernel.specs.declared.saved.Saved.{Saved}
 use Rattle.dc_model.specs.Guests.{Answer}
 use Rattle.dc_model.specs.Process.{oldest}
@@ -22,7 +23,7 @@ pub record IsDown (d : Down) : Type 0 where
   pub text_long : length d.text.items ≡ kernel_words d.saved.kernel.n
   pub based_long : length d.based.items ≡ d.saved.kernel.n
   pub others_long : length d.others.items ≡ d.saved.kernel.n
-  pub log_room : 64 ≤ vec_capacity d.saved.log
+  pub log_room : LOGGED_EVENTS ≤ vec_capacity d.saved.log
 
 -- whose process it is
 pub record IsOf (n p : ℕ) (protocol : Protocol) (size : ℕ) (d : Down) : Type 0 where

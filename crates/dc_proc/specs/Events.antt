@@ -1,5 +1,6 @@
 -- What an event does to what a process holds.
 use Rattle.std.specs.Prelude.{◌≢◌, ◌<◌, ◌+◌, ◌*◌, ◌^◌, ◌-◌, ℕ, List, length, slice_index, slice_set}
+use Rattle.dc_limits.specs.declared.sizes.TheConstants.{KEPT_MESSAGES}
 use Rattle.dc_calls.specs.declared.call.Call.TheVariants.{Exit, Send}
 use Rattle.dc_events.specs.declared.event.Next.{Next}
 use Rattle.dc_events.specs.declared.event.Next.TheVariants as next
@@ -66,12 +67,12 @@ pub record HasCountsFor (turns : ℕ) (k : Kernel) : Type 0 where
 
 -- a message has a receiver, and room
 abbrev pub HasRoom : Kernel → Effect → Type 0
-HasRoom k (Sends q message) = (q < k.n) × (q ≢ k.p) × (length (link_to k.links q).kept < 8)
+HasRoom k (Sends q message) = (q < k.n) × (q ≢ k.p) × (length (link_to k.links q).kept < KEPT_MESSAGES)
 HasRoom k _ = Unit {0}
 
 -- a send has room
 abbrev pub HasNextRoom : Kernel → Next → Type 0
-HasNextRoom k (next.Call (Send q from count)) = length (link_to k.links q).kept < 8
+HasNextRoom k (next.Call (Send q from count)) = length (link_to k.links q).kept < KEPT_MESSAGES
 HasNextRoom k _ = Unit {0}
 
 -- a send goes to a process that is there

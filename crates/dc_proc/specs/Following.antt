@@ -4,7 +4,7 @@ use Rattle.std.proofs.lemmas.Result.{on_ok_weaker}
 use Rattle.dc_checkpoint.specs.Calls.{IsCall, IsCounted, Moment}
 use Rattle.dc_checkpoint.specs.Handles.{same_start, same_then, showing_of}
 use Rattle.dc_checkpoint.specs.declared.checkpoint.Checkpoint as checkpoint
-use Rattle.dc_kernel.specs.declared.faults.CheckFault.{CheckFault}
+use Rattle.dc_checkpoint.specs.declared.faults.CheckFault.{CheckFault}
 use Rattle.dc_media.specs.Causes.{Rose}
 use Rattle.dc_proc.specs.Calls.{Stores, done}
 

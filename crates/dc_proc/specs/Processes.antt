@@ -1,14 +1,16 @@
 -- What the code of one process holds, and what its store may stand for. A process is the fold of its own answers, and needs no world.
 use Rattle.std.specs.Prelude.{◌≡◌, ◌==◌, ◌<◌, ◌≤◌, ◌+◌, ◌-◌, ◌⊎◌, ℕ, List, [], Bool, true, false, Option, IfSome, Ok, if◌then◌else◌, drop, length, map, slice_index}
+use Rattle.dc_limits.specs.declared.bounds.TheConstants.{LOGGED_EVENTS}
 use Rattle.dc_calls.specs.declared.call.Call.TheVariants.{Exit}
 use Rattle.dc_checkpoint.specs.States.{Form, Reading, State, number_in}
 use Rattle.dc_events.specs.declared.event.Next.{Next}
 use Rattle.dc_events.specs.declared.event.Next.TheVariants as next
 use Rattle.dc_guest.specs.Guest.{Guest, next_of}
 use Rattle.dc_kernel.specs.Kernels.{IsKernel, Kernel}
-use Rattle.dc_kernel.specs.Records.{input_call}
 use Rattle.dc_kernel.specs.Texts.{text_of}
 use Rattle.dc_kernel.specs.declared.records.LogRecord.{LogRecord}
+use Rattle.dc_kernel.specs.declared.reply.Reply.{Reply}
+use Rattle.dc_kernel.specs.declared.reply.Reply.TheVariants as reply
 use Rattle.dc_kernel.specs.declared.status.Status.{Status as KernelStatus}
 use Rattle.dc_kernel.specs.declared.status.Status.TheVariants.{Running, Exited, Trapped}
 use Rattle.dc_links.specs.Links.{Link, link_to, number_of_first}
@@ -53,11 +55,17 @@ pub record IsKernelAt (n p i : ℕ) (l : Local Guest) (words : List ℕ) (kernel
   pub received : (s : ℕ) → s < n → slice_index kernel.received s ≡ l.received s
   pub links : (q : ℕ) → q < n → IsLinkOf (l.sent q) (link_to kernel.links q)
 
--- what a log record tells: of input or of a message, nothing (0), something (1), or the end of the input
+-- what a logged request was told, as the model has it
+abbrev pub replied : Reply → Answer
+replied reply.InputNone = InputNone
+replied (reply.InputNext body) = InputNext body
+replied reply.InputEnd = InputEnd
+replied reply.ReceiveNone = ReceiveNone
+replied (reply.ReceiveFrom sender body) = ReceiveFrom sender body
+
+-- so of a log record
 abbrev pub answer_logged : LogRecord → Answer
-answer_logged rec = if rec.event == input_call
-    then (if rec.answer == 0 then InputNone else if rec.answer == 1 then InputNext rec.body else InputEnd)
-    else (if rec.answer == 0 then ReceiveNone else ReceiveFrom rec.sender rec.body)
+answer_logged rec = replied rec.told
 
 -- a log record as the theory has it
 abbrev pub logged_of : LogRecord → Logged
@@ -140,7 +148,7 @@ IsNumbered most leaves = (state : State) → leaves (Ok state) → number_in sta
 pub record IsPaired (held : Held) (form : Form) (number logged : ℕ) : Type 0 where
   pub form_is : form ≡ form_of held.kernel
   pub number_is : number ≡ held.kernel.commit
-  pub logged_is : logged + held.log_left ≡ 64
+  pub logged_is : logged + held.log_left ≡ LOGGED_EVENTS
 
 -- the kernel of the next commit
 abbrev pub next_commit : Kernel → Kernel
@@ -148,4 +156,4 @@ next_commit kernel = record kernel { commit = kernel.commit + 1 }
 
 -- what is held after it
 abbrev pub committed_held : Held → List ℕ → Held
-committed_held held based = record { kernel = next_commit held.kernel; unread = []; own = false; log_left = 64; based = based; others = held.others }
+committed_held held based = record { kernel = next_commit held.kernel; unread = []; own = false; log_left = LOGGED_EVENTS; based = based; others = held.others }

@@ -1,9 +1,11 @@
 -- A turn of one process: what its code finds, the acts that it adds, and what it leaves where it is stopped.
-use Rattle.std.specs.Prelude.{◌≡◌, ◌≢◌, ◌==◌, ◌<◌, ◌≤◌, ◌+◌, ◌++◌, ℕ, List, [], ◌∷◌, Bool, true, false, Option, None, Some, if◌then◌else◌, slice_index}
+use Rattle.std.specs.Prelude.{◌≡◌, ◌≢◌, ◌==◌, ◌<◌, ◌≤◌, ◌+◌, ◌++◌, ◌&&◌, not, nat_eq, ℕ, List, [], ◌∷◌, Bool, true, false, Option, None, Some, if◌then◌else◌, slice_index}
+use Rattle.dc_limits.specs.declared.sizes.TheConstants.{KEPT_MESSAGES}
 use Rattle.dc_acts.specs.Counted.{acts_of}
 use Rattle.dc_checkpoint.specs.States.{Reading}
 use Rattle.dc_checkpoint.specs.declared.checkpoint.Checkpoint as checkpoint
 use Rattle.dc_elf.specs.Images.{Image}
+use Rattle.dc_events.specs.declared.event.Kind.{Kind}
 use Rattle.dc_guest.specs.Guest.{Guest}
 use Rattle.dc_guest.specs.declared.effect.Effect.{Effect}
 use Rattle.dc_guest.specs.declared.effect.Effect.TheVariants.{Shows}
@@ -16,8 +18,12 @@ use Rattle.dc_model.specs.World.{act_of}
 use Rattle.dc_model.specs.declared.act.Taken.{Taken}
 use Rattle.dc_proc.specs.Carried.{IsIn, Process, system}
 use Rattle.dc_proc.specs.Processes.{Stands}
+use Rattle.dc_proc.specs.Ups.{held}
 use Rattle.dc_proc.specs.declared.shown.Shown.{Shown}
+use Rattle.dc_proc.specs.declared.up.Up.{Up}
+use Rattle.dc_protocols.specs.Rules.{at_inputs}
 use Rattle.dc_protocols.specs.declared.protocol.Protocol.{Protocol}
+use Rattle.dc_protocols.specs.declared.protocol.Since.{Since}
 use Rattle.dc_recovery.specs.Alone.{IsAnswerAlone, MayStopAlone, answers_alone, status_alone}
 use Rattle.dc_recovery.specs.Core.{Status}
 use Rattle.dc_recovery.specs.Parts.{Place}
@@ -27,13 +33,24 @@ use Rattle.dc_recovery.specs.Turned.{has_act}
 
 -- a receipt that makes eight since the last commit
 abbrev pub makes_eight : List ℕ → List ℕ → Answer → Bool
-makes_eight received based (ReceiveFrom s message) = slice_index received s + 1 == slice_index based s + 8
+makes_eight received based (ReceiveFrom s message) = slice_index received s + 1 == slice_index based s + KEPT_MESSAGES
 makes_eight received based _ = false
 
 -- nothing is left to read
 abbrev pub is_none : List LogRecord → Bool
 is_none [] = true
 is_none (x ∷ unread) = false
+
+-- by what its protocol asks, at an event of this kind that is answered so; the last says whether any process had an unlogged nondeterministic event since the last
+-- commit of all
+abbrev pub since_of : Up → Kind → Answer → Bool → Since
+since_of u kind a any = record {
+  own = u.own;
+  any = any;
+  full = nat_eq u.log_left 0;
+  eighth = makes_eight u.kernel.received u.based.items a;
+  replay = at_inputs kind && not (is_none (held u).unread);
+}
 
 -- what is shown, with its number
 abbrev pub shown_of : Effect → ℕ → Option Shown

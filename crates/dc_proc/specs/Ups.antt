@@ -1,5 +1,6 @@
 -- What a process of the code that is up holds.
 use Rattle.std.specs.Prelude.{◌≡◌, ◌≤◌, ◌*◌, drop, length, vec_capacity}
+use Rattle.dc_limits.specs.declared.bounds.TheConstants.{LOGGED_EVENTS}
 use Rattle.dc_checkpoint.specs.declared.checkpoint.Checkpoint as checkpoint
 use Rattle.dc_kernel.specs.Layout.{kernel_words}
 use Rattle.dc_proc.specs.Processes.{Held, IsPaired, has_ended}
@@ -26,7 +27,7 @@ pub record IsWhole (u : Up) : Type 0 where
   pub others_long : length u.others.items ≡ u.kernel.n
   pub received_long : length u.kernel.received ≡ u.kernel.n
   pub links_long : length u.kernel.links ≡ u.kernel.n
-  pub log_room : 64 ≤ vec_capacity u.log
+  pub log_room : LOGGED_EVENTS ≤ vec_capacity u.log
 
 -- what no turn changes
 pub record IsSameUp (old new : Up) : Type 0 where

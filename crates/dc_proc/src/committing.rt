@@ -14,11 +14,8 @@ ghost use Rattle.dc_proc.specs.Ups.{IsSameUp, IsWhole, held};
 ghost use Rattle.dc_recovery.specs.Parts.{committed, first_of, torn};
 
 use crate::up::{Up, copy_received};
-use dc_checkpoint::Checkpoint;
-use dc_kernel::CheckFault;
-
-/// The most events that a log holds.
-const LOG_ROOM: u32 = 64;
+use dc_checkpoint::{CheckFault, Checkpoint};
+use dc_limits::LOGGED_EVENTS;
 
 impl Up {
     /// Writes the text of its kernel as of the commit of this number, for a commit of all processes together: it counts once that is
@@ -57,14 +54,14 @@ impl Up {
     /// Notes that a commit was acknowledged: nothing is left to read, own is clear, the log is empty.
     pub fn settle(&mut self)
         requires whole { IsWhole self.old }
-        ensures held { held self.new ≡ record (held self.old) { unread = []; own = false; log_left = 64; based = self.new.based.items } }
+        ensures held { held self.new ≡ record (held self.old) { unread = []; own = false; log_left = LOGGED_EVENTS; based = self.new.based.items } }
         ensures based { IsCopied self.old.kernel self.new.based.items }
         ensures same { IsSameUp self.old self.new }
         ensures whole { IsWhole self.new }
     {
         self.read = self.log.len();
         self.own = false;
-        self.log_left = LOG_ROOM;
+        self.log_left = LOGGED_EVENTS;
         copy_received(&self.kernel, &mut self.based);
     }
 

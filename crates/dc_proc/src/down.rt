@@ -5,7 +5,7 @@ ghost use Rattle.dc_checkpoint.specs.Calls.{AreAll, AreNoHigher, FallsStore, Kee
 ghost use Rattle.dc_checkpoint.specs.Handles.{showing_of};
 ghost use Rattle.dc_checkpoint.specs.States.{Gives, Reading};
 ghost use Rattle.dc_kernel.specs.Kernels.{IsKernel};
-ghost use Rattle.dc_kernel.specs.declared.faults.StoreFault as faults;
+ghost use Rattle.dc_checkpoint.specs.declared.faults.StoreFault as faults;
 ghost use Rattle.dc_links.specs.Links.{link_to, number_of_first};
 ghost use Rattle.dc_proc.specs.Downs.{IsDown, IsOf, Rises, RisesAt, based_of, fault_only};
 ghost use Rattle.dc_proc.specs.Processes.{IsCopied, IsNumbered, IsPaired};
@@ -13,8 +13,9 @@ ghost use Rattle.dc_proc.specs.Ups.{IsWhole, held};
 
 use crate::holding::{copy_firsts, guest_of};
 use crate::up::{Up, copy_received};
-use dc_checkpoint::Checkpoint;
-use dc_kernel::{CheckFault, Saved};
+use dc_checkpoint::{CheckFault, Checkpoint};
+use dc_kernel::Saved;
+use dc_limits::LOGGED_EVENTS;
 use dc_protocols::Protocol;
 use std::mem;
 
@@ -68,11 +69,11 @@ impl Down {
     fn up(self) -> Up
         requires down { IsDown self }
         requires kernel { IsKernel self.saved.kernel.n self.saved.kernel.p self.saved.kernel }
-        requires log { length self.saved.log.items ≤ 64 }
+        requires log { length self.saved.log.items ≤ LOGGED_EVENTS }
         ensures kernel { (held result).kernel ≡ self.saved.kernel }
         ensures log { (held result).unread ≡ self.saved.log.items }
         ensures own { (held result).own ≡ false }
-        ensures left { (held result).log_left + length self.saved.log.items ≡ 64 }
+        ensures left { (held result).log_left + length self.saved.log.items ≡ LOGGED_EVENTS }
         ensures based { IsCopied self.saved.kernel (held result).based }
         ensures others { (q : ℕ) → q < self.saved.kernel.n → slice_index (held result).others q ≡ number_of_first (link_to self.saved.kernel.links q) }
         ensures whole { IsWhole result }
@@ -94,7 +95,7 @@ impl Down {
         copy_received(&kernel, &mut based);
         copy_firsts(&kernel, &mut others);
         let guest = guest_of(&kernel);
-        let log_left = 64 - log.len() as u32;
+        let log_left = LOGGED_EVENTS - log.len() as u32;
         Up {
             protocol,
             size,
@@ -148,18 +149,18 @@ impl Down {
     pub fn rise(self, saved: &mut Saved) -> Up
         requires down { IsDown self }
         requires kernel { IsKernel self.saved.kernel.n self.saved.kernel.p saved.old.kernel }
-        requires log { length saved.old.log.items ≤ 64 }
-        requires room { 64 ≤ vec_capacity saved.old.log }
+        requires log { length saved.old.log.items ≤ LOGGED_EVENTS }
+        requires room { LOGGED_EVENTS ≤ vec_capacity saved.old.log }
         ensures kernel { (held result).kernel ≡ saved.old.kernel }
         ensures log { (held result).unread ≡ saved.old.log.items }
         ensures own { (held result).own ≡ false }
-        ensures left { (held result).log_left + length saved.old.log.items ≡ 64 }
+        ensures left { (held result).log_left + length saved.old.log.items ≡ LOGGED_EVENTS }
         ensures based { IsCopied saved.old.kernel (held result).based }
         ensures others { (q : ℕ) → q < saved.old.kernel.n → slice_index (held result).others q ≡ number_of_first (link_to saved.old.kernel.links q) }
         ensures risen { RisesAt saved.old (held result) }
         ensures whole { IsWhole result }
         ensures protocol { (result.protocol ≡ self.protocol) × (result.size ≡ self.size) }
-        ensures room { 64 ≤ vec_capacity saved.new.log }
+        ensures room { LOGGED_EVENTS ≤ vec_capacity saved.new.log }
         ensures place { (saved.new.kernel.n ≡ saved.old.kernel.n) × (saved.new.kernel.p ≡ saved.old.kernel.p) }
     {
         let mut down = self;

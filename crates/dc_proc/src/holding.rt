@@ -18,11 +18,9 @@ ghost use Rattle.dc_recovery.specs.Saves.{Save, log_end};
 use crate::up::{Up, copy_received};
 use dc_guest::Guest;
 use dc_kernel::{Kernel, LogRecord, Status, kernel_words};
+use dc_limits::LOGGED_EVENTS;
 use dc_protocols::Protocol;
 use std::alloc::{AllocError, Global};
-
-/// The most events that a log holds.
-const LOG_ROOM: usize = 64;
 
 /// Whether a process of this status takes no more turns.
 fn is_over(status: Status) -> bool
@@ -96,7 +94,7 @@ impl Up {
         let mut based = vec![in alloc; 0; n]?;
         let mut others = vec![in alloc; 0; n]?;
         let mut text = vec![in alloc; 0; kernel_words(kernel.n())]?;
-        let log = Vec::with_capacity(alloc, LOG_ROOM)?;
+        let log = Vec::with_capacity(alloc, LOGGED_EVENTS as usize)?;
         kernel.encode(&mut text);
         copy_received(&kernel, &mut based);
         copy_firsts(&kernel, &mut others);
@@ -109,7 +107,7 @@ impl Up {
             log,
             read: 0,
             own: false,
-            log_left: 64,
+            log_left: LOGGED_EVENTS,
             based,
             others,
             text,

@@ -19,5 +19,6 @@ mod up;
 
 pub use down::Down;
 pub use laws::processes_stand;
+pub use logging::answer_in;
 pub use shown::Shown;
 pub use up::Up;

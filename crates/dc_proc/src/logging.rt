@@ -2,47 +2,63 @@
 
 ghost use Rattle.std.specs.Prelude.{◌≡◌, ◌<◌, ◌≤◌, ◌+◌, ◌-◌, ℕ, List, [], false, true, OnErr, OnOk, length, slice_index};
 ghost use Rattle.dc_checkpoint.specs.Calls.{AreAmong, IsCall, on};
+ghost use Rattle.dc_events.specs.declared.event.Kind.{Kind as Kinds};
 ghost use Rattle.dc_guest.specs.Answers.{answer_of, may_answer};
-ghost use Rattle.dc_kernel.specs.Records.{IsRecord};
+ghost use Rattle.dc_kernel.specs.Kernels.{Kernel as Kernels};
+ghost use Rattle.dc_kernel.specs.Records.{IsRecord, sender_of};
 ghost use Rattle.dc_media.specs.Told.{Becomes};
 ghost use Rattle.dc_checkpoint.specs.Handles.{showing_of};
 ghost use Rattle.dc_proc.specs.Carried.{Carries, Leaves, process};
 ghost use Rattle.dc_proc.specs.Events.{IsSender};
-ghost use Rattle.dc_proc.specs.Processes.{IsNumbered, IsPaired, logged_of};
+ghost use Rattle.dc_proc.specs.Processes.{IsNumbered, IsPaired, answer_logged, logged_of, replied};
 ghost use Rattle.dc_proc.specs.Ups.{IsSameUp, IsWhole, held};
 ghost use Rattle.dc_protocols.specs.Rules.{at_inputs};
 ghost use Rattle.dc_recovery.specs.Parts.{logged, second_of, torn_log};
 
 use crate::up::Up;
-use dc_checkpoint::Checkpoint;
-use dc_events::Kind;
+use dc_checkpoint::{CheckFault, Checkpoint};
 use dc_guest::Answer;
-use dc_kernel::{CheckFault, LogRecord};
-use dc_links::Message;
+use dc_kernel::{LogRecord, Reply};
+
+/// What a request that is answered so was told.
+fn reply_of(answer: &Answer) -> Reply
+    ensures told { (kind : Kinds) → at_inputs kind ≡ true → may_answer (answer_of answer.now) kind ≡ true → replied result ≡ answer_of answer.now }
+    ensures sender { (kernel : Kernels) → 0 < kernel.n → IsSender kernel (answer_of answer.now) → sender_of result < kernel.n }
+{
+    match *answer {
+        Answer::InputNone => Reply::InputNone,
+        Answer::InputNext(body) => Reply::InputNext(body),
+        Answer::InputEnd => Reply::InputEnd,
+        Answer::ReceiveFrom(sender, body) => Reply::ReceiveFrom(sender, body),
+        _ => Reply::ReceiveNone,
+    }
+}
+
+/// What a log record tells.
+pub fn answer_in(rec: &LogRecord) -> Answer
+    ensures { answer_of result ≡ answer_logged rec.now }
+{
+    match rec.told {
+        Reply::InputNone => Answer::InputNone,
+        Reply::InputNext(body) => Answer::InputNext(body),
+        Reply::InputEnd => Answer::InputEnd,
+        Reply::ReceiveNone => Answer::ReceiveNone,
+        Reply::ReceiveFrom(sender, body) => Answer::ReceiveFrom(sender, body),
+    }
+}
 
 impl Up {
-    /// The log record of an answer.
-    pub(crate) fn record_of(&self, kind: Kind, answer: &Answer) -> LogRecord
+    /// The log record of an answer to a request.
+    pub(crate) fn record_of(&self, answer: &Answer) -> LogRecord
         requires sender { IsSender self.now.kernel (answer_of answer.now) }
-        ensures logged { at_inputs kind ≡ true → may_answer (answer_of answer.now) kind ≡ true → logged_of result ≡ record { position = self.now.kernel.position; answer = answer_of answer.now } }
+        ensures logged { (kind : Kinds) → at_inputs kind ≡ true → may_answer (answer_of answer.now) kind ≡ true → logged_of result ≡ record { position = self.now.kernel.position; answer = answer_of answer.now } }
         ensures record { IsRecord self.now.kernel.n result }
     {
-        let event = if kind == Kind::Input { 3 } else { 7 };
-        let empty = Message::new(&[]);
         // For the proof: a sender is below n, and n is over 0.
         let _n = self.kernel.n();
-        let (told, sender, body) = match *answer {
-            Answer::InputNext(body) => (1, 0, body),
-            Answer::InputEnd => (2, 0, empty),
-            Answer::ReceiveFrom(sender, body) => (1, sender, body),
-            _ => (0, 0, empty),
-        };
         LogRecord {
             position: self.kernel.position(),
-            event,
-            answer: told,
-            sender,
-            body,
+            told: reply_of(answer),
         }
     }
 

@@ -16,10 +16,9 @@ ghost use Rattle.dc_rv32.specs.Machine.{Machine};
 use crate::lent::{Lent, Looked};
 use crate::up::Up;
 use dc_calls::Call;
-use dc_checkpoint::Checkpoint;
+use dc_checkpoint::{CheckFault, Checkpoint};
 use dc_events::{Kind, Next};
 use dc_guest::{Answer, Effect, Guest};
-use dc_kernel::CheckFault;
 
 impl Up {
     /// What its guest does next. An instruction that retires is taken at once; at a call or a trap nothing changes.

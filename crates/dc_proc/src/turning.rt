@@ -1,6 +1,6 @@
 //! A turn of one process: the commit before, the act, the log record, the event, the commit after.
 
-ghost use Rattle.std.specs.Prelude.{◌≡◌, ◌<◌, ◌≤◌, ◌+◌, ◌*◌, ◌-◌, ◌^◌, ◌&&◌, not, ℕ, List, false, true, IfOk, IfSome, IfErr, OnErr, OnOk, length, nat_eq, slice_index};
+ghost use Rattle.std.specs.Prelude.{◌≡◌, ◌<◌, ◌≤◌, ◌+◌, ◌*◌, ◌-◌, ◌^◌, ◌&&◌, not, ℕ, List, false, true, IfOk, IfSome, IfErr, OnErr, OnOk, length, slice_index};
 ghost use Rattle.dc_checkpoint.specs.Calls.{AreAmong, IsCall, Narrows, on};
 ghost use Rattle.dc_events.specs.Kinds.{kind_of};
 ghost use Rattle.dc_guest.specs.Answers.{answer_of, effect_of, may_answer};
@@ -12,7 +12,7 @@ ghost use Rattle.dc_checkpoint.specs.Handles.{showing_of};
 ghost use Rattle.dc_proc.specs.Carried.{process};
 ghost use Rattle.dc_proc.specs.Events.{HasCounts, HasCountsFor, HasNextReceiver, HasNextRoom, IsSender};
 ghost use Rattle.dc_proc.specs.Processes.{IsNumbered, IsPaired};
-ghost use Rattle.dc_proc.specs.Turns.{StopsTurn, TakesTurn, acts_with, is_none, makes_eight, shown_of};
+ghost use Rattle.dc_proc.specs.Turns.{StopsTurn, TakesTurn, acts_with, is_none, makes_eight, shown_of, since_of};
 ghost use Rattle.dc_proc.specs.Ups.{IsSameUp, IsWhole, held};
 ghost use Rattle.dc_protocols.specs.Rules.{at_inputs, is_global, rule_of};
 ghost use Rattle.dc_recovery.specs.Alone.{without_commits};
@@ -21,10 +21,11 @@ use crate::shown::Shown;
 use crate::up::Up;
 use dc_acts::Acts;
 use dc_calls::Call;
-use dc_checkpoint::Checkpoint;
+use dc_checkpoint::{CheckFault, Checkpoint};
 use dc_events::{Kind, Next};
 use dc_guest::Answer;
-use dc_kernel::{CheckFault, Kernel};
+use dc_kernel::Kernel;
+use dc_limits::KEPT_MESSAGES;
 use dc_model::Taken;
 use dc_protocols::{Rule, Since, is_global, rule};
 
@@ -36,7 +37,8 @@ fn makes_eight(kernel: &Kernel, based: &[u32], answer: &Answer) -> bool
 {
     match *answer {
         Answer::ReceiveFrom(sender, _) => {
-            u64::from(kernel.received(sender)) + 1 == u64::from(based[sender as usize]) + 8
+            u64::from(kernel.received(sender)) + 1
+                == u64::from(based[sender as usize]) + KEPT_MESSAGES as u64
         }
         _ => false,
     }
@@ -62,13 +64,7 @@ impl Up {
     pub fn asked(&self, kind: Kind, answer: &Answer, any: bool) -> Rule
         requires sender { IsSender self.now.kernel (answer_of answer.now) }
         requires whole { IsWhole self.now }
-        ensures { result ≡ rule_of self.now.protocol kind (record {
-          own = self.now.own;
-          any = any;
-          full = nat_eq self.now.log_left 0;
-          eighth = makes_eight self.now.kernel.received self.now.based.items (answer_of answer.now);
-          replay = at_inputs kind && not (is_none (held self.now).unread);
-        }) }
+        ensures { result ≡ rule_of self.now.protocol kind (since_of self.now kind (answer_of answer.now) any) }
     {
         let since = Since {
             own: self.own,
@@ -84,13 +80,7 @@ impl Up {
     fn rule(&self, kind: Kind, answer: &Answer) -> Rule
         requires sender { IsSender self.now.kernel (answer_of answer.now) }
         requires whole { IsWhole self.now }
-        ensures { result ≡ without_commits (is_global self.now.protocol) (rule_of self.now.protocol kind (record {
-          own = self.now.own;
-          any = false;
-          full = nat_eq self.now.log_left 0;
-          eighth = makes_eight self.now.kernel.received self.now.based.items (answer_of answer.now);
-          replay = at_inputs kind && not (is_none (held self.now).unread);
-        })) }
+        ensures { result ≡ without_commits (is_global self.now.protocol) (rule_of self.now.protocol kind (since_of self.now kind (answer_of answer.now) false)) }
     {
         let asked = self.asked(kind, answer, false);
         if is_global(self.protocol) {
@@ -189,7 +179,7 @@ impl Up {
         let asked = self.rule(kind, answer);
         self.commit_if(asked.before, store, dev)?;
         self.add_act(t, answer, acts);
-        let rec = self.record_of(kind, answer);
+        let rec = self.record_of(answer);
         self.append_if(asked.log, &rec, store, dev)?;
         self.advance(next, answer, store, dev)?;
         let shown = self.note_event(next, answer, effect, replay, asked.log);

@@ -1,7 +1,7 @@
 //! A process under each protocol, stopped at each call of its store's device.
 
 ghost use Rattle.std.specs.Prelude.{◌≡◌, ◌*◌, ◌<◌, ◌≤◌, IfOk, IfSome, length};
-ghost use Rattle.dc_plain.specs.Playing.{CanStart};
+ghost use Rattle.dc_elf.specs.Loaded.{CanStart};
 ghost use Rattle.dc_proc.specs.Downs.{IsDown};
 ghost use Rattle.dc_proc.specs.Ups.{IsFit};
 

@@ -4,7 +4,7 @@ use Rattle.std.proofs.lemmas.List.{length-map}
 use Rattle.std.specs.declared.alloc.Global.{Global}
 use Rattle.dc_acts.specs.Reading.{AreActs, Report}
 use Rattle.dc_model.specs.declared.act.Taken.{Taken}
-use Rattle.dc_plain.specs.Playing.{seen_image}
+use Rattle.dc_elf.specs.Loaded.{seen_image}
 use Rattle.dc_plan.specs.Plans.{Plan}
 use Rattle.dc_words.specs.Results.{◌>>=◌}
 use Rattle.dc_run.specs.Checking.{AsksToCheck, Checked, Concluded, Found, checked_in, found_at_end, found_in, passed_by, report_for, report_in}

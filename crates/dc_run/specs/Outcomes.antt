@@ -4,8 +4,8 @@ use Rattle.dc_run.specs.declared.outcome.Outcome.{Outcome}
 use Rattle.dc_asm.specs.Faults.{kind_text as asm_kind_text}
 use Rattle.dc_elf.specs.Faults.{fault_text as elf_fault_text}
 use Rattle.dc_elf.specs.declared.faults.ElfFault.{ElfFault}
-use Rattle.dc_kernel.specs.StoreFaults.{store_fault_text}
-use Rattle.dc_kernel.specs.declared.faults.StoreFault.{StoreFault}
+use Rattle.dc_checkpoint.specs.StoreFaults.{store_fault_text}
+use Rattle.dc_checkpoint.specs.declared.faults.StoreFault.{StoreFault}
 use Rattle.dc_run.specs.declared.verdict.Did.{Did}
 use Rattle.dc_run.specs.declared.verdict.Did.TheVariants.{Nothing, Run, Checked, Assembled}
 use Rattle.dc_run.specs.declared.verdict.Outlet.{Outlet}

@@ -1,6 +1,7 @@
 -- How the code's opening stands to the told files.
 use Rattle.std.specs.Prelude.{◌≡◌, ◌≤◌, ◌⊎◌, ℕ, Option, None, Some, Bool, true, false, not, ◌&&◌, Result, Ok, Err, map}
-use Rattle.dc_plain.specs.Playing.{lists_of, seen_image}
+use Rattle.dc_elf.specs.Loaded.{seen_image}
+use Rattle.dc_words.specs.Lists.{lists_of}
 use Rattle.dc_media.specs.Told.{Becomes, TellsOn}
 use Rattle.dc_course.specs.Headline.{Setting}
 use Rattle.dc_run.specs.Opening.{Files}

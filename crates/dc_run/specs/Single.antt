@@ -8,7 +8,7 @@ use native.Mathlib.Bridge.{IsLe, le_by_compare}
 use Rattle.dc_elf.specs.declared.image.Image.{Image}
 use Rattle.dc_model.specs.declared.entry.Entry.{Entry}
 use Rattle.dc_model.specs.declared.entry.Entry.TheVariants.{Turn, Stop, Power}
-use Rattle.dc_plain.specs.Playing.{CanStart}
+use Rattle.dc_elf.specs.Loaded.{CanStart}
 use Rattle.dc_schedule.specs.Entries.{AreEntries, IsEntry, IsSchedule, clock_after}
 use Rattle.dc_world.specs.Opened.{CanOpen}
 

@@ -18,6 +18,7 @@ use crate::{Did, Outcome, Outlet, Verdict, Which};
 use dc_acts::{Acts, Line, ReadError, Report, read_report};
 use dc_check::{Finding, check};
 use dc_command::Names;
+use dc_limits::{ENTRIES, PROCESSES};
 use dc_media::{Library, Sink, write_whole};
 use std::alloc::{AllocError, Global};
 
@@ -31,10 +32,10 @@ pub struct Found {
 /// The report of that name, for `n` guests.
 fn report_at<L: Library>(alloc: Global, lib: &mut L, n: u32, name: &str) -> Result<Report, Refusal>
     requires some { 0 < n }
-    requires few { n ≤ 8 }
+    requires few { n ≤ PROCESSES }
     ensures told { (files : Files) → L.files lib.old ≡ Some files → Agrees seen result (report_in files n name.now) }
     ensures processes { IfOk result (λ report. All (λ x. x.p < n) report.acts.items) }
-    ensures few { IfOk result (λ report. length report.acts.items ≤ 1000000) }
+    ensures few { IfOk result (λ report. length report.acts.items ≤ ENTRIES) }
     ensures which { (w : Whose) → IsErrOf result (Refusal.Library w) → w ≡ Which.Report }
     ensures there { (files : Files) (w : Whose) → L.files lib.old ≡ Some files → IsErrOf result (Refusal.Library w) → IsSome (files name.now) }
     ensures files { OnOk result (L.files lib.new ≡ L.files lib.old) }
@@ -52,7 +53,7 @@ fn report_at<L: Library>(alloc: Global, lib: &mut L, n: u32, name: &str) -> Resu
 /// What comes of checking an output, where the setting and the report are there.
 fn find(alloc: Global, setting: &Setting, report: Report, out: &[u8]) -> Result<Found, AllocError>
     requires processes { All (λ x. x.p < length setting.now.images.items) report.acts.items }
-    requires few { length report.acts.items ≤ 1000000 }
+    requires few { length report.acts.items ≤ ENTRIES }
     ensures { IfOk result (λ found. Ok (found_view found) ≡ found_at_end (setting_of setting.now) (seen report) out.now) }
 {
     let finding = check(

@@ -1,6 +1,6 @@
 ghost use Rattle.std.specs.Prelude.{◌≡◌, ◌≤◌, ◌<◌, ◌%◌, ℕ, All, IsErrOf, IsSome, OnOk, Some, IfOk, length, map, string_bytes};
 ghost use Rattle.dc_media.specs.Causes.{Rose};
-ghost use Rattle.dc_plain.specs.Playing.{seen_image};
+ghost use Rattle.dc_elf.specs.Loaded.{seen_image};
 ghost use Rattle.dc_plan.specs.Allowed.{IsAllowed, IsSourceAllowed};
 ghost use Rattle.dc_plan.specs.Plans.{InFile, plan_view, source_view};
 ghost use Rattle.dc_schedule.specs.Entries.{IsSchedule};
@@ -13,6 +13,7 @@ use crate::Which;
 use crate::refusal::Refusal;
 use crate::setting::Setting;
 use dc_elf::{Image, LoadFault, load};
+use dc_limits::PROCESSES;
 use dc_media::{Fetch, Library};
 use dc_model::Entry;
 use dc_plan::{Plan, PlanError, ScheduleSource, read_plan};
@@ -93,7 +94,7 @@ fn load_guests<L: Library>(
     size: u32,
     names: &[String],
 ) -> Result<Vec<Image>, Refusal>
-    requires few { length names.now ≤ 8 }
+    requires few { length names.now ≤ PROCESSES }
     requires least { 65536 ≤ size }
     requires most { size ≤ 1048576 }
     requires pages { size % 4096 ≡ 0 }

@@ -2,7 +2,7 @@ ghost use Rattle.std.specs.Prelude.{◌≡◌, ◌≤◌, ◌+◌, ◌++◌, Non
 ghost use Rattle.dc_acts.specs.Reading.{kind_text as report_kind_text};
 ghost use Rattle.dc_asm.specs.Faults.{kind_text as asm_kind_text};
 ghost use Rattle.dc_elf.specs.Faults.{fault_text as elf_fault_text};
-ghost use Rattle.dc_kernel.specs.StoreFaults.{store_fault_text};
+ghost use Rattle.dc_checkpoint.specs.StoreFaults.{store_fault_text};
 ghost use Rattle.dc_media.specs.Causes.{HasCause};
 ghost use Rattle.dc_media.specs.Sinks.{TakesWhole};
 ghost use Rattle.dc_media.specs.Told.{TellsOn};

@@ -1,11 +1,12 @@
 ghost use Rattle.std.specs.Prelude.{◌≡◌, ◌≤◌, ◌<◌, All, length};
+ghost use Rattle.dc_limits.specs.declared.sizes.TheConstants.{PROCESSES};
 ghost use Rattle.dc_schedule.specs.Entries.{IsSchedule};
 ghost use Rattle.dc_world.specs.Opened.{CanOpen};
 ghost use Rattle.dc_run.specs.Single.{IsSchedule-prop, all_can_open-prop};
 
-use dc_armed::PlannedStop;
 use dc_elf::Image;
 use dc_links::Message;
+use dc_media::PlannedStop;
 use dc_model::Entry;
 use dc_protocols::Protocol;
 
@@ -19,7 +20,7 @@ pub struct Setting {
     pub schedule: Vec<Entry>,
     pub stops: Vec<PlannedStop>,
     ghost some: { 0 < length images.items },
-    ghost few: { length images.items ≤ 8 },
+    ghost few: { length images.items ≤ PROCESSES },
     ghost good: { All CanOpen images.items } by { all_can_open-prop images.items },
     ghost each: { length inputs.items ≡ length images.items },
     ghost entries: { IsSchedule (length images.items) schedule.items } by { IsSchedule-prop (length images.items) schedule.items },

@@ -1,7 +1,7 @@
 use dc_acts::ReportFault;
 use dc_asm::AsmFault;
+use dc_checkpoint::StoreFault;
 use dc_elf::ElfFault;
-use dc_kernel::StoreFault;
 use dc_plan::PlanFault;
 use dc_schedule::ScheduleFault;
 

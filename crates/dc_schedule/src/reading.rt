@@ -5,12 +5,10 @@ ghost use Rattle.dc_schedule.specs.Schedules.{Reads, entry_of, power_of, schedul
 ghost use Rattle.dc_schedule.specs.declared.fault.ScheduleKind.TheVariants.{Form};
 
 use crate::{ReadError, ScheduleFault, ScheduleKind};
+use dc_limits::ENTRIES;
 use dc_model::{Entry, Turn};
 use dc_words::{NumberFault, first_field, first_line, read_number};
 use std::alloc::Global;
-
-/// The most entries of a schedule.
-const ENTRIES: u32 = 1_000_000;
 
 /// A turn of a process below `n`, where the clock stood at `last`.
 fn turn(n: u32, last: u64, p: &[u8], word: &[u8], clock: &[u8]) -> Result<Entry, ScheduleKind>
@@ -143,7 +141,7 @@ pub fn read_turns(alloc: Global, text: &[u8], n: u32) -> Result<Vec<Entry>, Read
     requires { 0 < n }
     ensures exact { Reads result (turns_of n text.now) }
     ensures turns { IfOk result (λ entries. All (IsTurn n) entries.items) }
-    ensures few { IfOk result (λ entries. length entries.items ≤ 1000000) }
+    ensures few { IfOk result (λ entries. length entries.items ≤ ENTRIES) }
     ensures schedule { IfOk result (λ entries. IsSchedule n entries.items) }
     ensures written { IfOk result (λ entries. (text.now ≡ schedule_text entries.items)
         ⊎ (text.now ++ 10 ∷ [] ≡ schedule_text entries.items)) }

@@ -5,10 +5,9 @@ ghost use Rattle.std.specs.Prelude.{◌≤◌, ◌<◌};
 mod records;
 
 use crate::holding::holds;
+use dc_checkpoint::{CheckFault, StoreFault};
 use dc_isa::Regs;
-use dc_kernel::{
-    CheckFault, Kernel, KernelFault, LogRecord, Saved, Status, StoreFault, kernel_words,
-};
+use dc_kernel::{Kernel, KernelFault, LogRecord, Reply, Saved, Status, kernel_words};
 use dc_links::Message;
 use std::alloc::{AllocError, Global};
 use std::test::Fail;
@@ -389,9 +388,10 @@ fn other_sizes_are_refused_first(rt: HostRuntime) -> Result<(), Fail> {
     decodes(rt.alloc(), &zeros[..319], "version")
 }
 
-fn with_record(alloc: Global, record: LogRecord) -> Result<Saved, AllocError> {
+/// A checkpoint with one event, at position 1.
+fn with_event(alloc: Global, told: Reply) -> Result<Saved, AllocError> {
     let mut saved = Saved::new(alloc, Kernel::new(alloc, 2, 1)?)?;
-    saved.log.push(record)?;
+    saved.log.push(LogRecord { position: 1, told })?;
     Ok(saved)
 }
 
@@ -410,15 +410,12 @@ fn a_checkpoint_has_room_for_its_log(rt: HostRuntime) -> Result<(), Fail> {
 
 #[test]
 fn a_log_has_its_record(rt: HostRuntime) -> Result<(), Fail> {
-    let record = LogRecord {
-        position: 1,
-        event: 2,
-        answer: 3,
-        sender: 4,
-        body: Message::new(b"body"),
-    };
-    let saved = with_record(rt.alloc(), record)?;
-    holds(saved.log.first() == Some(&record), "the record")
+    let told = Reply::ReceiveFrom(4, Message::new(b"body"));
+    let saved = with_event(rt.alloc(), told)?;
+    match saved.log.first() {
+        Some(rec) => holds(rec.position == 1 && rec.told == told, "the event"),
+        None => Err(Fail::new("no event")),
+    }
 }
 
 fn is_said(alloc: Global, fault: CheckFault, text: &str) -> Result<(), Fail> {

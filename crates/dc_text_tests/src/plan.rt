@@ -2,8 +2,8 @@
 //! with the text at its end, has that fault, or none. In the text `~` stands for a line feed.
 
 use crate::holding::holds;
-use dc_armed::PlannedStop;
 use dc_links::Message;
+use dc_media::PlannedStop;
 use dc_plan::{Key, Medium, Plan, PlanError, PlanFault, ScheduleSource, read_plan};
 use dc_protocols::Protocol;
 use std::alloc::{AllocError, Global};

@@ -2,7 +2,7 @@
 use Rattle.std.proofs.Common.{◌≡◌, ◌⊎◌, ◌<◌, ℕ, List, Bool, true, false, length, Some, arith, ◌∙◌, inl, inr, ⊎_elim, subst, sym, refl, get_or, ap, [], ◌∷◌, ◌&&◌, zero, suc, take, slice_get}
 use Rattle.std.proofs.lemmas.Bool.{and_parts, cases_Bool}
 use Rattle.std.proofs.lemmas.Option.{slice_get_within, slice_get-get_or}
-use Rattle.dc_checkpoint.specs.Calls.{AreAll, AreBelow}
+use Rattle.dc_checkpoint.specs.Calls.{AreAll, AreBelow, AreFrom}
 use Rattle.dc_checkpoint.specs.Handles.{IsSame, same_then}
 use Rattle.dc_checkpoint.specs.declared.checkpoint.Checkpoint as checkpoint
 use Rattle.dc_twophase.specs.Commits.{AllNewOf, AllOld, HasRoom, IsAside, IsBeside, IsDecided, IsDeciding, IsIdle, IsMember, IsOther, IsPrepared, IsSameMemory, IsUndecided}
@@ -142,13 +142,20 @@ module _ {C D : Type 0} {store : checkpoint.Ghosts C D} (laws : Laws store) {mem
     steady = steady_late second;
   }
 
+  -- once g is decided no number is below it
+  from_late : {old mid late new : Moment C D} → AreFinishing store members text g old mid late new → HasRoom store g old → At 0 late.stores (λ c. AreFrom g (store.numbers c late.dev))
+  from_late {old} {mid} {late} third room x now e has =
+      let y = before_it mid.stores late.stores 0 x third.second.long now in
+      let b = before_it old.stores mid.stores 0 y.0 third.second.first.all.long y.1 in
+      let same = third.decided y.0 x y.1 now (lows third.second.first.all room b.0 y.0 b.1 y.1) e has in inr (omega (arith, same))
+
   pub all_decided : {old mid late new : Moment C D} → AreFinishing store members text g old mid late new → HasRoom store g old → At 0 new.stores (λ c. AreAll g (store.numbers c new.dev))
   all_decided {old} {mid} {late} {new} third room z now e has =
       let x = before_it late.stores new.stores 0 z third.long now in
       let y = before_it mid.stores late.stores 0 x.0 third.second.long x.1 in
       let b = before_it old.stores mid.stores 0 y.0 third.second.first.all.long y.1 in
       third.decided y.0 x.0 y.1 x.1 (lows third.second.first.all room b.0 y.0 b.1 y.1) e
-      ((third.finished 0 x.0 z x.1 now).numbers (steady_late third.second room x.0 x.1) e has)
+      ((third.finished 0 x.0 z x.1 now).numbers (steady_late third.second room x.0 x.1) (from_late third room x.0 x.1) e has)
 
   pub all_new : {old mid late new : Moment C D} → AreFinishing store members text g old mid late new → HasRoom store g old → At 0 new.stores (λ c. (d : ℕ) → store.numbers c new.dev d → AllNewOf store members text old new d)
   all_new {old} {mid} {late} {new} third room z now d has = rw (all_decided third room z now d has) (λ i b w before here member reading left.
@@ -161,7 +168,7 @@ module _ {C D : Type 0} {store : checkpoint.Ghosts C D} (laws : Laws store) {mem
     lent = pair_then old.stores late.stores new.stores long (λ i b y z was now is. now.lent (was is)) earlier.lent third.finished;
     between = λ room b z first_was now d has. inr (all_decided third room z now d has, all_new third room z now d has);
     beside = pair_then old.stores late.stores new.stores long (λ i b y z was now other. beside_then (was other) (idle_beside laws (now other))) earlier.beside third.idle;
-    steady = λ room z now. let x = before_it late.stores new.stores 0 z third.long now in (third.finished 0 x.0 z x.1 now).steady (steady_late third.second room x.0 x.1);
+    steady = λ room z now. let x = before_it late.stores new.stores 0 z third.long now in (third.finished 0 x.0 z x.1 now).steady (steady_late third.second room x.0 x.1) (from_late third room x.0 x.1);
   }
 
   pub same_decided : {old mid late : Moment C D} → AreDeciding store members text g old mid late → AreSameStores store old.stores late.stores

@@ -22,8 +22,8 @@ module _ {C D : Type 0} {store : checkpoint.Ghosts C D} (laws : Laws store) wher
     same = same_start b;
     lent = laws.lent_still b old new still;
     stands = λ d reading high. laws.leaves_still b new old d reading back;
-    steady = laws.steady_still b old new still;
-    numbers = λ st e. laws.numbers_still b new old e back;
+    steady = λ st from. laws.steady_still b old new still st;
+    numbers = λ st from e. laws.numbers_still b new old e back;
   }
 
   committed_still : (g : ℕ) (old new : D) (c : C) → store.untouched old new (store.place c) → IsCommitted store g old c → IsCommitted store g new c
@@ -35,8 +35,8 @@ module _ {C D : Type 0} {store : checkpoint.Ghosts C D} {g : ℕ} where
     same = same_then was.same now.same;
     lent = λ is. now.lent (was.lent is);
     stands = λ d reading high left. was.stands d reading high (now.stands d reading high left);
-    steady = λ st. now.steady (was.steady st);
-    numbers = λ st e has. was.numbers st e (now.numbers (was.steady st) e has);
+    steady = λ st from. now.steady (was.steady st from) (λ e has. from e (was.numbers st from e has));
+    numbers = λ st from e has. was.numbers st from e (now.numbers (was.steady st from) (λ d some. from d (was.numbers st from d some)) e has);
   }
 
 -- a turn of the loop

@@ -1,7 +1,7 @@
 -- A commit of many stores, under one number g.
 use Rattle.std.specs.Prelude.{◌≡◌, ◌⊎◌, ◌<◌, ◌≤◌, ℕ, List, Bool, true, false, Some, slice_get}
 use Rattle.dc_media.specs.Told.{Becomes}
-use Rattle.dc_checkpoint.specs.Calls.{AreAmong, AreBelow, Narrows}
+use Rattle.dc_checkpoint.specs.Calls.{AreAmong, AreBelow, AreFrom, Narrows}
 use Rattle.dc_checkpoint.specs.Handles.{IsSame}
 use Rattle.dc_checkpoint.specs.States.{IsSaved, Reading}
 use Rattle.dc_checkpoint.specs.declared.checkpoint.Checkpoint as checkpoint
@@ -71,8 +71,8 @@ pub record IsDecided {C D : Type 0} (store : checkpoint.Ghosts C D) (g : ℕ) (o
   pub same : IsSame store b c
   pub lent : store.lent b old → store.lent c new
   pub stands : Narrows g (store.leaves b old) (store.leaves c new)
-  pub steady : store.steady b old → store.steady c new
-  pub numbers : store.steady b old → AreAmong (store.numbers b old) (store.numbers c new)
+  pub steady : store.steady b old → AreFrom g (store.numbers b old) → store.steady c new
+  pub numbers : store.steady b old → AreFrom g (store.numbers b old) → AreAmong (store.numbers b old) (store.numbers c new)
 
 -- a store that was committed
 pub record IsCommitted {C D : Type 0} (store : checkpoint.Ghosts C D) (g : ℕ) (new : D) (c : C) : Type 0 where

@@ -3,7 +3,7 @@ use Rattle.std.proofs.Common.{◌≡◌, ◌≢◌, ◌⊎◌, ◌+◌, ◌-◌,
 use Rattle.std.proofs.lemmas.Bool.{and_parts, cases_eq, eq-eqb, ne_eqb}
 use Rattle.std.proofs.lemmas.List.{drop-drop, drop-set-add, drop-set-lt, map-append, take_all, take-set-le}
 use Rattle.dc_kernel.specs.Kernels.{IsMessage}
-use Rattle.dc_kernel.specs.Records.{IsRecord, is_record, record_in, record_text}
+use Rattle.dc_kernel.specs.Records.{IsRecord, body_of, is_record, record_in, record_text}
 use Rattle.dc_kernel.specs.declared.records.LogRecord.{LogRecord}
 use Rattle.dc_kernel.proofs.Logged.{record_again, record_right}
 use Rattle.dc_media.specs.Told.{Becomes}
@@ -159,7 +159,7 @@ module _ (sh : Shape) (since : Since) where
     }
 
   -- the tag of an event whose text stands in the first free place
-  module _ (rec : LogRecord) (few : since.logged < 64) (message : IsMessage rec.body) (is : IsRecord sh.form.n rec) where
+  module _ (rec : LogRecord) (few : since.logged < 64) (message : IsMessage (body_of rec.told)) (is : IsRecord sh.form.n rec) where
     abbrev tag : Parts → Parts
     tag b = record b { log = set b.log (22 * since.logged) since.number }
 

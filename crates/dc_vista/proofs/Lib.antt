@@ -16,4 +16,3 @@ pub mod Settling
 pub mod Steps
 pub mod Undoing
 pub mod Wholes
-mod Decoded

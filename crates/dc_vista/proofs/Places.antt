@@ -3,7 +3,7 @@ use Rattle.std.proofs.Common.{◌≡◌, ◌≢◌, ◌+◌, ◌-◌, ◌*◌, �
 use Rattle.std.proofs.lemmas.Bool.{eq-eqb, le-ltb, lt-ltb, ne_eqb}
 use Rattle.std.proofs.lemmas.List.{drop-drop, get_or-drop, length-map, map-append, take_all}
 use Rattle.dc_kernel.specs.Records.{is_record, record_in}
-use Rattle.dc_kernel.specs.declared.faults.StoreFault.TheVariants as fault
+use Rattle.dc_checkpoint.specs.declared.faults.StoreFault.TheVariants as fault
 use Rattle.dc_kernel.specs.declared.records.LogRecord.{LogRecord}
 use Rattle.dc_checkpoint.specs.States.{Reading}
 use Rattle.dc_vista.specs.Logs.{all_below, first_unsound, lower_behind, tagged, text_at}

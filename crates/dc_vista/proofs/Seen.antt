@@ -7,8 +7,8 @@ use Rattle.dc_kernel.specs.Layout.{kernel_words}
 use Rattle.dc_kernel.specs.Records.{record_in}
 use Rattle.dc_kernel.specs.Texts.{text_of}
 use Rattle.dc_kernel.specs.declared.faults.KernelFault.{KernelFault}
-use Rattle.dc_kernel.specs.declared.faults.StoreFault.{StoreFault}
-use Rattle.dc_kernel.specs.declared.faults.StoreFault.TheVariants as fault
+use Rattle.dc_checkpoint.specs.declared.faults.StoreFault.{StoreFault}
+use Rattle.dc_checkpoint.specs.declared.faults.StoreFault.TheVariants as fault
 use Rattle.dc_kernel.specs.declared.records.LogRecord.{LogRecord}
 use Rattle.dc_kernel.specs.declared.saved.Saved.{Saved}
 use Rattle.dc_checkpoint.specs.States.{Reading, number_in}

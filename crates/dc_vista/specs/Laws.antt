@@ -1,5 +1,5 @@
 -- Laws of what a segment stands for.
-use Rattle.std.proofs.Common.{◌≡◌, ◌≤◌, ◌<◌, ◌+◌, ◌*◌, ℕ, List, Option, None, Some, IfSome, IsSome, length, take, drop, refl, sym, ◌∙◌, ap, subst, arith, false, length-drop, length-take-le}
+use Rattle.std.proofs.Common.{◌≡◌, ◌≤◌, ◌*◌, ℕ, List, Option, None, Some, IfSome, IsSome, length, take, drop, refl, sym, ◌∙◌, ap, subst, arith, false, length-drop, length-take-le}
 use Rattle.std.proofs.lemmas.Bool.{eq-eqb}
 use Rattle.dc_media.specs.Told.{Device, IsSameStore}
 use Rattle.dc_checkpoint.specs.States.{Form, Reading}

@@ -1,10 +1,11 @@
 -- What the parts of a segment stand for, under a decided number.
 use Rattle.std.specs.Prelude.{◌≡◌, ◌≤◌, ◌+◌, ◌*◌, ◌%◌, ◌==◌, ◌&&◌, ℕ, Bool, true, false, not, List, [], ◌∷◌, map, take, drop, Option, None, Some, Ok, Err, nat_le, if◌then◌else◌}
+use Rattle.dc_limits.specs.declared.bounds.TheConstants.{LOGGED_EVENTS}
 use Rattle.dc_kernel.specs.Faults.{kernel_fault}
 use Rattle.dc_kernel.specs.Layout.{kernel_words}
 use Rattle.dc_kernel.specs.Records.{record_in}
 use Rattle.dc_kernel.specs.declared.faults.KernelFault.{KernelFault}
-use Rattle.dc_kernel.specs.declared.faults.StoreFault.TheVariants as fault
+use Rattle.dc_checkpoint.specs.declared.faults.StoreFault.TheVariants as fault
 use Rattle.dc_checkpoint.specs.States.{Form, Reading, State, number_in}
 use Rattle.dc_vista.specs.Logs.{first_unsound, lower_behind, tagged}
 use Rattle.dc_vista.specs.Parts.{Parts}
@@ -62,7 +63,7 @@ text_in shape body = take (kernel_words shape.form.n) (drop shape.size body)
 
 -- the texts of the events that were logged since the commit of this kernel
 abbrev pub log_in : List ℕ → List ℕ → List (List ℕ)
-log_in text log = tagged 64 (number_in text) log
+log_in text log = tagged LOGGED_EVENTS (number_in text) log
 
 -- whether there is no fault
 abbrev pub is_none : Option KernelFault → Bool
@@ -81,7 +82,7 @@ or_record first (Some j) reading = Err (fault.Record (first + j))
 -- what a body stands for, with this log: its records are counted behind all undo lines
 abbrev pub settled : Shape → ℕ → List ℕ → List ℕ → Reading
 settled shape low body log = or_record (shape.lines + 1) (first_unsound shape.form.n 0 (log_in (text_in shape body) log))
-    (if is_kernel shape.form low (text_in shape body) (lower_behind 64 (number_in (text_in shape body)) log)
+    (if is_kernel shape.form low (text_in shape body) (lower_behind LOGGED_EVENTS (number_in (text_in shape body)) log)
     then Ok (record { memory = take shape.size body; kernel = text_in shape body; log = map record_in (log_in (text_in shape body) log) })
     else Err fault.Kernel)
 

@@ -1,6 +1,7 @@
 -- Parts that a handle may go on from, or a recovery from.
 use Rattle.std.specs.Prelude.{◌≡◌, ◌≢◌, ◌<◌, ◌≤◌, ◌+◌, ◌*◌, ℕ, Bool, true, false, List, length, replicate, take, drop, map, Option, None, Some, IfSome, slice_get, slice_set}
 use Rattle.std.specs.List.{count_by}
+use Rattle.dc_limits.specs.declared.bounds.TheConstants.{LOGGED_EVENTS}
 use Rattle.dc_kernel.specs.Layout.{kernel_words}
 use Rattle.dc_kernel.specs.Records.{record_in}
 use Rattle.dc_kernel.specs.Texts.{text_of}
@@ -41,9 +42,9 @@ pub record IsWhole (shape : Shape) (number logged low : ℕ) (body log : List �
   pub text_ok : IsText shape.form (text_in shape body)
   pub number_is : number_in (text_in shape body) ≡ number
   pub not_under : low ≤ number
-  pub records : first_unsound shape.form.n 0 (tagged 64 number log) ≡ None
-  pub logged_is : length (tagged 64 number log) ≡ logged
-  pub behind : lower_behind 64 number log ≡ true
+  pub records : first_unsound shape.form.n 0 (tagged LOGGED_EVENTS number log) ≡ None
+  pub logged_is : length (tagged LOGGED_EVENTS number log) ≡ logged
+  pub behind : lower_behind LOGGED_EVENTS number log ≡ true
 
 -- the parts that are lists have their lengths
 pub record IsLong (shape : Shape) (b : Parts) : Type 0 where
@@ -120,8 +121,8 @@ pub record IsSeen (shape : Shape) (d : ℕ) (text : List ℕ) (low : ℕ) (b : P
 
 -- the events that were logged since the commit of this number
 pub record IsLogged (processes number : ℕ) (log : List LogRecord) (b : Parts) : Type 0 where
-  pub sound : first_unsound processes 0 (tagged 64 number b.log) ≡ None
-  pub log_is : log ≡ map record_in (tagged 64 number b.log)
+  pub sound : first_unsound processes 0 (tagged LOGGED_EVENTS number b.log) ≡ None
+  pub log_is : log ≡ map record_in (tagged LOGGED_EVENTS number b.log)
 
 -- what was read under a decided number is a state of this commit
 pub record IsRead (shape : Shape) (number logged d : ℕ) (b : Parts) : Type 0 where
@@ -133,7 +134,7 @@ pub record IsRead (shape : Shape) (number logged d : ℕ) (b : Parts) : Type 0 w
 -- what was read is handed out: the kernel whose text counts under d, and the events of its log
 pub record IsHanded (shape : Shape) (d : ℕ) (saved : Saved) (b : Parts) : Type 0 where
   pub kernel_is : text_in shape (standing b d) ≡ text_of saved.kernel
-  pub log_is : map record_in (tagged 64 saved.kernel.commit b.log) ≡ saved.log.items
+  pub log_is : map record_in (tagged LOGGED_EVENTS saved.kernel.commit b.log) ≡ saved.log.items
 
 -- under this number the undo lines count
 abbrev pub IsOld : Option Parts → ℕ → Type 0

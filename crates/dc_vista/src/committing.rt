@@ -1,9 +1,10 @@
 //! Commits the body as it stands.
 
 ghost use Rattle.std.specs.Prelude.{◌≡◌, ◌⊎◌, ◌<◌, ℕ, OnOk, length};
+ghost use Rattle.dc_media.specs.Calls.{IsCall};
+ghost use Rattle.dc_media.specs.Devices.{of_words};
 ghost use Rattle.dc_media.specs.Told.{Becomes};
 ghost use Rattle.dc_checkpoint.specs.States.{IsSaved, Reading, number_in};
-ghost use Rattle.dc_vista.specs.Calls.{IsCall};
 ghost use Rattle.dc_vista.specs.Handles.{IsLent, seen, shape_of, since_of};
 ghost use Rattle.dc_vista.specs.Standing.{Numbers, StandsFor, memory_of};
 ghost use Rattle.dc_vista.specs.Whole.{IsNext, IsReady};
@@ -33,7 +34,7 @@ impl Frame {
         ensures between { (d : ℕ) (r : Reading) → StandsFor (shape_of self.now) (seen K.Keeps self.now dev.new) d r
             → StandsFor (shape_of self.now) (seen K.Keeps self.now dev.old) d r ⊎ IsSaved (memory_of self.now.size (seen K.Keeps self.now dev.old)) kernel.now r }
         ensures numbers { (e : ℕ) → Numbers (seen K.Keeps self.now dev.new) e → Numbers (seen K.Keeps self.now dev.old) e }
-        ensures call { IsCall K.Keeps self.now.place dev.old dev.new result }
+        ensures call { IsCall (of_words K.Keeps) self.now.place dev.old dev.new result }
     {
         self.put_kernel(dev, marks, kernel)?;
         put(dev, self.place, self.lines, Word::Count, 0)?;

@@ -1,9 +1,10 @@
 //! Commits the body as it stands once a number is decided: prepared, decided, finished.
 
 ghost use Rattle.std.specs.Prelude.{◌≡◌, ◌⊎◌, ◌<◌, ◌≤◌, ℕ, IfSome, OnOk, length};
+ghost use Rattle.dc_media.specs.Calls.{IsCall};
+ghost use Rattle.dc_media.specs.Devices.{of_words};
 ghost use Rattle.dc_media.specs.Told.{Becomes};
 ghost use Rattle.dc_checkpoint.specs.States.{IsSaved, Reading};
-ghost use Rattle.dc_vista.specs.Calls.{IsCall};
 ghost use Rattle.dc_vista.specs.Handles.{IsLent, IsSameCommit, seen, shape_of, since_of};
 ghost use Rattle.dc_vista.specs.Standing.{Numbers, StandsFor, memory_of};
 ghost use Rattle.dc_vista.specs.Whole.{IsMine, IsNext, IsPrepared, IsPreparedAs, IsReady, IsZero, Stays};
@@ -31,7 +32,7 @@ impl Frame {
         ensures old_state { (d : ℕ) (r : Reading) → d < g → StandsFor (shape_of self.now) (seen K.Keeps self.now dev.new) d r → StandsFor (shape_of self.now) (seen K.Keeps self.now dev.old) d r }
         ensures new_state { OnOk result ((d : ℕ) (r : Reading) → g ≤ d → StandsFor (shape_of self.now) (seen K.Keeps self.now dev.new) d r → IsSaved (memory_of self.now.size (seen K.Keeps self.now dev.old)) kernel.now r) }
         ensures numbers { (e : ℕ) → Numbers (seen K.Keeps self.now dev.new) e → Numbers (seen K.Keeps self.now dev.old) e }
-        ensures call { IsCall K.Keeps self.now.place dev.old dev.new result }
+        ensures call { IsCall (of_words K.Keeps) self.now.place dev.old dev.new result }
     {
         self.put_kernel(dev, marks, kernel)?;
         put(dev, self.place, self.lines, Word::Prepared, g)
@@ -46,7 +47,7 @@ impl Frame {
         ensures stands { (number logged : ℕ) → IfSome (seen K.Keeps self.now dev.old) (IsPrepared (shape_of self.now) number logged)
             → (d : ℕ) (r : Reading) → prepared ≤ d → StandsFor (shape_of self.now) (seen K.Keeps self.now dev.new) d r → StandsFor (shape_of self.now) (seen K.Keeps self.now dev.old) d r }
         ensures numbers { (e : ℕ) → Numbers (seen K.Keeps self.now dev.new) e → Numbers (seen K.Keeps self.now dev.old) e }
-        ensures call { IsCall K.Keeps self.now.place dev.old dev.new result }
+        ensures call { IsCall (of_words K.Keeps) self.now.place dev.old dev.new result }
     {
         put(dev, self.place, self.lines, Word::Count, 0)?;
         put(dev, self.place, self.lines, Word::Finished, prepared)
@@ -68,7 +69,7 @@ impl Frame {
         ensures memory { OnOk result (Becomes (memory_of self.now.size (seen K.Keeps self.now dev.old)) (memory_of self.now.size (seen K.Keeps self.now dev.new)) (λ before after. after ≡ before)) }
         ensures stands { (d : ℕ) (r : Reading) → g ≤ d → StandsFor (shape_of self.now) (seen K.Keeps self.now dev.new) d r → StandsFor (shape_of self.now) (seen K.Keeps self.now dev.old) d r }
         ensures numbers { (e : ℕ) → Numbers (seen K.Keeps self.now dev.new) e → Numbers (seen K.Keeps self.now dev.old) e }
-        ensures call { IsCall K.Keeps self.now.place dev.old dev.new result }
+        ensures call { IsCall (of_words K.Keeps) self.now.place dev.old dev.new result }
     {
         self.complete(dev, g)?;
         marks.restart(g, 0);
@@ -85,7 +86,7 @@ impl Frame {
         ensures stands { Stays (shape_of self.now) (seen K.Keeps self.now dev.old) (seen K.Keeps self.now dev.new) }
         ensures decided { OnOk result ((e : ℕ) → Numbers (seen K.Keeps self.now dev.new) e → e ≡ g) }
         ensures between { (e : ℕ) → Numbers (seen K.Keeps self.now dev.new) e → Numbers (seen K.Keeps self.now dev.old) e ⊎ (e ≡ g) }
-        ensures call { IsCall K.Keeps self.now.place dev.old dev.new result }
+        ensures call { IsCall (of_words K.Keeps) self.now.place dev.old dev.new result }
     {
         put(dev, self.place, self.lines, Word::Decided, g)
     }

@@ -1,10 +1,11 @@
 //! Logs events in the places of the log, in order.
 
 ghost use Rattle.std.specs.Prelude.{◌≡◌, ◌⊎◌, ◌+◌, ◌*◌, ◌<◌, ℕ, OnOk, length};
+ghost use Rattle.dc_media.specs.Calls.{IsCall};
+ghost use Rattle.dc_media.specs.Devices.{of_words};
 ghost use Rattle.dc_kernel.specs.Records.{IsRecord};
 ghost use Rattle.dc_media.specs.Told.{Becomes};
 ghost use Rattle.dc_checkpoint.specs.States.{IsLogged, Reading};
-ghost use Rattle.dc_vista.specs.Calls.{IsCall};
 ghost use Rattle.dc_vista.specs.Handles.{IsLent, seen, shape_of, since_of};
 ghost use Rattle.dc_vista.specs.Standing.{Numbers, StandsFor, memory_of};
 ghost use Rattle.dc_vista.specs.Whole.{IsReady, IsWritten, Stays};
@@ -14,6 +15,7 @@ use crate::marks::Marks;
 use crate::reading::PLACE_WORDS;
 use crate::words::{Word, put};
 use dc_kernel::{LogRecord, RECORD_WORDS};
+use dc_limits::LOGGED_EVENTS;
 use dc_media::{DeviceFault, Keeps};
 
 impl Frame {
@@ -25,14 +27,14 @@ impl Frame {
         text: &[u32],
     ) -> Result<(), DeviceFault>
         requires long { length text.now ≡ 21 }
-        requires room { marks.now.logged < 64 }
+        requires room { marks.now.logged < LOGGED_EVENTS }
         requires lent { IsLent K.Keeps self.now dev.old }
         requires ready { IsReady (shape_of self.now) (since_of marks.now) (seen K.Keeps self.now dev.old) }
         ensures ready { OnOk result (IsReady (shape_of self.now) (since_of marks.now) (seen K.Keeps self.now dev.new)) }
         ensures stands { Stays (shape_of self.now) (seen K.Keeps self.now dev.old) (seen K.Keeps self.now dev.new) }
         ensures text { OnOk result (Becomes (seen K.Keeps self.now dev.old) (seen K.Keeps self.now dev.new) (λ b a. IsWritten (22 * marks.now.logged + 1) 21 text.now b.log a.log)) }
         ensures rest { Becomes (seen K.Keeps self.now dev.old) (seen K.Keeps self.now dev.new) (λ b a. a ≡ record b { log = a.log }) }
-        ensures call { IsCall K.Keeps self.now.place dev.old dev.new result }
+        ensures call { IsCall (of_words K.Keeps) self.now.place dev.old dev.new result }
     {
         let mut at = PLACE_WORDS * marks.logged + 1;
         for w in text {
@@ -50,7 +52,7 @@ impl Frame {
         rec: &LogRecord,
     ) -> Result<(), DeviceFault>
         requires record { IsRecord self.now.n rec.now }
-        requires room { marks.old.logged < 64 }
+        requires room { marks.old.logged < LOGGED_EVENTS }
         requires lent { IsLent K.Keeps self.now dev.old }
         requires ready { IsReady (shape_of self.now) (since_of marks.old) (seen K.Keeps self.now dev.old) }
         ensures ready { OnOk result (IsReady (shape_of self.now) (since_of marks.new) (seen K.Keeps self.now dev.new)) }
@@ -61,7 +63,7 @@ impl Frame {
         ensures between { (d : ℕ) (r : Reading) → StandsFor (shape_of self.now) (seen K.Keeps self.now dev.new) d r
             → StandsFor (shape_of self.now) (seen K.Keeps self.now dev.old) d r ⊎ IsLogged (StandsFor (shape_of self.now) (seen K.Keeps self.now dev.old) d) rec.now r }
         ensures numbers { (e : ℕ) → Numbers (seen K.Keeps self.now dev.new) e → Numbers (seen K.Keeps self.now dev.old) e }
-        ensures call { IsCall K.Keeps self.now.place dev.old dev.new result }
+        ensures call { IsCall (of_words K.Keeps) self.now.place dev.old dev.new result }
     {
         let mut text = [0; RECORD_WORDS];
         rec.encode(&mut text);

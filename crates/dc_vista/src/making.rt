@@ -1,9 +1,10 @@
 //! Makes a segment: all its words but the first in order, zeros too, and then the first, by which it is ready.
 
 ghost use Rattle.std.specs.Prelude.{◌≡◌, ◌<◌, ℕ, IfSome, Ok, OnOk, length, slice_index, take};
+ghost use Rattle.dc_media.specs.Calls.{IsCall};
+ghost use Rattle.dc_media.specs.Devices.{of_words};
 ghost use Rattle.dc_media.specs.Told.{Becomes};
 ghost use Rattle.dc_checkpoint.specs.States.{Reading, number_in};
-ghost use Rattle.dc_vista.specs.Calls.{IsCall};
 ghost use Rattle.dc_vista.specs.Handles.{IsLent, seen, shape_of, since_of};
 ghost use Rattle.dc_vista.specs.Making.{body_of, header_of, made};
 ghost use Rattle.dc_vista.specs.Parts.{segment_words};
@@ -71,7 +72,7 @@ impl Frame {
         ensures stands { (d : ℕ) (r : Reading) → StandsFor (shape_of self.now) (seen K.Keeps self.now dev.new) d r → r ≡ Ok (shape_of self.now).first }
         ensures told { Becomes (seen K.Keeps self.now dev.old) (seen K.Keeps self.now dev.new) (λ b a. Unit {0}) }
         ensures numbers { (e : ℕ) → Numbers (seen K.Keeps self.now dev.new) e → e ≡ 0 }
-        ensures call { IsCall K.Keeps self.now.place dev.old dev.new result }
+        ensures call { IsCall (of_words K.Keeps) self.now.place dev.old dev.new result }
     {
         for i in 1..segment_words(self.lines) {
             dev.store(self.place, i, self.made_word(i))?;
@@ -91,7 +92,7 @@ impl Frame {
         ensures stands { (d : ℕ) (r : Reading) → StandsFor (shape_of self.now) (seen K.Keeps self.now dev.new) d r → r ≡ Ok (shape_of self.now).first }
         ensures told { Becomes (seen K.Keeps self.now dev.old) (seen K.Keeps self.now dev.new) (λ b a. Unit {0}) }
         ensures numbers { (e : ℕ) → Numbers (seen K.Keeps self.now dev.new) e → e ≡ 0 }
-        ensures call { IsCall K.Keeps self.now.place dev.old dev.new result }
+        ensures call { IsCall (of_words K.Keeps) self.now.place dev.old dev.new result }
     {
         self.make(dev)?;
         marks.restart(self.kernel[COMMIT_AT], 0);

@@ -15,7 +15,9 @@ ghost use Rattle.dc_vista.specs.Whole.{HasUndo, IsHanded, IsLogged, IsRead, IsSe
 use crate::frame::Frame;
 use crate::recovering::counts;
 use crate::words::{Word, get};
-use dc_kernel::{COMMIT_AT, Kernel, LogRecord, RECORD_WORDS, Saved, StoreFault};
+use dc_checkpoint::StoreFault;
+use dc_kernel::{COMMIT_AT, Kernel, LogRecord, RECORD_WORDS, Saved};
+use dc_limits::LOGGED_EVENTS;
 use dc_media::Keeps;
 
 /// 44435631 hexadecimal.
@@ -23,9 +25,6 @@ pub const READY: u32 = 0x4443_5631;
 
 /// The version of the layout.
 pub const VERSION: u32 = 1;
-
-/// How many places the log has.
-pub const PLACES: u32 = 64;
 
 /// The words of a place of the log: a tag and the text of an event.
 pub const PLACE_WORDS: u32 = 22;
@@ -200,7 +199,7 @@ impl Frame {
 
     /// Fills `words` with the text in a place of the log.
     fn read_place<K: Keeps>(&self, dev: &K, j: u32, words: &mut [u32])
-        requires place { j < 64 }
+        requires place { j < LOGGED_EVENTS }
         requires long { length words.old ≡ 21 }
         requires lent { IsLent K.Keeps self.now dev.now }
         ensures long { length words.new ≡ 21 }
@@ -223,17 +222,17 @@ impl Frame {
         number: u32,
         log: &mut Vec<LogRecord>,
     ) -> Result<(), StoreFault>
-        requires room { 64 ≤ vec_capacity log.old }
+        requires room { LOGGED_EVENTS ≤ vec_capacity log.old }
         requires lent { IsLent K.Keeps self.now dev.now }
-        ensures room { 64 ≤ vec_capacity log.new }
-        ensures few { length log.new.items ≤ 64 }
+        ensures room { LOGGED_EVENTS ≤ vec_capacity log.new }
+        ensures few { length log.new.items ≤ LOGGED_EVENTS }
         ensures records { OnOk result (All (IsRecord self.now.n) log.new.items) }
         ensures log { OnOk result (IfSome (seen K.Keeps self.now dev.now) (IsLogged self.now.n number log.new.items)) }
         ensures refused { (fault : StoreFault) → IsErrOf result fault → IfSome (seen K.Keeps self.now dev.now) (λ b. (r : Reading) → or_record (self.now.lines + 1) (first_unsound self.now.n 0 (tagged 64 number b.log)) r ≡ Err fault) }
     {
         log.clear();
         let mut words = [0; RECORD_WORDS];
-        for j in 0..PLACES {
+        for j in 0..LOGGED_EVENTS {
             if get(dev, self.place, self.lines, Word::Log(PLACE_WORDS * j)) != number {
                 return Ok(());
             }
@@ -248,11 +247,11 @@ impl Frame {
 
     /// Whether the tags of the places from one on are below a number.
     fn are_below<K: Keeps>(&self, dev: &K, from: u32, number: u32) -> bool
-        requires from { from ≤ 64 }
+        requires from { from ≤ LOGGED_EVENTS }
         requires lent { IsLent K.Keeps self.now dev.now }
-        ensures { IfSome (seen K.Keeps self.now dev.now) (λ b. result ≡ all_below (64 - from) number (drop (22 * from) b.log)) }
+        ensures { IfSome (seen K.Keeps self.now dev.now) (λ b. result ≡ all_below (LOGGED_EVENTS - from) number (drop (22 * from) b.log)) }
     {
-        for j in from..PLACES {
+        for j in from..LOGGED_EVENTS {
             if get(dev, self.place, self.lines, Word::Log(PLACE_WORDS * j)) >= number {
                 return false;
             }
@@ -273,11 +272,11 @@ impl Frame {
         requires made { IfSome (seen K.Keeps self.now dev.now) (λ b. b.ready ≢ 0) }
         requires long { length text.old ≡ kernel_words self.now.n }
         requires process { (saved.old.kernel.n ≡ self.now.n) × (saved.old.kernel.p ≡ self.now.p) }
-        requires room { 64 ≤ vec_capacity saved.old.log }
+        requires room { LOGGED_EVENTS ≤ vec_capacity saved.old.log }
         ensures long { length text.new ≡ length text.old }
         ensures process { (saved.new.kernel.n ≡ saved.old.kernel.n) × (saved.new.kernel.p ≡ saved.old.kernel.p) }
-        ensures room { 64 ≤ vec_capacity saved.new.log }
-        ensures few { OnOk result (length saved.new.log.items ≤ 64) }
+        ensures room { LOGGED_EVENTS ≤ vec_capacity saved.new.log }
+        ensures few { OnOk result (length saved.new.log.items ≤ LOGGED_EVENTS) }
         ensures records { OnOk result (All (IsRecord self.now.n) saved.new.log.items) }
         ensures kernel { OnOk result (IsKernel self.now.n self.now.p saved.new.kernel) }
         ensures position { OnOk result (saved.new.position ≡ saved.new.kernel.position) }

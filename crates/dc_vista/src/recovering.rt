@@ -1,9 +1,10 @@
 //! What a recovery does to the words once it has read them: it finishes a commit that is decided, or puts the undo lines back.
 
 ghost use Rattle.std.specs.Prelude.{◌≡◌, ◌==◌, ◌&&◌, ◌≤◌, ℕ, IfSome, OnOk, length, nat_le, not};
+ghost use Rattle.dc_media.specs.Calls.{IsCall};
+ghost use Rattle.dc_media.specs.Devices.{of_words};
 ghost use Rattle.dc_media.specs.Told.{Becomes};
 ghost use Rattle.dc_checkpoint.specs.States.{Reading};
-ghost use Rattle.dc_vista.specs.Calls.{IsCall};
 ghost use Rattle.dc_vista.specs.Handles.{IsLent, seen, shape_of, since_of};
 ghost use Rattle.dc_vista.specs.Standing.{Numbers, StandsFor, standing};
 ghost use Rattle.dc_vista.specs.Undo.{undone};
@@ -29,7 +30,7 @@ impl Frame {
         requires told { IfSome (seen K.Keeps self.now dev.old) (λ b. count ≡ b.count) }
         ensures back { OnOk result (Becomes (seen K.Keeps self.now dev.old) (seen K.Keeps self.now dev.new) (IsPutBack 0)) }
         ensures between { Becomes (seen K.Keeps self.now dev.old) (seen K.Keeps self.now dev.new) IsBetween }
-        ensures call { IsCall K.Keeps self.now.place dev.old dev.new result }
+        ensures call { IsCall (of_words K.Keeps) self.now.place dev.old dev.new result }
     {
         let mut k = count;
         while k > 0 {
@@ -54,7 +55,7 @@ impl Frame {
         ensures stands { (number logged d : ℕ) → IsOld (seen K.Keeps self.now dev.old) d → IfSome (seen K.Keeps self.now dev.old) (IsUndoing (shape_of self.now) number logged)
             → (r : Reading) → StandsFor (shape_of self.now) (seen K.Keeps self.now dev.new) d r → StandsFor (shape_of self.now) (seen K.Keeps self.now dev.old) d r }
         ensures numbers { (e : ℕ) → Numbers (seen K.Keeps self.now dev.new) e → Numbers (seen K.Keeps self.now dev.old) e }
-        ensures call { IsCall K.Keeps self.now.place dev.old dev.new result }
+        ensures call { IsCall (of_words K.Keeps) self.now.place dev.old dev.new result }
     {
         self.undo(dev, count)?;
         put(dev, self.place, self.lines, Word::Count, 0)?;
@@ -71,7 +72,7 @@ impl Frame {
         ensures stands { (number logged : ℕ) → IfSome (seen K.Keeps self.now dev.old) (IsRead (shape_of self.now) number logged d)
             → (r : Reading) → StandsFor (shape_of self.now) (seen K.Keeps self.now dev.new) d r → StandsFor (shape_of self.now) (seen K.Keeps self.now dev.old) d r }
         ensures numbers { (e : ℕ) → Numbers (seen K.Keeps self.now dev.new) e → Numbers (seen K.Keeps self.now dev.old) e }
-        ensures call { IsCall K.Keeps self.now.place dev.old dev.new result }
+        ensures call { IsCall (of_words K.Keeps) self.now.place dev.old dev.new result }
     {
         let prepared = get(dev, self.place, self.lines, Word::Prepared);
         let finished = get(dev, self.place, self.lines, Word::Finished);
@@ -102,7 +103,7 @@ impl Frame {
         ensures body { OnOk result (Becomes (seen K.Keeps self.now dev.old) (seen K.Keeps self.now dev.new) (λ b a. a.body ≡ standing b d)) }
         ensures stands { (r : Reading) → StandsFor (shape_of self.now) (seen K.Keeps self.now dev.new) d r → StandsFor (shape_of self.now) (seen K.Keeps self.now dev.old) d r }
         ensures numbers { (e : ℕ) → Numbers (seen K.Keeps self.now dev.new) e → Numbers (seen K.Keeps self.now dev.old) e }
-        ensures call { IsCall K.Keeps self.now.place dev.old dev.new result }
+        ensures call { IsCall (of_words K.Keeps) self.now.place dev.old dev.new result }
     {
         self.settle(dev, count, d)?;
         marks.restart(number, logged);

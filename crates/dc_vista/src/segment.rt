@@ -15,8 +15,8 @@ ghost use Rattle.dc_vista.specs.Whole.{IsPreparedAs, IsReady, untouched};
 use crate::frame::Frame;
 use crate::marks::Marks;
 use crate::words::{Word, get, segment_words};
-use dc_checkpoint::Checkpoint;
-use dc_kernel::{COMMIT_AT, CheckFault, LogRecord, N_AT, P_AT, Saved, StoreFault};
+use dc_checkpoint::{CheckFault, Checkpoint, StoreFault};
+use dc_kernel::{COMMIT_AT, LogRecord, N_AT, P_AT, Saved};
 use dc_media::{DeviceFault, Keeps, MakeFault};
 use std::alloc::{AllocError, Global};
 use std::marker::PhantomData;
@@ -125,6 +125,8 @@ impl<K: Keeps> Checkpoint for Segment<K> {
     ghost prepared = { λ s dev g. IfSome (seen K.Keeps s.frame dev) (IsPreparedAs (shape_of s.frame) g) };
 
     ghost decidable = { λ s dev g. Unit {0} };
+
+    ghost loggable = { λ s. Unit {0} };
 
     ghost steady = { λ s dev. Unit {0} };
 
@@ -237,6 +239,8 @@ impl<K: Keeps> Checkpoint for Segment<K> {
         // No commit has number 0; a recovery tells the one that it goes on from.
         self.marks.restart(0, 0);
     }
+
+    ghost may_log = { λ s dev ready. tt };
 
     ghost settled = { λ s dev ready d e r low high. settled_reading (shape_of s.frame) (since_of s.marks) _ ready d e r };
 

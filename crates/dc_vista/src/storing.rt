@@ -1,9 +1,10 @@
 //! Stores to the words of the body: a line is kept before it is first stored to.
 
 ghost use Rattle.std.specs.Prelude.{◌≡◌, ◌+◌, ◌*◌, ◌/◌, ◌%◌, ◌<◌, ◌≤◌, ℕ, Some, OnOk, false, length, slice_get, slice_set, true};
+ghost use Rattle.dc_media.specs.Calls.{IsCall};
+ghost use Rattle.dc_media.specs.Devices.{of_words};
 ghost use Rattle.dc_media.specs.Stores.{set_words};
 ghost use Rattle.dc_media.specs.Told.{Becomes};
-ghost use Rattle.dc_vista.specs.Calls.{IsCall};
 ghost use Rattle.dc_vista.specs.Handles.{IsLent, IsSameCommit, seen, shape_of, since_of};
 ghost use Rattle.dc_vista.specs.Standing.{Numbers};
 ghost use Rattle.dc_vista.specs.Whole.{HasHeader, IsReady, IsWritten, Stays};
@@ -25,7 +26,7 @@ impl Frame {
         ensures stands { Stays (shape_of self.now) (seen K.Keeps self.now dev.old) (seen K.Keeps self.now dev.new) }
         ensures body { OnOk result (Becomes (seen K.Keeps self.now dev.old) (seen K.Keeps self.now dev.new) (λ b a. a.body ≡ b.body)) }
         ensures header { Becomes (seen K.Keeps self.now dev.old) (seen K.Keeps self.now dev.new) (λ b a. HasHeader b a) }
-        ensures call { IsCall K.Keeps self.now.place dev.old dev.new result }
+        ensures call { IsCall (of_words K.Keeps) self.now.place dev.old dev.new result }
     {
         put(dev, self.place, self.lines, Word::Number(marks.count), line)?;
         keep_line(dev, self.place, self.lines, line, marks.count)?;
@@ -44,7 +45,7 @@ impl Frame {
         ensures stands { Stays (shape_of self.now) (seen K.Keeps self.now dev.old) (seen K.Keeps self.now dev.new) }
         ensures body { OnOk result (Becomes (seen K.Keeps self.now dev.old) (seen K.Keeps self.now dev.new) (λ b a. a.body ≡ slice_set b.body i w)) }
         ensures header { Becomes (seen K.Keeps self.now dev.old) (seen K.Keeps self.now dev.new) (λ b a. HasHeader b a) }
-        ensures call { IsCall K.Keeps self.now.place dev.old dev.new result }
+        ensures call { IsCall (of_words K.Keeps) self.now.place dev.old dev.new result }
     {
         put(dev, self.place, self.lines, Word::Body(i), w)
     }
@@ -66,7 +67,7 @@ impl Frame {
         ensures stands { Stays (shape_of self.now) (seen K.Keeps self.now dev.old) (seen K.Keeps self.now dev.new) }
         ensures body { OnOk result (Becomes (seen K.Keeps self.now dev.old) (seen K.Keeps self.now dev.new) (λ b a. a.body ≡ set_words (length words.now) i words.now b.body)) }
         ensures header { Becomes (seen K.Keeps self.now dev.old) (seen K.Keeps self.now dev.new) (λ b a. HasHeader b a) }
-        ensures call { IsCall K.Keeps self.now.place dev.old dev.new result }
+        ensures call { IsCall (of_words K.Keeps) self.now.place dev.old dev.new result }
     {
         put_row(dev, self.place, self.lines, i, words)
     }
@@ -88,7 +89,7 @@ impl Frame {
         ensures body { OnOk result (Becomes (seen K.Keeps self.now dev.old) (seen K.Keeps self.now dev.new) (λ b a. a.body ≡ slice_set b.body i w)) }
         ensures header { Becomes (seen K.Keeps self.now dev.old) (seen K.Keeps self.now dev.new) (λ b a. HasHeader b a) }
         ensures numbers { (e : ℕ) → Numbers (seen K.Keeps self.now dev.new) e → Numbers (seen K.Keeps self.now dev.old) e }
-        ensures call { IsCall K.Keeps self.now.place dev.old dev.new result }
+        ensures call { IsCall (of_words K.Keeps) self.now.place dev.old dev.new result }
     {
         if marks.touched[(i / 16) as usize] {
             return self.write(dev, marks, i, w);
@@ -115,7 +116,7 @@ impl Frame {
         ensures stands { Stays (shape_of self.now) (seen K.Keeps self.now dev.old) (seen K.Keeps self.now dev.new) }
         ensures body { OnOk result (Becomes (seen K.Keeps self.now dev.old) (seen K.Keeps self.now dev.new) (λ b a. a.body ≡ set_words (length words.now) i words.now b.body)) }
         ensures header { Becomes (seen K.Keeps self.now dev.old) (seen K.Keeps self.now dev.new) (λ b a. HasHeader b a) }
-        ensures call { IsCall K.Keeps self.now.place dev.old dev.new result }
+        ensures call { IsCall (of_words K.Keeps) self.now.place dev.old dev.new result }
     {
         let line = i / 16;
         if marks.touched[line as usize] {
@@ -140,7 +141,7 @@ impl Frame {
         ensures stands { Stays (shape_of self.now) (seen K.Keeps self.now dev.old) (seen K.Keeps self.now dev.new) }
         ensures body { OnOk result (Becomes (seen K.Keeps self.now dev.old) (seen K.Keeps self.now dev.new) (λ b a. IsWritten self.now.size (length kernel.now) kernel.now b.body a.body)) }
         ensures header { Becomes (seen K.Keeps self.now dev.old) (seen K.Keeps self.now dev.new) (λ b a. HasHeader b a) }
-        ensures call { IsCall K.Keeps self.now.place dev.old dev.new result }
+        ensures call { IsCall (of_words K.Keeps) self.now.place dev.old dev.new result }
     {
         let mut i = self.size;
         let mut done = 0;

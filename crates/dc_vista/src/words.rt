@@ -1,7 +1,8 @@
 //! Reads and writes of the words of a segment by what they hold. `q` is the number of its lines.
 
 ghost use Rattle.std.specs.Prelude.{◌≡◌, ◌+◌, ◌*◌, ◌<◌, ◌≤◌, ◌^◌, IfSome, length};
-ghost use Rattle.dc_vista.specs.Calls.{IsCall};
+ghost use Rattle.dc_media.specs.Calls.{IsCall};
+ghost use Rattle.dc_media.specs.Devices.{of_words};
 ghost use Rattle.dc_vista.specs.Parts.{Copies, HasLengths, IsWord, Turns, index_of, parts, segment_words, with_line, with_row, with_undo, with_word, word_of};
 
 use dc_media::{DeviceFault, Keeps};
@@ -72,7 +73,7 @@ pub fn put<K: Keeps>(dev: &mut K, p: u32, q: u32, word: Word, w: u32) -> Result<
     requires word { IsWord q word }
     ensures part { Turns (with_word word w) result (parts q (K.told dev.old p)) (parts q (K.told dev.new p)) }
     ensures long { IfSome (parts q (K.told dev.new p)) (HasLengths q) }
-    ensures call { IsCall K.Keeps p dev.old dev.new result }
+    ensures call { IsCall (of_words K.Keeps) p dev.old dev.new result }
 {
     dev.store(p, index(q, word), w)
 }
@@ -89,7 +90,7 @@ pub fn put_row<K: Keeps>(
     requires row { i + length words.now ≤ 16 * q }
     ensures part { Copies (length words.now) (with_row i words.now) result (parts q (K.told dev.old p)) (parts q (K.told dev.new p)) }
     ensures long { IfSome (parts q (K.told dev.new p)) (HasLengths q) }
-    ensures call { IsCall K.Keeps p dev.old dev.new result }
+    ensures call { IsCall (of_words K.Keeps) p dev.old dev.new result }
 {
     dev.store_words(p, 16 + i, words)
 }
@@ -116,7 +117,7 @@ pub fn keep_line<K: Keeps>(
     requires at { j < q }
     ensures part { Copies 16 (with_undo line j) result (parts q (K.told dev.old p)) (parts q (K.told dev.new p)) }
     ensures long { IfSome (parts q (K.told dev.new p)) (HasLengths q) }
-    ensures call { IsCall K.Keeps p dev.old dev.new result }
+    ensures call { IsCall (of_words K.Keeps) p dev.old dev.new result }
 {
     dev.copy_line(p, 16 + 16 * line, 1424 + 17 * q + 16 * j)
 }
@@ -128,7 +129,7 @@ pub fn put_back<K: Keeps>(dev: &mut K, p: u32, q: u32, line: u32, j: u32) -> Res
     requires at { j < q }
     ensures part { Copies 16 (with_line line j) result (parts q (K.told dev.old p)) (parts q (K.told dev.new p)) }
     ensures long { IfSome (parts q (K.told dev.new p)) (HasLengths q) }
-    ensures call { IsCall K.Keeps p dev.old dev.new result }
+    ensures call { IsCall (of_words K.Keeps) p dev.old dev.new result }
 {
     dev.copy_line(p, 1424 + 17 * q + 16 * j, 16 + 16 * line)
 }

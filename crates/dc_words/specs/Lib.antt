@@ -3,3 +3,4 @@ pub mod Hex
 pub mod Numbers
 pub mod Texts
 pub mod Results
+pub mod Lists

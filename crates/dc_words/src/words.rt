@@ -1,7 +1,8 @@
-ghost use Rattle.std.specs.Prelude.{◌≡◌, ◌*◌, ◌%◌, ◌^◌, List, ℕ, length};
+ghost use Rattle.std.specs.Prelude.{◌≡◌, ◌*◌, ◌%◌, ◌^◌, IfOk, List, ℕ, length};
 ghost use Rattle.dc_words.specs.Words.{AllBelow, bytes_in, words_in};
 
 use byteorder::{ByteOrder, LittleEndian};
+use std::alloc::{AllocError, Global};
 
 /// Fills `to` with the words of the bytes, the lowest byte of each first.
 pub fn words_of(bytes: &[u8], to: &mut [u32])
@@ -9,6 +10,17 @@ pub fn words_of(bytes: &[u8], to: &mut [u32])
     ensures { to.new ≡ words_in bytes.now }
 {
     LittleEndian::read_u32_into(bytes, to);
+}
+
+/// The words of the bytes, the lowest byte of each first.
+pub fn to_words(alloc: Global, bytes: &[u8]) -> Result<Vec<u32>, AllocError>
+    requires { length bytes.now % 4 ≡ 0 }
+    ensures words { IfOk result (λ words. bytes_in words.items ≡ bytes.now) }
+    ensures long { IfOk result (λ words. 4 * length words.items ≡ length bytes.now) }
+{
+    let mut words = vec![in alloc; 0; bytes.len() / 4]?;
+    words_of(bytes, &mut words);
+    Ok(words)
 }
 
 /// Fills `to` with the bytes of the words, the lowest of each first.

@@ -9,8 +9,8 @@ use Rattle.dc_elf.specs.Images.{Image}
 use Rattle.dc_guest.specs.Guest.{Guest, coming, guests_of, started}
 use Rattle.dc_kernel.specs.Kernels.{Kernel}
 use Rattle.dc_kernel.specs.Texts.{text_of}
-use Rattle.dc_kernel.specs.declared.faults.StoreFault.{StoreFault}
-use Rattle.dc_kernel.specs.declared.faults.StoreFault.TheVariants as fault
+use Rattle.dc_checkpoint.specs.declared.faults.StoreFault.{StoreFault}
+use Rattle.dc_checkpoint.specs.declared.faults.StoreFault.TheVariants as fault
 use Rattle.dc_kernel.specs.declared.saved.Saved.{Saved}
 use Rattle.dc_model.specs.Guests.{Answer, Guests, is_clock, is_input, is_random, is_receive, is_sure}
 use Rattle.dc_model.specs.Guests.Answer.{Plain, Clock, Random, InputNone, InputNext, InputEnd, ReceiveNone, ReceiveFrom}

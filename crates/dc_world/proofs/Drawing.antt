@@ -12,7 +12,7 @@ use Rattle.dc_kernel.specs.Kernels.{Kernel}
 use Rattle.dc_links.specs.Links.{link_to, message_numbered}
 use Rattle.dc_model.specs.Guests.{receive_answer}
 use Rattle.dc_model.specs.declared.entry.Turn.{Turn}
-use Rattle.dc_plain.specs.Playing.{items_of, lists_of}
+use Rattle.dc_words.specs.Lists.{items_of, lists_of}
 use Rattle.dc_recovery.specs.Answers.{drawn_answer}
 use Rattle.dc_recovery.specs.Core.{Core, stands}
 use Rattle.dc_recovery.specs.Systems.{System}

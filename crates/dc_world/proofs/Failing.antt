@@ -5,7 +5,7 @@ use Rattle.dc_checkpoint.specs.States.{Reading}
 use Rattle.dc_checkpoint.specs.declared.checkpoint.Checkpoint as checkpoint
 use Rattle.dc_elf.specs.Images.{Image}
 use Rattle.dc_guest.specs.Guest.{Guest}
-use Rattle.dc_kernel.specs.declared.faults.StoreFault.{StoreFault}
+use Rattle.dc_checkpoint.specs.declared.faults.StoreFault.{StoreFault}
 use Rattle.dc_model.specs.Runs.{own}
 use Rattle.dc_model.specs.declared.entry.Entry.TheVariants as entry
 use Rattle.dc_model.specs.declared.entry.Turn.{Turn}

@@ -13,7 +13,8 @@ use Rattle.dc_kernel.specs.Kernels.{IsKernel, Kernel}
 use Rattle.dc_kernel.specs.Layout.{kernel_words}
 use Rattle.dc_links.specs.Links.{Link, link_to, number_of_first}
 use Rattle.dc_model.specs.Process.{begun}
-use Rattle.dc_plain.specs.Playing.{lists_of, seen_image}
+use Rattle.dc_elf.specs.Loaded.{seen_image}
+use Rattle.dc_words.specs.Lists.{lists_of}
 use Rattle.dc_proc.proofs.Texts.{number_is, state_in}
 use Rattle.dc_proc.specs.Carried.{system}
 use Rattle.dc_proc.specs.Events.{HasCountsFor}

@@ -8,7 +8,7 @@ use Rattle.dc_checkpoint.specs.declared.checkpoint.Checkpoint as checkpoint
 use Rattle.dc_elf.specs.Images.{Image}
 use Rattle.dc_model.specs.declared.entry.Entry.TheVariants as entry
 use Rattle.dc_model.specs.declared.mark.Mark.TheVariants as mark
-use Rattle.dc_plain.specs.Playing.{lists_of}
+use Rattle.dc_words.specs.Lists.{lists_of}
 use Rattle.dc_proc.specs.Carried.{system}
 use Rattle.dc_protocols.specs.Rules.{is_global}
 use Rattle.dc_recovery.proofs.Joints.{each_all}

@@ -1,6 +1,7 @@
 -- What the code of a world answers at a turn.
 use Rattle.std.specs.Prelude.{◌≡◌, ◌≢◌, ◌<◌, ◌==◌, ◌+◌, ◌%◌, ◌||◌, not, ℕ, List, Bool, true, false, Option, None, Some, is_some, if◌then◌else◌, length, slice_get, slice_index}
 use Rattle.std.specs.Option.{option_map}
+use Rattle.dc_limits.specs.declared.sizes.TheConstants.{KEPT_MESSAGES}
 use Rattle.dc_calls.specs.declared.call.Call.{Call}
 use Rattle.dc_calls.specs.declared.call.Call.TheVariants as calls
 use Rattle.dc_events.specs.Kinds.{kind_of}
@@ -63,7 +64,7 @@ IsTold n p call rec = (at_inputs (kind_by call) ≡ true) × (may_answer (answer
 
 -- a call that sends finds room for its message
 abbrev pub HasCallRoom : Kernel → Option Call → Type 0
-HasCallRoom k (Some (calls.Send q from count)) = length (link_to k.links q).kept < 8
+HasCallRoom k (Some (calls.Send q from count)) = length (link_to k.links q).kept < KEPT_MESSAGES
 HasCallRoom k _ = Unit {0}
 
 -- a call that sends

@@ -1,6 +1,7 @@
 -- Processes that commit, fall and recover together, and their stores.
 use Rattle.std.specs.Prelude.{◌≡◌, ◌⊎◌, ◌<◌, ◌≤◌, ◌+◌, ◌*◌, ◌^◌, ℕ, zero, suc, List, [], Bool, true, false, Option, Some, length, map, max, slice_get, slice_index}
 use Rattle.std.specs.List.{list_any}
+use Rattle.dc_limits.specs.declared.bounds.TheConstants.{LOGGED_EVENTS}
 use Rattle.dc_acts.specs.Counted.{cut_acts}
 use Rattle.dc_checkpoint.specs.declared.checkpoint.Checkpoint as checkpoint
 use Rattle.dc_kernel.specs.Layout.{kernel_words}
@@ -41,7 +42,7 @@ pub record GoesAlike (old new : Option Slot) : Type 0 where
 
 -- nothing is left to read, own is clear, the log is empty, and this was received
 abbrev pub settled : List ℕ → Held → Held
-settled based h = record h { unread = []; own = false; log_left = 64; based = based }
+settled based h = record h { unread = []; own = false; log_left = LOGGED_EVENTS; based = based }
 
 -- its commit was acknowledged
 pub record IsSettled (old new : Option Slot) : Type 0 where
@@ -100,7 +101,7 @@ pub record IsRisenFrom (saved : Saved) (old new : Option Slot) : Type 0 where
   pub kernel_is : (held_in new).kernel ≡ saved.kernel
   pub unread_is : (held_in new).unread ≡ saved.log.items
   pub own_is : (held_in new).own ≡ false
-  pub left_is : (held_in new).log_left + length saved.log.items ≡ 64
+  pub left_is : (held_in new).log_left + length saved.log.items ≡ LOGGED_EVENTS
   pub based_is : IsCopied saved.kernel (based_in new)
   pub risen : RisesAt saved (held_in new)
   pub size_same : size_in new ≡ size_in old

@@ -1,5 +1,6 @@
 -- What a world is when it was opened.
 use Rattle.std.specs.Prelude.{◌≡◌, ◌⊎◌, ◌<◌, ◌≤◌, ◌*◌, ◌-◌, ℕ, List, [], true, false, Option, Some, IfSome, length, replicate, slice_get, slice_index, slice_set}
+use Rattle.dc_limits.specs.declared.bounds.TheConstants.{LOGGED_EVENTS}
 use Rattle.dc_checkpoint.specs.Calls.{AreAll, FallsStore}
 use Rattle.dc_checkpoint.specs.Handles.{showing_of}
 use Rattle.dc_checkpoint.specs.States.{Form, IsFit, Reading}
@@ -8,7 +9,8 @@ use Rattle.dc_elf.specs.declared.image.Image.{Image}
 use Rattle.dc_kernel.specs.Kernels.{IsKernel, Kernel, fresh}
 use Rattle.dc_kernel.specs.declared.saved.Saved.{Saved}
 use Rattle.dc_media.specs.Causes.{Rose}
-use Rattle.dc_plain.specs.Playing.{CanStart, lists_of}
+use Rattle.dc_elf.specs.Loaded.{CanStart}
+use Rattle.dc_words.specs.Lists.{lists_of}
 use Rattle.dc_proc.specs.Processes.{Held, reading_of}
 use Rattle.dc_protocols.specs.Rules.{is_global}
 use Rattle.dc_protocols.specs.declared.protocol.Protocol.{Protocol}
@@ -38,7 +40,7 @@ pub record IsHeldFirst (kernel : Kernel) (held : Held) : Type 0 where
   pub kernel_is : held.kernel ≡ kernel
   pub unread_is : held.unread ≡ []
   pub own_is : held.own ≡ false
-  pub left_is : held.log_left ≡ 64
+  pub left_is : held.log_left ≡ LOGGED_EVENTS
   pub others_are : (q : ℕ) → q < kernel.n → slice_index held.others q ≡ 0
 
 -- process p of n

@@ -1,5 +1,6 @@
 -- What the processes of a world share, and what learning changes.
 use Rattle.std.specs.Prelude.{◌≡◌, ◌⊎◌, ◌<◌, ◌≤◌, ℕ, true, false, Option, Some, IsSome, length, max, slice_index, slice_set}
+use Rattle.dc_limits.specs.declared.sizes.TheConstants.{PROCESSES}
 use Rattle.dc_links.specs.Links.{link_to, trimmed}
 use Rattle.dc_proc.specs.Processes.{Held}
 use Rattle.dc_protocols.specs.declared.protocol.Protocol.{Protocol}
@@ -10,7 +11,7 @@ use Rattle.dc_world.specs.declared.processes.Processes.{Processes}
 -- there are up to eight, each at its place
 pub record IsWell (w : Processes) : Type 0 where
   pub some : 0 < length w.slots.items
-  pub few : length w.slots.items ≤ 8
+  pub few : length w.slots.items ≤ PROCESSES
   pub exposed_long : length w.exposed.items ≡ length w.slots.items
   pub inputs_long : length w.inputs.items ≡ length w.slots.items
   pub each : AreOf w.protocol w.slots.items (length w.slots.items)

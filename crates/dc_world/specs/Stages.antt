@@ -1,12 +1,13 @@
 -- When the processes of a world, with their stores on one device, stand for a core of the theory.
 use Rattle.std.specs.Prelude.{◌≡◌, ◌<◌, ◌≤◌, ◌+◌, ◌*◌, ◌-◌, ◌^◌, ℕ, List, [], Bool, true, false, Ok, Option, None, Some, IsSomeAnd, length, max, slice_get, slice_index, unwrap_or}
+use Rattle.dc_limits.specs.declared.bounds.TheConstants.{ENTRIES}
 use Rattle.dc_checkpoint.specs.States.{Reading, State, number_in}
 use Rattle.dc_checkpoint.specs.declared.checkpoint.Checkpoint as checkpoint
 use Rattle.dc_guest.specs.Guest.{Guest}
 use Rattle.dc_model.specs.Runs.{own}
 use Rattle.dc_model.specs.World.{reported}
 use Rattle.dc_model.specs.declared.act.Taken.{Taken}
-use Rattle.dc_plain.specs.Playing.{lists_of}
+use Rattle.dc_words.specs.Lists.{lists_of}
 use Rattle.dc_proc.specs.Events.{HasCountsFor}
 use Rattle.dc_proc.specs.Processes.{IsNumbered}
 use Rattle.dc_proc.specs.Ups.{IsFit}
@@ -83,7 +84,7 @@ pub record IsReady {C D : Type 0} (g : checkpoint.Ghosts C D) (stores : List C) 
   pub room : length w.acts.items + w.left ≤ w.acts.room
   pub few_acts : length w.acts.items ≤ w.entries
   pub few_lines : w.lines ≤ w.entries
-  pub few_entries : w.entries + w.left ≤ 1000000
+  pub few_entries : w.entries + w.left ≤ ENTRIES
 
 -- where all commit together the decided number is that of their last commit, or less while that is the one with which the run began: so it is in each state
 -- that a store may stand for under it, and in each process that is up, whose store's images are all told of under it; and it may rise by two in each of so

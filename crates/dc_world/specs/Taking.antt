@@ -7,7 +7,7 @@ use Rattle.dc_events.specs.Kinds.{kind_of}
 use Rattle.dc_guest.specs.Answers.{effect_of, may_answer}
 use Rattle.dc_guest.specs.Guest.{event_of, machine_over, next_of, over}
 use Rattle.dc_guest.specs.Nexts.{called_by}
-use Rattle.dc_kernel.specs.declared.faults.CheckFault.{CheckFault}
+use Rattle.dc_checkpoint.specs.declared.faults.CheckFault.{CheckFault}
 use Rattle.dc_model.specs.Guests.{Answer}
 use Rattle.dc_model.specs.declared.act.Taken.{Taken}
 use Rattle.dc_model.specs.declared.mark.Idle.{Idle}

@@ -5,7 +5,7 @@ ghost use Rattle.std.specs.Option.{option_map};
 ghost use Rattle.dc_guest.specs.Answers.{answer_of, may_answer};
 ghost use Rattle.dc_kernel.specs.declared.records.LogRecord.{LogRecord as LogRecords};
 ghost use Rattle.dc_model.specs.Guests.Answer.{Plain};
-ghost use Rattle.dc_plain.specs.Playing.{items_of};
+ghost use Rattle.dc_words.specs.Lists.{items_of};
 ghost use Rattle.dc_proc.specs.Processes.{answer_logged};
 ghost use Rattle.dc_proc.specs.Ups.{held};
 ghost use Rattle.dc_protocols.specs.Rules.{at_inputs};
@@ -21,42 +21,21 @@ use dc_guest::Answer;
 use dc_kernel::LogRecord;
 use dc_links::Message;
 use dc_model::Turn;
-use dc_proc::Up;
+use dc_proc::{Up, answer_in};
 
-/// The event of a log record that is a request for input.
-const INPUT: u32 = 3;
-
-/// What a log record tells of a request for input.
-fn logged_input(rec: &LogRecord) -> Option<Answer>
-    ensures exact { may_answer (answer_logged rec.now) Kind.Input ≡ true → option_map answer_of result ≡ Some (answer_logged rec.now) }
-    ensures kind { IfSome result (λ a. may_answer (answer_of a) Kind.Input ≡ true) }
-{
-    if rec.event != INPUT {
-        return None;
-    }
-    match rec.answer {
-        0 => Some(Answer::InputNone),
-        1 => Some(Answer::InputNext(rec.body)),
-        _ => Some(Answer::InputEnd),
-    }
-}
-
-/// What a log record tells of a request for a message, to process `p` of `n`.
-fn logged_receipt(rec: &LogRecord, n: u32, p: u32) -> Option<Answer>
-    ensures exact { may_answer (answer_logged rec.now) Kind.Receive ≡ true → IsSentTo n p (answer_logged rec.now) → option_map answer_of result ≡ Some (answer_logged rec.now) }
-    ensures kind { IfSome result (λ a. may_answer (answer_of a) Kind.Receive ≡ true) }
+/// An answer to a request of this kind of process `p` of `n`; nothing where it is none, or is no other process's message.
+fn fitting(answer: Answer, kind: Kind, n: u32, p: u32) -> Option<Answer>
+    ensures exact { may_answer (answer_of answer) kind ≡ true → IsSentTo n p (answer_of answer) → result ≡ Some answer }
+    ensures kind { IfSome result (λ a. may_answer (answer_of a) kind ≡ true) }
     ensures sender { IfSome result (λ a. IsSentTo n p (answer_of a)) }
 {
-    if rec.event == INPUT {
+    if !answer.may_answer(kind) {
         return None;
     }
-    if rec.answer == 0 {
-        return Some(Answer::ReceiveNone);
+    match answer {
+        Answer::ReceiveFrom(sender, _) if sender >= n || sender == p => None,
+        _ => Some(answer),
     }
-    if rec.sender < n && rec.sender != p {
-        return Some(Answer::ReceiveFrom(rec.sender, rec.body));
-    }
-    None
 }
 
 /// What a log record tells process `p` of `n` where it makes this call; nothing where it is not of such a call.
@@ -66,9 +45,10 @@ fn logged(rec: &LogRecord, call: Option<Call>, n: u32, p: u32) -> Option<Answer>
     ensures request { IfSome result (λ a. at_inputs (kind_by call) ≡ true) }
     ensures sender { IfSome result (λ a. IsSentTo n p (answer_of a)) }
 {
+    let answer = answer_in(rec);
     match call {
-        Some(Call::Input(_, _)) => logged_input(rec),
-        Some(Call::Receive(_, _)) => logged_receipt(rec, n, p),
+        Some(Call::Input(_, _)) => fitting(answer, Kind::Input, n, p),
+        Some(Call::Receive(_, _)) => fitting(answer, Kind::Receive, n, p),
         _ => None,
     }
 }

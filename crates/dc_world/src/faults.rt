@@ -2,7 +2,7 @@ ghost use Rattle.std.specs.Prelude.{◌≡◌};
 ghost use Rattle.dc_world.specs.Faults.{fall_answer};
 ghost use Rattle.dc_world.specs.declared.faults.OpenFault.TheVariants as opening;
 
-use dc_kernel::StoreFault;
+use dc_checkpoint::StoreFault;
 use dc_model::Mark;
 use dc_twophase::JointFault;
 use std::alloc::AllocError;

@@ -5,7 +5,8 @@ ghost use Rattle.dc_checkpoint.specs.States.{IsText, form_in, number_in};
 ghost use Rattle.dc_kernel.specs.Layout.{kernel_words};
 ghost use Rattle.dc_kernel.specs.Texts.{text_of};
 ghost use Rattle.dc_media.specs.Causes.{Rose};
-ghost use Rattle.dc_plain.specs.Playing.{lists_of, seen_image};
+ghost use Rattle.dc_elf.specs.Loaded.{seen_image};
+ghost use Rattle.dc_words.specs.Lists.{lists_of};
 ghost use Rattle.dc_proc.specs.Carried.{system};
 ghost use Rattle.dc_proc.specs.Processes.{form_of};
 ghost use Rattle.dc_protocols.specs.Rules.{is_global};
@@ -26,11 +27,12 @@ use dc_checkpoint::Checkpoint;
 use dc_elf::Image;
 use dc_guest::Guest;
 use dc_kernel::{Kernel, Saved, kernel_words};
+use dc_limits::{ENTRIES, PROCESSES};
 use dc_links::Message;
 use dc_media::MakeFault;
-use dc_plain::words_in;
 use dc_proc::Up;
 use dc_protocols::{Protocol, is_global};
+use dc_words::to_words;
 use std::alloc::{AllocError, Global};
 
 /// What a world begins with: an image and the inputs of each process.
@@ -43,7 +45,7 @@ pub struct Setup {
 
 /// The kernel of process `p` of `n` before its first event, at its first commit, in a memory of so many bytes.
 fn first_kernel(alloc: Global, n: u32, p: u32, size: u32, entry: u32) -> Result<Kernel, AllocError>
-    requires few { n ≤ 8 }
+    requires few { n ≤ PROCESSES }
     requires one_of { p < n }
     requires long { (16 ≤ size) × (size % 4 ≡ 0) }
     requires aligned { entry % 4 ≡ 0 }
@@ -76,7 +78,7 @@ fn begin<C: Checkpoint + Drop>(
     image: &Image,
     dev: &mut C::Device,
 ) -> Result<(Slot, C), OpenFault>
-    requires few { n ≤ 8 }
+    requires few { n ≤ PROCESSES }
     requires one_of { p < n }
     requires good { CanOpen image.now }
     ensures begun { IfOk result (λ made. IsBegun C.Checkpoint protocol (whose n p) image.now made.1 dev.new (Some made.0)) }
@@ -89,7 +91,7 @@ fn begin<C: Checkpoint + Drop>(
     let size = image.memory.len() as u32;
     let kernel = first_kernel(alloc, n, p, size, image.entry)?;
     let text = text_of(alloc, &kernel)?;
-    let words = words_in(alloc, &image.memory)?;
+    let words = to_words(alloc, &image.memory)?;
     let up = Up::new(alloc, protocol, size, kernel)?;
     match C::format(alloc, dev, p, words, text) {
         Ok((store, false)) => Ok((Slot::Up(up), store)),
@@ -124,7 +126,7 @@ fn begin_each<C: Checkpoint + Drop>(
     images: &[Image],
     dev: &mut C::Device,
 ) -> Result<(Vec<Option<Slot>>, Vec<C>), OpenFault>
-    requires few { length images.now ≤ 8 }
+    requires few { length images.now ≤ PROCESSES }
     requires good { All CanOpen images.now }
     ensures long { IfOk result (λ made. (length made.0.items ≡ length images.now) × (length made.1.items ≡ length images.now)) }
     ensures begun { IfOk result (λ made. AreBegun C.Checkpoint protocol images.now made.0.items made.1.items dev.new) }
@@ -156,7 +158,7 @@ fn acts_for(alloc: Global, entries: u32) -> Result<Acts, AllocError>
 
 /// What a recovery of `n` processes is to fill, for each of the first so many.
 fn saved_for(alloc: Global, n: u32, count: u32) -> Result<Vec<Saved>, AllocError>
-    requires few { (n ≤ 8) × (count ≤ n) }
+    requires few { (n ≤ PROCESSES) × (count ≤ n) }
     ensures long { IfOk result (λ saved. length saved.items ≡ count) }
     ensures fit { IfOk result (λ saved. AreMadeFor n saved.items) }
 {
@@ -170,7 +172,7 @@ fn saved_for(alloc: Global, n: u32, count: u32) -> Result<Vec<Saved>, AllocError
 
 /// The room of commits and recoveries of `n` processes together; none where each process commits by itself.
 fn joint_for(alloc: Global, protocol: Protocol, n: u32) -> Result<Joint, AllocError>
-    requires few { n ≤ 8 }
+    requires few { n ≤ PROCESSES }
     ensures texts { IfOk result (λ joint. is_global protocol ≡ true → length joint.texts.items ≡ kernel_words n * n) }
     ensures saved_long { IfOk result (λ joint. is_global protocol ≡ true → length joint.saved.items ≡ n) }
     ensures saved_fit { IfOk result (λ joint. AreMadeFor n joint.saved.items) }
@@ -192,10 +194,10 @@ impl<C: Checkpoint + Drop> World<C> {
         dev: &mut C::Device,
     ) -> Result<World<C>, OpenFault>
         requires some { 0 < length setup.images.items }
-        requires few { length setup.images.items ≤ 8 }
+        requires few { length setup.images.items ≤ PROCESSES }
         requires inputs { length setup.inputs.items ≡ length setup.images.items }
         requires good { All CanOpen setup.images.items }
-        requires entries { entries ≤ 1000000 }
+        requires entries { entries ≤ ENTRIES }
         ensures ready { IfOk result (λ w. IsReady C.Checkpoint w.stores.items dev.new w.processes) }
         ensures begins { IfOk result (λ w. IsOpened setup entries w.processes) }
         ensures opened { IfOk result (λ w. IsTold C.Checkpoint (stage_of w.stores.items dev.new w.processes)

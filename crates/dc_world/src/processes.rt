@@ -8,6 +8,7 @@ ghost use Rattle.dc_world.specs.Slots.{IsOf, based_in, have_ended, held_in, is_u
 use crate::joint::Joint;
 use crate::slot::Slot;
 use dc_acts::Acts;
+use dc_limits::PROCESSES;
 use dc_links::Message;
 use dc_proc::Up;
 use dc_protocols::Protocol;
@@ -35,7 +36,7 @@ pub(crate) struct Processes {
 impl Processes {
     /// How many processes there are.
     pub fn count(&self) -> u32
-        requires { length self.now.slots.items ≤ 8 }
+        requires { length self.now.slots.items ≤ PROCESSES }
         ensures { result ≡ length self.now.slots.items }
     {
         self.slots.len() as u32

@@ -4,7 +4,7 @@ ghost use Rattle.std.specs.Prelude.{◌≡◌, ◌≢◌, ◌<◌, ◌≤◌, �
 ghost use Rattle.dc_acts.specs.Counted.{cut_acts};
 ghost use Rattle.dc_checkpoint.specs.Calls.{Touches, on};
 ghost use Rattle.dc_checkpoint.specs.Handles.{showing_of};
-ghost use Rattle.dc_kernel.specs.declared.faults.StoreFault as faults;
+ghost use Rattle.dc_checkpoint.specs.declared.faults.StoreFault as faults;
 ghost use Rattle.dc_model.specs.declared.entry.Entry.TheVariants as entries;
 ghost use Rattle.dc_model.specs.declared.mark.Mark.TheVariants as marks;
 ghost use Rattle.dc_proc.specs.Processes.{logged_of};
@@ -19,8 +19,8 @@ ghost use Rattle.dc_world.specs.declared.slot.Slot.TheVariants as slots;
 
 use crate::processes::Processes;
 use crate::slot::Slot;
-use dc_checkpoint::Checkpoint;
-use dc_kernel::{CheckFault, StoreFault};
+use dc_checkpoint::{CheckFault, Checkpoint, StoreFault};
+use dc_limits::ENTRIES;
 use dc_model::{Mark, Turn};
 use dc_proc::{Down, Up};
 
@@ -77,7 +77,7 @@ impl Processes {
         requires sized { down.size ≡ 4 * C.size store.old }
         requires form { ((C.form store.old).n ≡ length self.old.slots.items) × ((C.form store.old).p ≡ turn.now.p) }
         requires left { 0 < self.old.left }
-        requires few { (length self.old.acts.items ≤ self.old.entries) × (self.old.entries + self.old.left ≤ 1000000) }
+        requires few { (length self.old.acts.items ≤ self.old.entries) × (self.old.entries + self.old.left ≤ ENTRIES) }
         ensures well { IsWell self.new }
         ensures rest { self.new ≡ record self.old { slots = self.new.slots; acts = self.new.acts } }
         ensures long { length self.new.slots.items ≡ length self.old.slots.items }

@@ -5,7 +5,7 @@ ghost use Rattle.dc_acts.specs.Counted.{cut_acts};
 ghost use Rattle.dc_checkpoint.specs.Handles.{IsSame};
 ghost use Rattle.dc_checkpoint.specs.States.{IsFit};
 ghost use Rattle.dc_kernel.specs.Kernels.{IsKernel};
-ghost use Rattle.dc_kernel.specs.declared.faults.StoreFault as faults;
+ghost use Rattle.dc_checkpoint.specs.declared.faults.StoreFault as faults;
 ghost use Rattle.dc_kernel.specs.declared.saved.Saved.{Saved as Saveds};
 ghost use Rattle.dc_model.specs.declared.entry.Entry.TheVariants as entries;
 ghost use Rattle.dc_model.specs.declared.mark.Mark.TheVariants as marks;
@@ -25,8 +25,8 @@ ghost use Rattle.dc_world.specs.Turns.{GoesOn, HasNoRun, later};
 
 use crate::processes::Processes;
 use crate::slot::Slot;
-use dc_checkpoint::Checkpoint;
-use dc_kernel::StoreFault;
+use dc_checkpoint::{Checkpoint, StoreFault};
+use dc_limits::ENTRIES;
 use dc_model::{Mark, Turn};
 use dc_twophase::{JointFault, recover_all};
 
@@ -138,7 +138,7 @@ impl Processes {
         requires down { AreDown C.Checkpoint stores.old dev.old self.old.slots.items }
         requires room { IsRoomFor C.Checkpoint stores.old (length self.old.slots.items) self.old.joint }
         requires left { 0 < self.old.left }
-        requires few { (length self.old.acts.items ≤ self.old.entries) × (self.old.entries + self.old.left ≤ 1000000) }
+        requires few { (length self.old.acts.items ≤ self.old.entries) × (self.old.entries + self.old.left ≤ ENTRIES) }
         ensures well { IsWell self.new }
         ensures rest { self.new ≡ record self.old { slots = self.new.slots; acts = self.new.acts; joint = self.new.joint } }
         ensures long { length self.new.slots.items ≡ length self.old.slots.items }

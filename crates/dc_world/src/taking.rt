@@ -19,9 +19,8 @@ use crate::processes::Processes;
 use crate::slot::Slot;
 use dc_acts::Acts;
 use dc_calls::Call;
-use dc_checkpoint::Checkpoint;
+use dc_checkpoint::{CheckFault, Checkpoint};
 use dc_guest::Answer;
-use dc_kernel::CheckFault;
 use dc_model::{Mark, Visible};
 use dc_proc::Shown;
 

@@ -2,7 +2,7 @@
 
 ghost use Rattle.std.specs.Prelude.{◌≡◌, ◌≢◌, ◌<◌, ◌≤◌, ◌+◌, ◌*◌, ◌-◌, ◌^◌, ℕ, IfOk, IfSome, IsErrOf, None, OnErr, OnOk, Some, if◌then◌else◌, length, slice_get, true, false};
 ghost use Rattle.dc_checkpoint.specs.Handles.{IsSame};
-ghost use Rattle.dc_kernel.specs.declared.faults.StoreFault as faults;
+ghost use Rattle.dc_checkpoint.specs.declared.faults.StoreFault as faults;
 ghost use Rattle.dc_guest.specs.Answers.{answer_of, may_answer};
 ghost use Rattle.dc_model.specs.Guests.Answer.{Plain};
 ghost use Rattle.dc_model.specs.declared.entry.Entry.TheVariants as entries;
@@ -28,6 +28,7 @@ use crate::turning::next_call;
 use dc_calls::Call;
 use dc_checkpoint::Checkpoint;
 use dc_guest::Answer;
+use dc_limits::ENTRIES;
 use dc_model::{Mark, Turn, Visible};
 use dc_proc::Shown;
 use dc_protocols::Rule;
@@ -275,7 +276,7 @@ impl Processes {
         requires room { IsRoomFor C.Checkpoint stores.old (length self.old.slots.items) self.old.joint }
         requires left { 0 < self.old.left }
         requires acts { length self.old.acts.items + self.old.left ≤ self.old.acts.room }
-        requires few { (length self.old.acts.items ≤ self.old.entries) × (self.old.entries + self.old.left ≤ 1000000) }
+        requires few { (length self.old.acts.items ≤ self.old.entries) × (self.old.entries + self.old.left ≤ ENTRIES) }
         requires nothing { shown.old ≡ None }
         ensures well { IsWell self.new }
         ensures rest { self.new ≡ record self.old { slots = self.new.slots; acts = self.new.acts; exposed = self.new.exposed; joint = self.new.joint } }

@@ -3,7 +3,7 @@
 ghost use Rattle.std.specs.Prelude.{◌≡◌, ◌≢◌, ◌<◌, ◌≤◌, ◌+◌, ◌-◌, ◌^◌, ℕ, None, Some, IfErr, IfOk, IfSome, IsErrOf, OnErr, OnOk, false, true, length, slice_set};
 ghost use Rattle.dc_checkpoint.specs.Calls.{IsUnrefused, Touches, on};
 ghost use Rattle.dc_checkpoint.specs.Handles.{showing_of};
-ghost use Rattle.dc_kernel.specs.declared.faults.StoreFault as faults;
+ghost use Rattle.dc_checkpoint.specs.declared.faults.StoreFault as faults;
 ghost use Rattle.dc_model.specs.declared.entry.Entry.TheVariants as entries;
 ghost use Rattle.dc_model.specs.declared.mark.Mark.TheVariants as marks;
 ghost use Rattle.dc_guest.specs.Guest.{next_of, over};
@@ -20,8 +20,8 @@ ghost use Rattle.dc_world.specs.Turns.{GoesOn, HasNoRun, WithStores, later, line
 use crate::processes::Processes;
 use crate::slot::Slot;
 use dc_calls::Call;
-use dc_checkpoint::Checkpoint;
-use dc_kernel::CheckFault;
+use dc_checkpoint::{CheckFault, Checkpoint};
+use dc_limits::ENTRIES;
 use dc_model::{Idle, Mark, Turn, Visible};
 use dc_proc::Up;
 
@@ -109,7 +109,7 @@ impl Processes {
         requires form { ((C.form store.old).n ≡ length self.old.slots.items) × ((C.form store.old).p ≡ turn.now.p) }
         requires left { 0 < self.old.left }
         requires room { length self.old.acts.items + self.old.left ≤ self.old.acts.room }
-        requires few { (length self.old.acts.items ≤ self.old.entries) × (self.old.entries + self.old.left ≤ 1000000) }
+        requires few { (length self.old.acts.items ≤ self.old.entries) × (self.old.entries + self.old.left ≤ ENTRIES) }
         requires nothing { shown.old ≡ None }
         ensures well { IsWell self.new }
         ensures rest { self.new ≡ record self.old { slots = self.new.slots; acts = self.new.acts; exposed = self.new.exposed } }

@@ -4,7 +4,7 @@ ghost use Rattle.std.specs.Prelude.{◌≡◌, ◌≢◌, ◌<◌, ◌≤◌, �
 ghost use Rattle.dc_acts.specs.Lines.{text_of};
 ghost use Rattle.dc_checkpoint.specs.Calls.{IsCounted};
 ghost use Rattle.dc_checkpoint.specs.Handles.{showing_of};
-ghost use Rattle.dc_kernel.specs.declared.faults.StoreFault as stores;
+ghost use Rattle.dc_checkpoint.specs.declared.faults.StoreFault as stores;
 ghost use Rattle.dc_media.specs.Causes.{HasCause, Rose};
 ghost use Rattle.dc_media.specs.Sinks.{TakesWhole};
 ghost use Rattle.dc_media.specs.Told.{Becomes, TellsOn};
@@ -24,8 +24,7 @@ ghost use Rattle.dc_world.specs.declared.faults.TurnFault.TheVariants as faults;
 use crate::faults::{TurnFault, answer_to};
 use crate::processes::Processes;
 use dc_acts::{Acts, line_of};
-use dc_checkpoint::Checkpoint;
-use dc_kernel::CheckFault;
+use dc_checkpoint::{CheckFault, Checkpoint};
 use dc_media::{Sink, SinkFailed, write_whole};
 use dc_model::{Entry, Mark, Turn, Visible};
 use dc_protocols::is_global;

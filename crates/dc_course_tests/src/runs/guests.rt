@@ -1,7 +1,7 @@
 //! Guests by name, assembled from their sources.
 
 ghost use Rattle.std.specs.Prelude.{◌<◌, ◌≤◌, All, IfOk};
-ghost use Rattle.dc_plain.specs.Playing.{CanStart};
+ghost use Rattle.dc_elf.specs.Loaded.{CanStart};
 ghost use Rattle.dc_world.specs.Opened.{CanOpen};
 
 use dc_asm::assemble;

@@ -1,14 +1,15 @@
 //! A run of a case: over memory that refuses calls, and over memory that is lent, which may do so too, with planned stops.
 
 ghost use Rattle.std.specs.Prelude.{◌≡◌, ◌<◌, ◌≤◌, All, IfOk, length};
-ghost use Rattle.dc_plain.specs.Playing.{CanStart};
+ghost use Rattle.dc_elf.specs.Loaded.{CanStart};
 ghost use Rattle.dc_world.specs.Opened.{CanOpen};
 ghost use Rattle.dc_world.specs.Worlds.{IsOfProcesses};
 
 use crate::runs::setting::{may_run, setup};
-use dc_armed::{Armed, PlannedStop};
+use dc_armed::Armed;
 use dc_cases::{numbers, value};
 use dc_course::{Course, run, run_on_memory};
+use dc_media::PlannedStop;
 use dc_memmedia::{ListedCall, MemKeeps, MemSink};
 use dc_model::Entry;
 use dc_vista::Segment;

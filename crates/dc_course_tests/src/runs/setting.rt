@@ -1,7 +1,7 @@
 //! What a case begins with: its guests, their inputs, and its schedule.
 
 ghost use Rattle.std.specs.Prelude.{◌≡◌, ◌<◌, ◌≤◌, All, IfOk, length, true};
-ghost use Rattle.dc_plain.specs.Playing.{CanStart};
+ghost use Rattle.dc_elf.specs.Loaded.{CanStart};
 ghost use Rattle.dc_world.specs.Opened.{CanOpen};
 ghost use Rattle.dc_world.specs.Worlds.{IsOfProcesses};
 

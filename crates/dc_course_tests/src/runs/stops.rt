@@ -1,9 +1,8 @@
 //! Stops that are written as a call of a process's device within a turn or the opening, and how many calls each makes.
 
 use crate::runs::runs::run_refused;
-use dc_armed::PlannedStop;
 use dc_cases::{as_u32, as_u64, holds, value};
-use dc_media::{DeviceFault, Tear};
+use dc_media::{DeviceFault, PlannedStop, Tear};
 use dc_memmedia::ListedCall;
 use dc_model::Entry;
 use std::alloc::Global;

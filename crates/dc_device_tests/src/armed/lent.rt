@@ -4,8 +4,8 @@ ghost use Rattle.dc_media.specs.Disk.{Writes};
 ghost use Rattle.dc_media.specs.Stores.{SetsWord};
 
 use super::fakes::{FakeDisk, FakeWords};
-use dc_armed::{Armed, PlannedStop};
-use dc_media::{DeviceFault, Disks, Keeps};
+use dc_armed::Armed;
+use dc_media::{DeviceFault, Disks, Keeps, PlannedStop};
 use std::test::Fail;
 
 /// A layer above, over any stores.

@@ -5,7 +5,7 @@ ghost use Rattle.std.specs.Prelude.{◌≡◌};
 use super::rig::Rig;
 use super::texts::{at, small};
 use super::trial::Trial;
-use dc_kernel::LogRecord;
+use dc_kernel::{LogRecord, Reply};
 use dc_links::Message;
 use std::alloc::Global;
 use std::test::Fail;
@@ -17,15 +17,25 @@ const BODY: [u8; 64] = [
     51, 52, 53, 54, 55, 56, 57, 58, 59, 60, 61, 62, 63, 64,
 ];
 
-/// An event: its position, event, answer and sender, and how many bytes its body has.
-fn event(args: &[u64]) -> LogRecord {
+/// What an event was told, by the numbers of its call and its answer, its sender and its body.
+fn reply(call: u64, code: u64, sender: u32, body: Message) -> Option<Reply> {
+    match (call, code) {
+        (3, 0) => Some(Reply::InputNone),
+        (3, 1) => Some(Reply::InputNext(body)),
+        (3, 2) => Some(Reply::InputEnd),
+        (7, 0) => Some(Reply::ReceiveNone),
+        (7, 1) => Some(Reply::ReceiveFrom(sender, body)),
+        _ => None,
+    }
+}
+
+/// What an event was told: its call, answer and sender, and how many bytes its body has, behind its position.
+fn told_in(args: &[u64]) -> Result<Reply, Fail> {
     let length = (at(args, 4) as usize).min(64);
-    LogRecord {
-        position: small(at(args, 0)),
-        event: small(at(args, 1)),
-        answer: small(at(args, 2)),
-        sender: small(at(args, 3)),
-        body: Message::new(&BODY[..length]),
+    let body = Message::new(&BODY[..length]);
+    match reply(at(args, 1), at(args, 2), small(at(args, 3)), body) {
+        Some(told) => Ok(told),
+        None => Err(Fail::new("an event")),
     }
 }
 
@@ -39,13 +49,21 @@ fn read_event(rig: &Rig, alloc: Global, k: u64) -> Result<Vec<u64>, Fail> {
     Ok(list)
 }
 
-/// Tells an event: its position, event, answer and sender, and how many bytes its body has.
+/// The numbers of its call and its answer, its sender and how many bytes its body has.
+fn numbers_of(told: &Reply) -> [u64; 4] {
+    match told {
+        Reply::InputNone => [3, 0, 0, 0],
+        Reply::InputNext(body) => [3, 1, 0, body_length(body)],
+        Reply::InputEnd => [3, 2, 0, 0],
+        Reply::ReceiveNone => [7, 0, 0, 0],
+        Reply::ReceiveFrom(sender, body) => [7, 1, u64::from(*sender), body_length(body)],
+    }
+}
+
+/// Tells an event: its position, call, answer and sender, and how many bytes its body has.
 fn tell(rec: &LogRecord, list: &mut Vec<u64>) -> Result<(), Fail> {
     list.push(u64::from(rec.position))?;
-    list.push(u64::from(rec.event))?;
-    list.push(u64::from(rec.answer))?;
-    list.push(u64::from(rec.sender))?;
-    list.push(body_length(&rec.body))?;
+    list.extend_from_slice(&numbers_of(&rec.told))?;
     Ok(())
 }
 
@@ -173,7 +191,7 @@ fn one(rig: &mut Rig, alloc: Global, verb: &str, args: &[u64]) -> Result<u64, Fa
         "load" => rig.word(a),
         "store" => rig.set(a, b, c),
         "commit" => rig.commit(alloc, a),
-        "log" => rig.log(&event(args)),
+        "log" => rig.log(a, told_in(args)?),
         "prepare" => rig.prepare(alloc, a),
         "decide" => rig.decide(a),
         "finish" => rig.finish(),

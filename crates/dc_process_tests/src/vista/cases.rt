@@ -80,9 +80,9 @@ fall = ok
 state 3 = ok 3 30 0 0 65332 1 8 1023 7
 store 2 6 all = ok
 commit 4 = ok
-log 41 3 2 0 1 = ok
+log 41 3 2 0 0 = ok
 fall = ok
-state 3 = ok 4 40 1 41 3 2 0 1 0 65332 1 8 2 6 1023 7
+state 3 = ok 4 40 1 41 3 2 0 0 0 65332 1 8 2 6 1023 7
 # a line is kept once
 segment 1 0 16
 store 0 5 all = ok
@@ -139,9 +139,9 @@ store 0 5 all = ok
 commit 4294967294 = ok
 store 0 6 all = ok
 store 16 6 all = ok
-log 1 7 2 0 0 = ok
+log 1 7 0 0 0 = ok
 fall = ok
-state 0 = ok 4294967294 4294967295 1 1 7 2 0 0 0 5 1023 7
+state 0 = ok 4294967294 4294967295 1 1 7 0 0 0 0 5 1023 7
 store 0 8 all = ok
 commit 4294967295 = ok
 fall = ok

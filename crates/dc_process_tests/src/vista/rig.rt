@@ -7,7 +7,7 @@ use super::inputs::{memory, saved, text};
 use super::texts::code;
 use super::trial::Trial;
 use dc_checkpoint::Checkpoint;
-use dc_kernel::{LogRecord, Saved};
+use dc_kernel::{LogRecord, Reply, Saved};
 use dc_media::MakeFault;
 use dc_memmedia::{ListedCall, MemKeeps};
 use dc_vista::Segment;
@@ -118,18 +118,21 @@ impl Rig {
         }
     }
 
-    /// Logs an event of its first process.
-    pub fn log(&mut self, rec: &LogRecord) -> Result<u64, Fail>
+    /// Logs an event of its first process, at this position and told this.
+    pub fn log(&mut self, position: u32, told: Reply) -> Result<u64, Fail>
         requires { ⟦<Rig as Trial>⟧.fits self.old }
         ensures { ⟦<Rig as Trial>⟧.fits self.new }
     {
         if !self.ready || self.logged >= 64 {
             return Err(Fail::new("a log"));
         }
-        if (rec.event != 3 && rec.event != 7) || rec.answer > 2 || rec.sender >= self.n {
-            return Err(Fail::new("an event"));
+        if let Reply::ReceiveFrom(sender, _) = told {
+            if sender >= self.n {
+                return Err(Fail::new("an event"));
+            }
         }
-        match self.store.append_log(&mut self.dev, rec) {
+        let rec = LogRecord { position, told };
+        match self.store.append_log(&mut self.dev, &rec) {
             Ok(()) => {
                 self.logged += 1;
                 Ok(0)

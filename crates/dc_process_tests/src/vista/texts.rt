@@ -1,7 +1,7 @@
 //! Numbers in texts.
 
 use crate::holding::holds;
-use dc_kernel::{CheckFault, StoreFault};
+use dc_checkpoint::{CheckFault, StoreFault};
 use std::alloc::Global;
 use std::test::Fail;
 

@@ -2,7 +2,7 @@
 
 use super::set;
 use crate::holding::holds;
-use dc_kernel::{LogRecord, RECORD_WORDS};
+use dc_kernel::{LogRecord, RECORD_WORDS, Reply};
 use dc_links::Message;
 use std::test::Fail;
 
@@ -15,11 +15,12 @@ const TEXTS: &str = "\
 1=7
 ";
 
-/// No events: of another call, of none, with another answer, from a process that there is not, with a body of 65 bytes.
+/// No events: of another call, of none, with another answer, the end of messages, from a process that there is not, with a body of 65 bytes.
 const NONE: &str = "\
 1=4
 0=1
 1=3 2=3
+1=7 2=2
 1=7 3=2
 1=3 4=41
 ";
@@ -33,15 +34,20 @@ fn text_of(places: &str) -> Result<[u32; RECORD_WORDS], Fail> {
     Ok(text)
 }
 
-fn decoded(places: &str) -> Result<Option<LogRecord>, Fail> {
-    Ok(LogRecord::decode(2, &text_of(places)?))
+/// The position of the event that a text tells, and what it was told.
+fn decoded(places: &str) -> Result<Option<(u32, Reply)>, Fail> {
+    match LogRecord::decode(2, &text_of(places)?) {
+        Some(LogRecord { position, told }) => Ok(Some((position, told))),
+        None => Ok(None),
+    }
 }
 
 /// The event that a text tells, whose text is this one again.
 fn there_and_back(places: &str) -> Result<(), Fail> {
-    let Some(rec) = decoded(places)? else {
+    let Some((position, told)) = decoded(places)? else {
         return Err(Fail::new(places));
     };
+    let rec = LogRecord { position, told };
     let mut text = [9; RECORD_WORDS];
     rec.encode(&mut text);
     holds(text == text_of(places)?, places)
@@ -63,25 +69,23 @@ fn other_words_are_no_events() -> Result<(), Fail> {
     Ok(())
 }
 
-fn is_input(rec: &LogRecord) -> bool {
-    rec.position == 7 && rec.event == 3 && rec.answer == 1 && rec.sender == 0
+/// Whether a text tells an input at a position.
+fn is_input(places: &str, at: u32, body: Message) -> Result<bool, Fail> {
+    match decoded(places)? {
+        Some((position, told)) => Ok(position == at && told == Reply::InputNext(body)),
+        None => Err(Fail::new(places)),
+    }
 }
 
 #[test]
 fn an_input_is_told() -> Result<(), Fail> {
-    match decoded("0=7 1=3 2=1 4=2 5=6968")? {
-        Some(rec) => holds(
-            is_input(&rec) && rec.body == Message::new(b"hi"),
-            "an input",
-        ),
-        None => Err(Fail::new("no input")),
-    }
+    holds(
+        is_input("0=7 1=3 2=1 4=2 5=6968", 7, Message::new(b"hi"))?,
+        "an input",
+    )
 }
 
 #[test]
 fn only_the_bytes_of_a_body_count() -> Result<(), Fail> {
-    match decoded(BEHIND)? {
-        Some(rec) => holds(rec.body == Message::new(b"a"), BEHIND),
-        None => Err(Fail::new(BEHIND)),
-    }
+    holds(is_input(BEHIND, 0, Message::new(b"a"))?, BEHIND)
 }

@@ -11,5 +11,4 @@ invariant-loop-k g l = let K = g.K.Keeps in record {
   words : Becomes (K.told l.fn.keeps l.p) (K.told l.keeps l.p) (λ before after. after ≡ copied l.k l.from l.to before);
   unmade : l.k ≡ 0 → l.keeps ≡ l.fn.keeps;
   lawful : IsInCalls {T = Unit {0}} (of_words K) l.p l.k (Ok tt) l.fn.keeps l.keeps;
-  continues : K.continues l.fn.keeps l.keeps;
 }

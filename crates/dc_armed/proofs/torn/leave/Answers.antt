@@ -17,8 +17,7 @@ loop-done-preserved g c =
       so_far = rw c.and-answer.ensures (as_long D c.args.p c.args.at _ (done + part) (in_parts done + at_once part) (in_parts (done + part)) (left c.args.fill) _ _ _ refl (in_parts-more done part whole (omega arith) (omega arith))
           (IsOverwrite-then D c.args.p c.args.at done part (in_parts done) (at_once part)
           (left c.args.fill) (left c.args.fill) (left c.args.fill) _ _ c.args.disks.now c.loop-done.disks c.leave_part.new.disks
-          g.met.D.Disks.told_extent (omega arith)
+          g.met.D.Disks.told_extent g.met.D.Disks.continues_on (omega arith)
           (λ old e. length-left c.args.fill old ∙ e) (λ old e. length-left c.args.fill old ∙ e) (λ x y e f. left-append c.args.fill x y)
-          c.loop-done.invariant.so_far c.leave_part.ensures.made));
-      continues = g.met.D.Disks.continues_on c.args.disks.now c.loop-done.disks c.leave_part.new.disks c.loop-done.invariant.continues c.leave_part.ensures.continues;
+          c.loop-done.invariant.so_far c.leave_part.ensures));
     }

@@ -9,7 +9,6 @@ invariant-loop-done g l = let D = g.D.Disks in record {
   within : l.done ≤ l.count;
   whole : l.done < l.count → l.done % 64 ≡ 0;
   so_far : IsOverwrite (of_disks D) l.p (record { at = l.at; count = l.done; make = left l.fill; calls = in_parts l.done }) l.answer l.fn.disks l.disks;
-  continues : D.continues l.fn.disks l.disks;
 }
 
 abbrev pub decreases-loop-done : goal.decreases-loop-done

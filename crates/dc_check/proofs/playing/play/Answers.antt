@@ -5,7 +5,8 @@ use Rattle.dc_model.specs.Guests.{Guests}
 use Rattle.dc_model.specs.World.{World, apply, opened}
 use Rattle.dc_model.specs.declared.act.Act.TheVariants as act
 use Rattle.dc_model.specs.declared.act.Taken.{Taken}
-use Rattle.dc_plain.specs.Playing.{lists_of, seen_image}
+use Rattle.dc_elf.specs.Loaded.{seen_image}
+use Rattle.dc_words.specs.Lists.{lists_of}
 use Rattle.dc_check.proofs.Applied.{all_rest, at_most_one, front_and_rest, is_drawn, played_on}
 use Rattle.dc_check.specs.Played.{played, played_from}
 use Rattle.dc_check.proofs.playing.play.Goals as goal

@@ -1,7 +1,8 @@
 use Rattle.std.proofs.Common.{◌≡◌, ◌+◌, ◌≤◌, ◌<◌, ℕ, All, length, map}
 use Rattle.dc_guest.specs.Guest.{Guest, guests_of}
 use Rattle.dc_model.specs.World.{World}
-use Rattle.dc_plain.specs.Playing.{lists_of, seen_image}
+use Rattle.dc_elf.specs.Loaded.{seen_image}
+use Rattle.dc_words.specs.Lists.{lists_of}
 use Rattle.dc_check.specs.Played.{Stands, played, played_from}
 use Rattle.dc_check.proofs.playing.play.Given as goal
 

@@ -12,7 +12,7 @@ use Rattle.dc_course.specs.Running.{IsEnded, IsRunning, IsSettingOf, moment_of, 
 use Rattle.dc_course.specs.declared.course.Course.{Course}
 use Rattle.dc_course.specs.declared.ending.Ending.{Ending}
 use Rattle.dc_guest.specs.Guest.{guests_of}
-use Rattle.dc_plain.specs.Playing.{seen_image}
+use Rattle.dc_elf.specs.Loaded.{seen_image}
 use Rattle.dc_recovery.specs.Core.{Core}
 use Rattle.dc_world.specs.Ended.{HaveEnded}
 use Rattle.dc_world.specs.Slots.{is_up, slot_at}

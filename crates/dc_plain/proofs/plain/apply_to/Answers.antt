@@ -2,7 +2,8 @@ use Rattle.std.proofs.Common.{◌∙◌, Some, ap, refl, sym}
 use Rattle.std.specs.Option.{option_map}
 use Rattle.dc_guest.specs.Answers.{answer_of}
 use Rattle.dc_guest.specs.Guest.{guests_of}
-use Rattle.dc_plain.specs.Playing.{lists_of, world_at}
+use Rattle.dc_words.specs.Lists.{lists_of}
+use Rattle.dc_plain.specs.Playing.{world_at}
 use Rattle.dc_plain.proofs.Applying.{applies, refused}
 use Rattle.dc_plain.proofs.plain.apply_to.Goals as goal
 

@@ -2,7 +2,8 @@ use Rattle.std.proofs.Common.{◌≡◌, ◌∙◌, ◌+◌, [], ◌∷◌, ap, 
 use Rattle.std.proofs.lemmas.List.{length-append}
 use Rattle.std.proofs.lemmas.List.Elements.{All-push}
 use Rattle.std.proofs.lemmas.Option.{slice_get_read}
-use Rattle.dc_plain.specs.Playing.{AreAmong, begun_at, seen_image}
+use Rattle.dc_elf.specs.Loaded.{seen_image}
+use Rattle.dc_plain.specs.Playing.{AreAmong, begun_at}
 use Rattle.dc_plain.proofs.Begins.{BegunUpTo, begun_all, begun_one_more}
 use Rattle.dc_plain.proofs.plain.begin_each.Goals as goal
 

@@ -1,6 +1,6 @@
 use Rattle.std.proofs.Common.{◌∙◌, Err, ap, inr}
 use Rattle.dc_elf.specs.declared.faults.LoadFault.{LoadFault}
-use Rattle.dc_plain.specs.Playing.{seen_image}
+use Rattle.dc_elf.specs.Loaded.{seen_image}
 use Rattle.dc_run.proofs.Openings.{can_open, guest_loaded, guest_refused, image_long, no_fault}
 use Rattle.dc_run.proofs.opening.load_guest.Goals as goal
 

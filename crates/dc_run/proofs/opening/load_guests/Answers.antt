@@ -2,7 +2,7 @@ use Rattle.std.proofs.Common.{All, Ok, ◌≡◌, ◌∙◌, ◌++◌, ◌∷◌
 use Rattle.std.proofs.lemmas.List.{map-append}
 use Rattle.std.proofs.lemmas.List.Elements.{All-append, All-cons, All-nil}
 use Rattle.std.proofs.lemmas.Result.{err_from_is_err_and}
-use Rattle.dc_plain.specs.Playing.{seen_image}
+use Rattle.dc_elf.specs.Loaded.{seen_image}
 use Rattle.dc_world.specs.Opened.{CanOpen}
 use Rattle.dc_run.specs.declared.refusal.Refusal.TheVariants.{Library}
 use Rattle.dc_run.proofs.Openings.{guest_added, guest_asked, guest_stops, same_refusal, told_on}

@@ -1,5 +1,5 @@
 use Rattle.std.proofs.Common.{◌≡◌, All, Ok, Some, length, map, string_bytes, take}
-use Rattle.dc_plain.specs.Playing.{seen_image}
+use Rattle.dc_elf.specs.Loaded.{seen_image}
 use Rattle.dc_world.specs.Opened.{CanOpen}
 use Rattle.dc_run.specs.Opening.{Files, images_in}
 use Rattle.dc_run.specs.Settings.{LibraryKept}

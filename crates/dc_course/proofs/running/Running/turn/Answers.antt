@@ -5,7 +5,7 @@ use Rattle.dc_course.proofs.Counting.{at_turn, called_on, counted_on, sum_later,
 use Rattle.dc_course.proofs.Breaking.{Broke, ended_by}
 use Rattle.dc_course.proofs.Partaking.{part_back, part_below, part_is, part_set}
 use Rattle.dc_media.specs.Causes.{Rose}
-use Rattle.dc_plain.specs.Playing.{lists_of}
+use Rattle.dc_words.specs.Lists.{lists_of}
 use Rattle.dc_course.proofs.Still.{running_still, told_still}
 use Rattle.dc_course.specs.Headline.{IsCalledOn, counted_with, is_planned, takes_part, unplanned}
 use Rattle.dc_course.specs.Running.{IsRunning, output}

@@ -1,7 +1,7 @@
 use Rattle.std.proofs.Common.{◌≡◌, ◌∷◌, ◌++◌, [], All, List, subst, sym}
 use Rattle.std.proofs.lemmas.List.Elements.{All-append, All-cons, All-nil}
 use Rattle.dc_elf.specs.declared.image.Image.{Image}
-use Rattle.dc_plain.specs.Playing.{CanStart}
+use Rattle.dc_elf.specs.Loaded.{CanStart}
 use Rattle.dc_world.specs.Opened.{CanOpen}
 use Rattle.dc_course_tests.proofs.runs.guests.images.Goals as goal
 

@@ -1,5 +1,5 @@
 use Rattle.std.specs.Prelude.{All}
-use Rattle.dc_plain.specs.Playing.{CanStart}
+use Rattle.dc_elf.specs.Loaded.{CanStart}
 use Rattle.dc_world.specs.Opened.{CanOpen}
 use Rattle.dc_course_tests.proofs.runs.guests.images.Given as goal
 

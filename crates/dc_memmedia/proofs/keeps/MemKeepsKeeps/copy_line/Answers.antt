@@ -1,4 +1,4 @@
-use Rattle.std.proofs.Common.{◌∙◌, ◌≡◌, ◌+◌, ℕ, ◌<◌, ◌≤◌, Result, ap, arith, slice_set, length, subst, sym}
+use Rattle.std.proofs.Common.{rules, ◌∙◌, ◌≡◌, ◌+◌, ℕ, ◌<◌, ◌≤◌, Result, ap, arith, slice_set, length, subst, sym}
 use Rattle.dc_media.specs.Stores.{CopiesLine}
 use Rattle.dc_media.specs.declared.faults.DeviceFault.{DeviceFault}
 use Rattle.dc_memmedia.specs.Keeps.{Stores, after, copied_line, told_words, words_of}
@@ -29,14 +29,17 @@ pub copy-requires-clause-place : goal.copy-requires-clause-place
 copy-requires-clause-place c =
     let here = (has c.self.inside.words.items c.args.p (c.args.to + 15) c.index_mut.result.now c.index_mut.ensures.value (last_of _ _ c.args.p c.args.to c.self.view_is c.requires.place)).1 in omega (arith, here)
 
-pub returns-clause-extent : goal.returns-clause-extent
-returns-clause-extent c = let p = c.args.p in let from = c.args.from in let to = c.args.to in
+pub returns-clause-call : goal.returns-clause-call
+returns-clause-call c = let p = c.args.p in let from = c.args.from in let to = c.args.to in
     let old : Stores = record { words = c.self.inside.words.items; calls = c.self.inside.calls } in
     let here = (has old.words p (from + 15) c.index_mut.result.now c.index_mut.ensures.value (last_of old _ p from c.self.view_is c.requires.source)).0 in
-    let said = c.call-listed.ensures in
-    ap (λ (s : Stores). length (words_of s p)) (state_now old p (copied_line from to) c.index_mut.result.now c.copy.new.words c.call-listed.result c.call-listed.new.self here c.copy.ensures said.answer said.counts)
-    ∙ ap length (copied_after old p from to (line_of old _ p from c.self.view_is c.requires.source) (line_of old _ p to c.self.view_is c.requires.place)) ∙ copied_length (words_of old p) from to (next_call old.calls p)
-    ∙ ap (λ (s : Stores). length (words_of s p)) c.self.view_is
+    let said = c.call-listed.ensures in record {
+      touches = record { tells = search rules; others = search rules; continues = tt };
+      extent = ap (λ (s : Stores). length (words_of s p)) (state_now old p (copied_line from to) c.index_mut.result.now c.copy.new.words c.call-listed.result c.call-listed.new.self here c.copy.ensures said.answer said.counts)
+          ∙ ap length (copied_after old p from to (line_of old _ p from c.self.view_is c.requires.source) (line_of old _ p to c.self.view_is c.requires.place)) ∙ copied_length (words_of old p) from to (next_call old.calls p)
+          ∙ ap (λ (s : Stores). length (words_of s p)) c.self.view_is;
+      cause = search rules;
+    }
 
 pub returns-clause-line : goal.returns-clause-line
 returns-clause-line c = let p = c.args.p in let from = c.args.from in let to = c.args.to in

@@ -1,4 +1,4 @@
-use Rattle.dc_plain.specs.Playing.{lists_of}
+use Rattle.dc_words.specs.Lists.{lists_of}
 use Rattle.dc_plain.proofs.Applying.{opens}
 use Rattle.dc_plain.proofs.plain.Plain.open.Goals as goal
 

@@ -6,6 +6,9 @@ use Rattle.dc_proc.specs.Carried.{system}
 use Rattle.dc_proc.specs.Ups.{held}
 use Rattle.dc_proc.proofs.up.Up.append.Goals as goal
 
+pub append_log-requires-clause-decisions : goal.append_log-requires-clause-decisions
+append_log-requires-clause-decisions g c = g.met.C.Checkpoint.may_log c.args.store.now c.args.dev.now c.requires.ready
+
 pub returns-in_err-append_log-clause-torn : goal.returns-in_err-append_log-clause-torn
 returns-in_err-append_log-clause-torn g c = any_err c.from_residual.result (λ images inputs protocol p answers st d from over.
     log_torn (system images inputs protocol).guests p answers _ c.args.rec.now st _ _ over.going.one over.stands (λ r l. c.in_err-append_log.ensures.between d r from l))

@@ -19,7 +19,7 @@ use Rattle.dc_proc.specs.Calls.{done}
 use Rattle.dc_proc.specs.Carried.{system}
 use Rattle.dc_proc.specs.Following.{DeviceLaws, call_then}
 use Rattle.dc_proc.specs.Processes.{IsAt, IsOver, Stands, logged_of}
-use Rattle.dc_proc.specs.Turns.{acts_with}
+use Rattle.dc_proc.specs.Turns.{acts_with, since_of}
 use Rattle.dc_proc.specs.Ups.{held}
 use Rattle.dc_proc.specs.declared.up.Up.{Up}
 use Rattle.dc_protocols.specs.declared.protocol.Rule.{Rule}
@@ -96,7 +96,7 @@ returns-in_err-append_if-clause-stopped g c = any_err c.from_residual-in_err-app
     let from1 : g.C.Checkpoint.floor c.commit_if.new.store ≤ d = omega (arith, from, c.in_ok-commit_if.ensures.call.floor) in
     let bare1 = commit_bare c.rule-asked.result.before c.args.self.now c.commit_if.new.self c.commit_if.new.self.based.items c.in_ok-commit_if.ensures.held c.in_ok-commit_if.ensures.kept in
     let kinds : may_answer (answer_of c.args.answer.now) c.kind-kind.result ≡ true = subst (λ k. may_answer (answer_of c.args.answer.now) k ≡ true) (sym c.kind-kind.ensures) (told_at (λ ws. may_answer (answer_of c.args.answer.now) (kind_of c.args.next.now) ≡ true) (g.C.Checkpoint.contents c.args.store.now c.args.dev.now) words told c.requires.kind) in
-    let logs : c.rule-asked.result.log ≡ true → logged_of c.record_of-rec.result ≡ (record { position = st.position; answer = (answer_of c.args.answer.now) }) = λ due. c.record_of-rec.ensures.logged (log_at_inputs c.args.self.now.protocol c.kind-kind.result _ c.rule-asked.result c.rule-asked.ensures due) kinds
+    let logs : c.rule-asked.result.log ≡ true → logged_of c.record_of-rec.result ≡ (record { position = st.position; answer = (answer_of c.args.answer.now) }) = λ due. c.record_of-rec.ensures.logged c.kind-kind.result (log_at_inputs c.args.self.now.protocol c.kind-kind.result (since_of c.args.self.now c.kind-kind.result (answer_of c.args.answer.now) false) c.rule-asked.result c.rule-asked.ensures due) kinds
     ∙ ap (λ i. record { position = i; answer = (answer_of c.args.answer.now) }) (ap (λ (k : Kernel). k.position) bare1 ∙ here.kernel_is.position) in
     stopped_log images inputs c.args.self.now.protocol p answers st (answer_of c.args.answer.now) words c.args.self.now c.requires.whole here c.requires.runs stood.going c.requires.sender c.args.next.now c.kind-kind.result c.rule-asked.result c.replays-replay.result found c.kind-kind.ensures c.rule-asked.ensures c.replays-replay.ensures (slice_index c.args.self.now.others.items) (g.C.Checkpoint.leaves c.append_if.new.store c.append_if.new.dev d) (record { before = c.args.acts.now.items; more = acts_with c.args.acts.now.items c.args.self.now.kernel c.args.t (answer_of c.args.answer.now); after = c.add_act.new.acts.items }) c.append_if.new.self.based.items c.in_err-append_if.ensures.due
     (stands_as (system images inputs c.args.self.now.protocol) p (answers_alone answers st (answer_of c.args.answer.now) Nowhere) (torn_log (record { position = st.position; answer = (answer_of c.args.answer.now) }) (first_of c.rule-asked.result.before st)) (g.C.Checkpoint.leaves c.append_if.new.store c.append_if.new.dev d) c.commit_if.new.self.others.items c.args.self.now.others.items c.in_ok-commit_if.ensures.same.others_same
@@ -113,7 +113,7 @@ returns-in_err-advance-clause-stopped g c = any_err c.from_residual-in_err-advan
     let from1 : g.C.Checkpoint.floor c.commit_if.new.store ≤ d = omega (arith, from, c.in_ok-commit_if.ensures.call.floor) in
     let bare1 = commit_bare c.rule-asked.result.before c.args.self.now c.commit_if.new.self c.commit_if.new.self.based.items c.in_ok-commit_if.ensures.held c.in_ok-commit_if.ensures.kept in
     let kinds : may_answer (answer_of c.args.answer.now) c.kind-kind.result ≡ true = subst (λ k. may_answer (answer_of c.args.answer.now) k ≡ true) (sym c.kind-kind.ensures) (told_at (λ ws. may_answer (answer_of c.args.answer.now) (kind_of c.args.next.now) ≡ true) (g.C.Checkpoint.contents c.args.store.now c.args.dev.now) words told c.requires.kind) in
-    let logs : c.rule-asked.result.log ≡ true → logged_of c.record_of-rec.result ≡ (record { position = st.position; answer = (answer_of c.args.answer.now) }) = λ due. c.record_of-rec.ensures.logged (log_at_inputs c.args.self.now.protocol c.kind-kind.result _ c.rule-asked.result c.rule-asked.ensures due) kinds
+    let logs : c.rule-asked.result.log ≡ true → logged_of c.record_of-rec.result ≡ (record { position = st.position; answer = (answer_of c.args.answer.now) }) = λ due. c.record_of-rec.ensures.logged c.kind-kind.result (log_at_inputs c.args.self.now.protocol c.kind-kind.result (since_of c.args.self.now c.kind-kind.result (answer_of c.args.answer.now) false) c.rule-asked.result c.rule-asked.ensures due) kinds
     ∙ ap (λ i. record { position = i; answer = (answer_of c.args.answer.now) }) (ap (λ (k : Kernel). k.position) bare1 ∙ here.kernel_is.position) in
     let over2 = over_as (system images inputs c.args.self.now.protocol) p (answers_alone answers st (answer_of c.args.answer.now) Nowhere) (g.C.Checkpoint.contents c.append_if.new.store c.append_if.new.dev) (held c.append_if.new.self) (g.C.Checkpoint.leaves c.append_if.new.store c.append_if.new.dev d) (second_of c.rule-asked.result.log (logged_of c.record_of-rec.result) (first_of c.rule-asked.result.before st)) (second_of c.rule-asked.result.log (record { position = st.position; answer = (answer_of c.args.answer.now) }) (first_of c.rule-asked.result.before st)) (record_is c.rule-asked.result.log (logged_of c.record_of-rec.result) (record { position = st.position; answer = (answer_of c.args.answer.now) }) (first_of c.rule-asked.result.before st) logs)
     (c.in_ok-append_if.ensures.goes images inputs c.args.self.now.protocol p (answers_alone answers st (answer_of c.args.answer.now) Nowhere) (first_of c.rule-asked.result.before st) d from1 over1) in
@@ -133,7 +133,7 @@ returns-in_err-commit_if-2-clause-stopped g c = any_err c.from_residual-in_err-c
     let from1 : g.C.Checkpoint.floor c.commit_if.new.store ≤ d = omega (arith, from, c.in_ok-commit_if.ensures.call.floor) in
     let bare1 = commit_bare c.rule-asked.result.before c.args.self.now c.commit_if.new.self c.commit_if.new.self.based.items c.in_ok-commit_if.ensures.held c.in_ok-commit_if.ensures.kept in
     let kinds : may_answer (answer_of c.args.answer.now) c.kind-kind.result ≡ true = subst (λ k. may_answer (answer_of c.args.answer.now) k ≡ true) (sym c.kind-kind.ensures) (told_at (λ ws. may_answer (answer_of c.args.answer.now) (kind_of c.args.next.now) ≡ true) (g.C.Checkpoint.contents c.args.store.now c.args.dev.now) words told c.requires.kind) in
-    let logs : c.rule-asked.result.log ≡ true → logged_of c.record_of-rec.result ≡ (record { position = st.position; answer = (answer_of c.args.answer.now) }) = λ due. c.record_of-rec.ensures.logged (log_at_inputs c.args.self.now.protocol c.kind-kind.result _ c.rule-asked.result c.rule-asked.ensures due) kinds
+    let logs : c.rule-asked.result.log ≡ true → logged_of c.record_of-rec.result ≡ (record { position = st.position; answer = (answer_of c.args.answer.now) }) = λ due. c.record_of-rec.ensures.logged c.kind-kind.result (log_at_inputs c.args.self.now.protocol c.kind-kind.result (since_of c.args.self.now c.kind-kind.result (answer_of c.args.answer.now) false) c.rule-asked.result c.rule-asked.ensures due) kinds
     ∙ ap (λ i. record { position = i; answer = (answer_of c.args.answer.now) }) (ap (λ (k : Kernel). k.position) bare1 ∙ here.kernel_is.position) in
     let over2 = over_as (system images inputs c.args.self.now.protocol) p (answers_alone answers st (answer_of c.args.answer.now) Nowhere) (g.C.Checkpoint.contents c.append_if.new.store c.append_if.new.dev) (held c.append_if.new.self) (g.C.Checkpoint.leaves c.append_if.new.store c.append_if.new.dev d) (second_of c.rule-asked.result.log (logged_of c.record_of-rec.result) (first_of c.rule-asked.result.before st)) (second_of c.rule-asked.result.log (record { position = st.position; answer = (answer_of c.args.answer.now) }) (first_of c.rule-asked.result.before st)) (record_is c.rule-asked.result.log (logged_of c.record_of-rec.result) (record { position = st.position; answer = (answer_of c.args.answer.now) }) (first_of c.rule-asked.result.before st) logs)
     (c.in_ok-append_if.ensures.goes images inputs c.args.self.now.protocol p (answers_alone answers st (answer_of c.args.answer.now) Nowhere) (first_of c.rule-asked.result.before st) d from1 over1) in
@@ -162,7 +162,7 @@ returns-clause-goes g c images inputs p answers st d words from told stood alone
     let from1 : g.C.Checkpoint.floor c.commit_if.new.store ≤ d = omega (arith, from, c.in_ok-commit_if.ensures.call.floor) in
     let bare1 = commit_bare c.rule-asked.result.before c.args.self.now c.commit_if.new.self c.commit_if.new.self.based.items c.in_ok-commit_if.ensures.held c.in_ok-commit_if.ensures.kept in
     let kinds : may_answer (answer_of c.args.answer.now) c.kind-kind.result ≡ true = subst (λ k. may_answer (answer_of c.args.answer.now) k ≡ true) (sym c.kind-kind.ensures) (told_at (λ ws. may_answer (answer_of c.args.answer.now) (kind_of c.args.next.now) ≡ true) (g.C.Checkpoint.contents c.args.store.now c.args.dev.now) words told c.requires.kind) in
-    let logs : c.rule-asked.result.log ≡ true → logged_of c.record_of-rec.result ≡ (record { position = st.position; answer = (answer_of c.args.answer.now) }) = λ due. c.record_of-rec.ensures.logged (log_at_inputs c.args.self.now.protocol c.kind-kind.result _ c.rule-asked.result c.rule-asked.ensures due) kinds
+    let logs : c.rule-asked.result.log ≡ true → logged_of c.record_of-rec.result ≡ (record { position = st.position; answer = (answer_of c.args.answer.now) }) = λ due. c.record_of-rec.ensures.logged c.kind-kind.result (log_at_inputs c.args.self.now.protocol c.kind-kind.result (since_of c.args.self.now c.kind-kind.result (answer_of c.args.answer.now) false) c.rule-asked.result c.rule-asked.ensures due) kinds
     ∙ ap (λ i. record { position = i; answer = (answer_of c.args.answer.now) }) (ap (λ (k : Kernel). k.position) bare1 ∙ here.kernel_is.position) in
     let over2 = over_as (system images inputs c.args.self.now.protocol) p (answers_alone answers st (answer_of c.args.answer.now) Nowhere) (g.C.Checkpoint.contents c.append_if.new.store c.append_if.new.dev) (held c.append_if.new.self) (g.C.Checkpoint.leaves c.append_if.new.store c.append_if.new.dev d) (second_of c.rule-asked.result.log (logged_of c.record_of-rec.result) (first_of c.rule-asked.result.before st)) (second_of c.rule-asked.result.log (record { position = st.position; answer = (answer_of c.args.answer.now) }) (first_of c.rule-asked.result.before st)) (record_is c.rule-asked.result.log (logged_of c.record_of-rec.result) (record { position = st.position; answer = (answer_of c.args.answer.now) }) (first_of c.rule-asked.result.before st) logs)
     (c.in_ok-append_if.ensures.goes images inputs c.args.self.now.protocol p (answers_alone answers st (answer_of c.args.answer.now) Nowhere) (first_of c.rule-asked.result.before st) d from1 over1) in
@@ -230,23 +230,23 @@ returns-clause-numbered g c d most from below is =
 
 -- where all commit together, nothing but the event's stores is done
 pub returns-in_err-commit_if-clause-narrows : goal.returns-in_err-commit_if-clause-narrows
-returns-in_err-commit_if-clause-narrows g c together = absurd (true≢false (sym (not_asked c.rule-asked.result (λ r. r.before) (c.rule-asked.ensures ∙ asks_nothing c.args.self.now.protocol together c.kind-kind.result _) c.in_err-commit_if.ensures.due)))
+returns-in_err-commit_if-clause-narrows g c together = absurd (true≢false (sym (not_asked c.rule-asked.result (λ r. r.before) (c.rule-asked.ensures ∙ asks_nothing c.args.self.now.protocol together c.kind-kind.result (since_of c.args.self.now c.kind-kind.result (answer_of c.args.answer.now) false)) c.in_err-commit_if.ensures.due)))
 
 pub returns-in_err-append_if-clause-narrows : goal.returns-in_err-append_if-clause-narrows
-returns-in_err-append_if-clause-narrows g c together = absurd (true≢false (sym (not_asked c.rule-asked.result (λ r. r.log) (c.rule-asked.ensures ∙ asks_nothing c.args.self.now.protocol together c.kind-kind.result _) c.in_err-append_if.ensures.due)))
+returns-in_err-append_if-clause-narrows g c together = absurd (true≢false (sym (not_asked c.rule-asked.result (λ r. r.log) (c.rule-asked.ensures ∙ asks_nothing c.args.self.now.protocol together c.kind-kind.result (since_of c.args.self.now c.kind-kind.result (answer_of c.args.answer.now) false)) c.in_err-append_if.ensures.due)))
 
 pub returns-in_err-advance-clause-narrows : goal.returns-in_err-advance-clause-narrows
 returns-in_err-advance-clause-narrows g c together =
-    let off = c.rule-asked.ensures ∙ asks_nothing c.args.self.now.protocol together c.kind-kind.result _ in
+    let off = c.rule-asked.ensures ∙ asks_nothing c.args.self.now.protocol together c.kind-kind.result (since_of c.args.self.now c.kind-kind.result (answer_of c.args.answer.now) false) in
     narrow_last g.C.Checkpoint c.args.store.now c.commit_if.new.store c.append_if.new.store c.advance.new.store c.args.dev.now c.commit_if.new.dev c.append_if.new.dev c.advance.new.dev
     (c.commit_if.ensures.untouched (ap (λ (r : Rule). r.before) off)) (c.append_if.ensures.untouched (ap (λ (r : Rule). r.log) off)) c.advance.ensures.stores.adds_nothing.stands
 
 pub returns-in_err-commit_if-2-clause-narrows : goal.returns-in_err-commit_if-2-clause-narrows
-returns-in_err-commit_if-2-clause-narrows g c together = absurd (true≢false (sym (not_asked c.rule-asked.result (λ r. r.after) (c.rule-asked.ensures ∙ asks_nothing c.args.self.now.protocol together c.kind-kind.result _) c.in_err-commit_if-2.ensures.due)))
+returns-in_err-commit_if-2-clause-narrows g c together = absurd (true≢false (sym (not_asked c.rule-asked.result (λ r. r.after) (c.rule-asked.ensures ∙ asks_nothing c.args.self.now.protocol together c.kind-kind.result (since_of c.args.self.now c.kind-kind.result (answer_of c.args.answer.now) false)) c.in_err-commit_if-2.ensures.due)))
 
 pub returns-clause-narrows : goal.returns-clause-narrows
 returns-clause-narrows g c together =
-    let off = c.rule-asked.ensures ∙ asks_nothing c.args.self.now.protocol together c.kind-kind.result _ in
+    let off = c.rule-asked.ensures ∙ asks_nothing c.args.self.now.protocol together c.kind-kind.result (since_of c.args.self.now c.kind-kind.result (answer_of c.args.answer.now) false) in
     narrow_then g.C.Checkpoint c.args.store.now c.advance.new.store c.commit_if-2.new.store c.args.dev.now c.advance.new.dev c.commit_if-2.new.dev (c.commit_if-2.ensures.untouched (ap (λ (r : Rule). r.after) off))
     (narrow_last g.C.Checkpoint c.args.store.now c.commit_if.new.store c.append_if.new.store c.advance.new.store c.args.dev.now c.commit_if.new.dev c.append_if.new.dev c.advance.new.dev
     (c.commit_if.ensures.untouched (ap (λ (r : Rule). r.before) off)) (c.append_if.ensures.untouched (ap (λ (r : Rule). r.log) off)) c.advance.ensures.stores.adds_nothing.stands)

@@ -24,7 +24,7 @@ returns-in_err-store-clause-stands g c d r left =
     let sh = shape_of frame in
     let v = c.loop-i.invariant in
     let within : c.loop-i.i < 1424 + 33 * frame.lines = omega (arith, c.loop-i-test.true) in
-    let more = begun_more sh c.loop-i.i c.made_word.result _ c.store.result _ _ v.from (omega (arith, within, c.requires.lent, v.call.extent_same)) c.made_word.ensures (g.met.K.Keeps.told_extent c.loop-i.dev frame.place) c.store.ensures.word v.begun in
+    let more = begun_more sh c.loop-i.i c.made_word.result _ c.store.result _ _ v.from (omega (arith, within, c.requires.lent, v.call.extent)) c.made_word.ensures (g.met.K.Keeps.told_extent c.loop-i.dev frame.place) c.store.ensures.word v.begun in
     unready_reading sh _ d r (begun_unready sh frame.lines c.loop-i.i _ more.1) left
 
 pub returns-in_err-store-clause-numbers : goal.returns-in_err-store-clause-numbers
@@ -34,7 +34,7 @@ returns-in_err-store-clause-numbers g c e left =
     let sh = shape_of frame in
     let v = c.loop-i.invariant in
     let within : c.loop-i.i < 1424 + 33 * frame.lines = omega (arith, c.loop-i-test.true) in
-    let more = begun_more sh c.loop-i.i c.made_word.result _ c.store.result _ _ v.from (omega (arith, within, c.requires.lent, v.call.extent_same)) c.made_word.ensures (g.met.K.Keeps.told_extent c.loop-i.dev frame.place) c.store.ensures.word v.begun in
+    let more = begun_more sh c.loop-i.i c.made_word.result _ c.store.result _ _ v.from (omega (arith, within, c.requires.lent, v.call.extent)) c.made_word.ensures (g.met.K.Keeps.told_extent c.loop-i.dev frame.place) c.store.ensures.word v.begun in
     unready_number _ e (begun_unready sh frame.lines c.loop-i.i _ more.1) left
 
 pub returns-in_err-store-clause-told : goal.returns-in_err-store-clause-told
@@ -47,13 +47,13 @@ loop-i-preserved g c =
     let sh = shape_of frame in
     let v = c.loop-i.invariant in
     let within : c.loop-i.i < 1424 + 33 * frame.lines = omega (arith, c.loop-i-test.true) in
-    let more = begun_more sh c.loop-i.i c.made_word.result _ c.store.result _ _ v.from (omega (arith, within, c.requires.lent, v.call.extent_same)) c.made_word.ensures (g.met.K.Keeps.told_extent c.loop-i.dev frame.place) c.store.ensures.word v.begun in
+    let more = begun_more sh c.loop-i.i c.made_word.result _ c.store.result _ _ v.from (omega (arith, within, c.requires.lent, v.call.extent)) c.made_word.ensures (g.met.K.Keeps.told_extent c.loop-i.dev frame.place) c.store.ensures.word v.begun in
     record {
       from = omega (arith, v.from);
       low = omega (arith, within);
       begun = search (rules, more.0);
       told = told_left frame.lines c.loop-i.i _ _ _ _ _ c.store.ensures.word v.told;
-      call = let e = c.store.ensures in call_then K frame.place _ _ _ _ done (g.met.K.Keeps.continues_on _ _ _) v.call (record { extent_same = e.extent; tells = e.tells; cause = c.in_ok-store.ensures.cause; others = e.others; continues = e.continues });
+      call = call_then K frame.place _ _ _ _ done (g.met.K.Keeps.continues_on _ _ _) v.call c.in_ok-store.ensures.call;
     }
 
 pub returns-clause-told : goal.returns-clause-told
@@ -65,8 +65,8 @@ returns-clause-zero g c =
     let frame = c.args.self.now in
     let v = c.loop-i.invariant in
     let full : c.loop-i.i ≡ 1424 + 33 * frame.lines = omega (arith, c.loop-i-test.false, v.low) in
-    let whole = made_done frame.size frame.n frame.p frame.lines frame.memory.items frame.kernel.items frame.whole frame.long frame.shaped.fits frame.text frame.numbered c.store-2.result _ _ _ (v.call.extent_same ∙ c.requires.lent) (g.met.K.Keeps.told_extent c.loop-i.dev frame.place) c.store-2.ensures.word (rw full at v.begun) in
-    let long = lengths frame.lines _ _ (c.store-2.ensures.extent ∙ v.call.extent_same ∙ c.requires.lent) (g.met.K.Keeps.told_extent c.store-2.new.self frame.place) in
+    let whole = made_done frame.size frame.n frame.p frame.lines frame.memory.items frame.kernel.items frame.whole frame.long frame.shaped.fits frame.text frame.numbered c.store-2.result _ _ _ (v.call.extent ∙ c.requires.lent) (g.met.K.Keeps.told_extent c.loop-i.dev frame.place) c.store-2.ensures.word (rw full at v.begun) in
+    let long = lengths frame.lines _ _ (c.store-2.ensures.call.extent ∙ v.call.extent ∙ c.requires.lent) (g.met.K.Keeps.told_extent c.store-2.new.self frame.place) in
     made_zero frame.size frame.n frame.p frame.lines frame.memory.items frame.kernel.items frame.whole frame.long frame.shaped.fits frame.text frame.numbered _ _ long whole.0
 
 pub returns-clause-memory : goal.returns-clause-memory
@@ -75,8 +75,8 @@ returns-clause-memory g c =
     let frame = c.args.self.now in
     let v = c.loop-i.invariant in
     let full : c.loop-i.i ≡ 1424 + 33 * frame.lines = omega (arith, c.loop-i-test.false, v.low) in
-    let whole = made_done frame.size frame.n frame.p frame.lines frame.memory.items frame.kernel.items frame.whole frame.long frame.shaped.fits frame.text frame.numbered c.store-2.result _ _ _ (v.call.extent_same ∙ c.requires.lent) (g.met.K.Keeps.told_extent c.loop-i.dev frame.place) c.store-2.ensures.word (rw full at v.begun) in
-    let long = lengths frame.lines _ _ (c.store-2.ensures.extent ∙ v.call.extent_same ∙ c.requires.lent) (g.met.K.Keeps.told_extent c.store-2.new.self frame.place) in
+    let whole = made_done frame.size frame.n frame.p frame.lines frame.memory.items frame.kernel.items frame.whole frame.long frame.shaped.fits frame.text frame.numbered c.store-2.result _ _ _ (v.call.extent ∙ c.requires.lent) (g.met.K.Keeps.told_extent c.loop-i.dev frame.place) c.store-2.ensures.word (rw full at v.begun) in
+    let long = lengths frame.lines _ _ (c.store-2.ensures.call.extent ∙ v.call.extent ∙ c.requires.lent) (g.met.K.Keeps.told_extent c.store-2.new.self frame.place) in
     made_memory frame.size frame.n frame.p frame.lines frame.memory.items frame.kernel.items frame.whole frame.long frame.shaped.fits frame.text frame.numbered _ _ whole.0
 
 pub returns-clause-stands : goal.returns-clause-stands
@@ -85,8 +85,8 @@ returns-clause-stands g c =
     let frame = c.args.self.now in
     let v = c.loop-i.invariant in
     let full : c.loop-i.i ≡ 1424 + 33 * frame.lines = omega (arith, c.loop-i-test.false, v.low) in
-    let whole = made_done frame.size frame.n frame.p frame.lines frame.memory.items frame.kernel.items frame.whole frame.long frame.shaped.fits frame.text frame.numbered c.store-2.result _ _ _ (v.call.extent_same ∙ c.requires.lent) (g.met.K.Keeps.told_extent c.loop-i.dev frame.place) c.store-2.ensures.word (rw full at v.begun) in
-    let long = lengths frame.lines _ _ (c.store-2.ensures.extent ∙ v.call.extent_same ∙ c.requires.lent) (g.met.K.Keeps.told_extent c.store-2.new.self frame.place) in
+    let whole = made_done frame.size frame.n frame.p frame.lines frame.memory.items frame.kernel.items frame.whole frame.long frame.shaped.fits frame.text frame.numbered c.store-2.result _ _ _ (v.call.extent ∙ c.requires.lent) (g.met.K.Keeps.told_extent c.loop-i.dev frame.place) c.store-2.ensures.word (rw full at v.begun) in
+    let long = lengths frame.lines _ _ (c.store-2.ensures.call.extent ∙ v.call.extent ∙ c.requires.lent) (g.met.K.Keeps.told_extent c.store-2.new.self frame.place) in
     made_stands frame.size frame.n frame.p frame.lines frame.memory.items frame.kernel.items frame.whole frame.long frame.shaped.fits frame.text frame.numbered _ long whole.1
 
 pub returns-clause-numbers : goal.returns-clause-numbers
@@ -95,6 +95,6 @@ returns-clause-numbers g c =
     let frame = c.args.self.now in
     let v = c.loop-i.invariant in
     let full : c.loop-i.i ≡ 1424 + 33 * frame.lines = omega (arith, c.loop-i-test.false, v.low) in
-    let whole = made_done frame.size frame.n frame.p frame.lines frame.memory.items frame.kernel.items frame.whole frame.long frame.shaped.fits frame.text frame.numbered c.store-2.result _ _ _ (v.call.extent_same ∙ c.requires.lent) (g.met.K.Keeps.told_extent c.loop-i.dev frame.place) c.store-2.ensures.word (rw full at v.begun) in
-    let long = lengths frame.lines _ _ (c.store-2.ensures.extent ∙ v.call.extent_same ∙ c.requires.lent) (g.met.K.Keeps.told_extent c.store-2.new.self frame.place) in
+    let whole = made_done frame.size frame.n frame.p frame.lines frame.memory.items frame.kernel.items frame.whole frame.long frame.shaped.fits frame.text frame.numbered c.store-2.result _ _ _ (v.call.extent ∙ c.requires.lent) (g.met.K.Keeps.told_extent c.loop-i.dev frame.place) c.store-2.ensures.word (rw full at v.begun) in
+    let long = lengths frame.lines _ _ (c.store-2.ensures.call.extent ∙ v.call.extent ∙ c.requires.lent) (g.met.K.Keeps.told_extent c.store-2.new.self frame.place) in
     made_numbers frame.size frame.n frame.p frame.lines frame.memory.items frame.kernel.items frame.whole frame.long frame.shaped.fits frame.text frame.numbered _ whole.1

@@ -1,7 +1,8 @@
 use Rattle.std.proofs.Common.{◌≡◌, ◌+◌, ◌*◌, Result, Ok}
+use Rattle.dc_media.specs.Calls.{IsCall}
+use Rattle.dc_media.specs.Devices.{of_words}
 use Rattle.dc_media.specs.Told.{Becomes}
 use Rattle.dc_media.specs.declared.faults.DeviceFault.{DeviceFault}
-use Rattle.dc_vista.specs.Calls.{IsCall}
 use Rattle.dc_vista.specs.Handles.{seen, shape_of, since_of}
 use Rattle.dc_vista.specs.Whole.{IsReady, IsWritten, Stays}
 use Rattle.dc_vista.proofs.frame.Frame.put_record.Given as goal
@@ -13,5 +14,5 @@ invariant-loop-w g l = let K = g.K.Keeps in let calm : Result (Unit {0}) DeviceF
   stands : Stays (shape_of l.self) (seen K l.self l.fn.dev) (seen K l.self l.dev);
   text : Becomes (seen K l.self l.fn.dev) (seen K l.self l.dev) (λ b a. IsWritten (22 * l.marks.logged + 1) l.w-index l.text b.log a.log);
   rest : Becomes (seen K l.self l.fn.dev) (seen K l.self l.dev) (λ b a. a ≡ record b { log = a.log });
-  call : IsCall K l.self.place l.fn.dev l.dev calm;
+  call : IsCall (of_words K) l.self.place l.fn.dev l.dev calm;
 }

@@ -1,9 +1,8 @@
 use Rattle.std.proofs.Common.{◌≡◌, ◌+◌, ◌++◌, ◌∷◌, [], Err, IfSome, arith, rules, subst}
 use Rattle.std.proofs.lemmas.List.Elements.{All-push}
 use Rattle.dc_kernel.specs.Records.{IsRecord}
-use Rattle.dc_vista.proofs.Decoded.{decoded_is}
-use Rattle.dc_kernel.specs.declared.faults.StoreFault.{StoreFault}
-use Rattle.dc_kernel.specs.declared.faults.StoreFault.TheVariants as fault
+use Rattle.dc_checkpoint.specs.declared.faults.StoreFault.{StoreFault}
+use Rattle.dc_checkpoint.specs.declared.faults.StoreFault.TheVariants as fault
 use Rattle.dc_checkpoint.specs.States.{Reading}
 use Rattle.dc_vista.specs.Handles.{seen}
 use Rattle.dc_vista.specs.Logs.{first_unsound, tagged}
@@ -22,7 +21,7 @@ returns-in_default-clause-refused g c f is =
     let frame = c.args.self.now in
     let e : fault.Record (frame.lines + 1 + c.loop-j.j) ≡ f = cc in
     subst (λ (x : StoreFault). IfSome (seen g.K.Keeps frame c.args.dev.now) (λ b. (r : Reading) → or_record (frame.lines + 1) (first_unsound frame.n 0 (tagged 64 c.args.number b.log)) r ≡ Err x)) e
-    (log_refused frame.n frame.lines c.args.number c.loop-j.j c.get.result c.read_place.new.words c.loop-j.log.items _ c.loop-j-test.true c.if-get-number.false c.get.ensures c.read_place.ensures.text c.in_default.ensures c.loop-j.invariant.read)
+    (log_refused frame.n frame.lines c.args.number c.loop-j.j c.get.result c.read_place.new.words c.loop-j.log.items _ c.loop-j-test.true c.if-get-number.false c.get.ensures c.read_place.ensures.text c.in_default.ensures.exact c.loop-j.invariant.read)
 
 pub loop-j-preserved : goal.loop-j-preserved
 loop-j-preserved g c =
@@ -31,8 +30,8 @@ loop-j-preserved g c =
     let items : c.push-pushed.new.self.items ≡ c.loop-j.log.items ++ c.in-Some.rec ∷ [] = search rules in
     record {
       few = search rules;
-      records = rw items (All-push (IsRecord frame.n) c.loop-j.log.items c.in-Some.rec v.records (decoded_is frame.n c.read_place.new.words c.in-Some.rec c.in-Some.ensures));
+      records = rw items (All-push (IsRecord frame.n) c.loop-j.log.items c.in-Some.rec v.records c.in-Some.ensures.record);
       room = search rules;
       long = c.read_place.ensures.long;
-      read = rw items (log_more frame.n c.args.number c.loop-j.j c.get.result c.read_place.new.words c.loop-j.log.items c.in-Some.rec _ c.loop-j-test.true c.if-get-number.false c.get.ensures c.read_place.ensures.text c.in-Some.ensures v.read);
+      read = rw items (log_more frame.n c.args.number c.loop-j.j c.get.result c.read_place.new.words c.loop-j.log.items c.in-Some.rec _ c.loop-j-test.true c.if-get-number.false c.get.ensures c.read_place.ensures.text c.in-Some.ensures.exact v.read);
     }

@@ -1,9 +1,9 @@
 use Rattle.std.proofs.Common.{◌≡◌, ◌<◌, ◌≤◌, ◌+◌, ◌-◌, ◌*◌, ◌∙◌, ℕ, false, None, Some, Err, ap, arith, is_some, length, length-set, refl, slice_index, slice_set, subst, sym, inl, inr, ⊎_elim}
 use Rattle.std.proofs.lemmas.Bool.{cases_lt}
 use Rattle.dc_checkpoint.specs.States.{Form}
-use Rattle.dc_kernel.specs.declared.faults.CheckFault.TheVariants as check
+use Rattle.dc_checkpoint.specs.declared.faults.CheckFault.TheVariants as check
 use Rattle.dc_model.specs.declared.entry.Entry.TheVariants as entry
-use Rattle.dc_plain.specs.Playing.{lists_of}
+use Rattle.dc_words.specs.Lists.{lists_of}
 use Rattle.dc_proc.specs.Ups.{held}
 use Rattle.dc_twophase.proofs.Laws.{Laws}
 use Rattle.dc_world.proofs.Failing.{failing, no_refusal}

@@ -5,7 +5,7 @@ use Rattle.dc_guest.specs.Answers.{answer_of, effect_of, may_answer}
 use Rattle.dc_guest.specs.Guest.{event_of, machine_over, next_of, over}
 use Rattle.dc_guest.specs.Nexts.{called_by}
 use Rattle.dc_model.specs.Runs.{own}
-use Rattle.dc_plain.specs.Playing.{lists_of}
+use Rattle.dc_words.specs.Lists.{lists_of}
 use Rattle.dc_proc.proofs.Numbers.{numbered_less, numbered_more}
 use Rattle.dc_proc.proofs.Ruling.{event_is}
 use Rattle.dc_proc.specs.Carried.{process, system}

@@ -12,7 +12,7 @@ use Rattle.dc_guest.specs.Nexts.{called_by}
 use Rattle.dc_model.specs.Process.{at_position, local}
 use Rattle.dc_model.specs.Runs.{own}
 use Rattle.dc_model.specs.World.{reported}
-use Rattle.dc_plain.specs.Playing.{lists_of}
+use Rattle.dc_words.specs.Lists.{lists_of}
 use Rattle.dc_proc.proofs.Ruling.{event_is}
 use Rattle.dc_proc.specs.Carried.{process, system}
 use Rattle.dc_proc.specs.Processes.{IsAt}

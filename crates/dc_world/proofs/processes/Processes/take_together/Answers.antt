@@ -3,7 +3,7 @@ use Rattle.std.proofs.lemmas.Result.{err_from_is_err_and}
 use Rattle.dc_guest.specs.Answers.{answer_of, effect_of}
 use Rattle.dc_guest.specs.Guest.{event_of, machine_over, next_of, over}
 use Rattle.dc_guest.specs.Nexts.{called_by}
-use Rattle.dc_plain.specs.Playing.{lists_of}
+use Rattle.dc_words.specs.Lists.{lists_of}
 use Rattle.dc_proc.specs.Carried.{system}
 use Rattle.dc_proc.specs.Events.{HasCountsFor}
 use Rattle.dc_proc.specs.Turns.{shown_of}

@@ -7,7 +7,7 @@ use Rattle.dc_guest.specs.Guest.{event_of, machine_over, next_of, over}
 use Rattle.dc_model.specs.Runs.{own}
 use Rattle.dc_model.specs.declared.entry.Entry.TheVariants as entry
 use Rattle.dc_model.specs.declared.mark.Mark.TheVariants as mark
-use Rattle.dc_plain.specs.Playing.{lists_of}
+use Rattle.dc_words.specs.Lists.{lists_of}
 use Rattle.dc_proc.proofs.Ruling.{event_is}
 use Rattle.dc_proc.specs.Carried.{system}
 use Rattle.dc_proc.specs.Ups.{IsFit}

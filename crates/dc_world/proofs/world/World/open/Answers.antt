@@ -1,6 +1,7 @@
 use Rattle.std.proofs.Common.{◌≡◌, ◌∙◌, ◌<◌, ◌++◌, ap, drop, length, map, rules, subst, sym, take}
 use Rattle.dc_media.specs.Causes.{Rose}
-use Rattle.dc_plain.specs.Playing.{lists_of, seen_image}
+use Rattle.dc_elf.specs.Loaded.{seen_image}
+use Rattle.dc_words.specs.Lists.{lists_of}
 use Rattle.dc_proc.specs.Carried.{system}
 use Rattle.dc_recovery.specs.Core.{opened_core}
 use Rattle.dc_world.proofs.Felling.{all_written}
