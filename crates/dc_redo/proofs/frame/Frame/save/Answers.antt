@@ -1,0 +1,41 @@
+use Rattle.std.proofs.Common.{◌≡◌, ◌∙◌, arith, length, subst, sym}
+use Rattle.std.proofs.lemmas.List.{length-take-le}
+use Rattle.std.proofs.lemmas.Result.{on_ok_weaker}
+use Rattle.dc_kernel.proofs.Kernels.{right_from}
+use Rattle.dc_checkpoint.specs.States.{Reading, number_in}
+use Rattle.dc_redo.specs.Handles.{known_of, shape_of}
+use Rattle.dc_redo.specs.Saves.{GoesOn}
+use Rattle.dc_redo.specs.Standing.{memory_in}
+use Rattle.dc_redo.proofs.Saved.{body_is_state}
+use Rattle.dc_redo.proofs.frame.Frame.save.Goals as goal
+
+pub store_text-requires-clause-text : goal.store_text-requires-clause-text
+store_text-requires-clause-text g c =
+    let frame = c.args.self.now in
+    (right_from frame.n frame.p c.args.kernel.now c.requires.text).long ∙ sym frame.layout
+
+pub returns-then-from-bytes-clause-goes : goal.returns-then-from-bytes-clause-goes
+returns-then-from-bytes-clause-goes g c =
+    let frame = c.args.self.now in
+    let sh = shape_of frame in
+    let old = c.args.marks.now.body.items in
+    let kernel = c.args.kernel.now in
+    let long = c.requires.long in
+    let lined = frame.lined in
+    let m_long : length (memory_in sh old) ≡ sh.size = length-take-le sh.size old (omega (arith, long, lined)) in
+    let k_long : length kernel ≡ sh.kernel = (right_from frame.n frame.p kernel c.requires.text).long ∙ sym frame.layout in
+    let is = body_is_state sh c.store_text.new.marks.body.items (memory_in sh old) kernel m_long k_long c.store_text.ensures.body in
+    on_ok_weaker c.save_lines.result (λ goes. subst (λ (s : Reading). GoesOn sh (known_of c.save_lines.new.marks) c.args.prepared (number_in kernel) s (g.D.Disks.told c.save_lines.new.dev frame.place)) is goes) c.save_lines.ensures.goes
+
+pub returns-clause-goes : goal.returns-clause-goes
+returns-clause-goes g c =
+    let frame = c.args.self.now in
+    let sh = shape_of frame in
+    let old = c.args.marks.now.body.items in
+    let kernel = c.args.kernel.now in
+    let long = c.requires.long in
+    let lined = frame.lined in
+    let m_long : length (memory_in sh old) ≡ sh.size = length-take-le sh.size old (omega (arith, long, lined)) in
+    let k_long : length kernel ≡ sh.kernel = (right_from frame.n frame.p kernel c.requires.text).long ∙ sym frame.layout in
+    let is = body_is_state sh c.store_text.new.marks.body.items (memory_in sh old) kernel m_long k_long c.store_text.ensures.body in
+    on_ok_weaker c.save_whole.result (λ goes. subst (λ (s : Reading). GoesOn sh (known_of c.save_whole.new.marks) c.args.prepared (number_in kernel) s (g.D.Disks.told c.save_whole.new.dev frame.place)) is goes) c.save_whole.ensures.goes
