@@ -1,5 +1,6 @@
 //! What calls of a segment cost, to be measured from outside: `load COUNT`, `vector COUNT`, `commit LINES COUNT`, over a memory of
-//! 1 MiB; turns of a process over a segment: `computing COUNT`, `showing COUNT`, beside `stores COUNT` of the device alone; and entries
+//! 1 MiB; the same of a redo log over a memory of so many pages: `redo-load COUNT`, `redo-commit LINES COUNT PAGES`, and its recoveries
+//! behind a commit that fills most of a half, `redo-recover PAGES COUNT`; turns of a process over a segment: `computing COUNT`, `showing COUNT`, beside `stores COUNT` of the device alone; and entries
 //! of a world of so many processes: `entries COUNT PROCESSES` of guests that compute, `idle COUNT PROCESSES` of guests that end at once.
 //! Prints where the loads led, the number of the last commit, or how many calls of the device were made, and ends with status 1
 //! where that is none.
@@ -13,8 +14,9 @@ ghost use Rattle.std.specs.Prelude.{◌<◌, ◌≤◌, ◌-◌, ◌^◌};
 
 use dc_limits::{ENTRIES, PROCESSES};
 use dc_media::STORES;
-use dc_memmedia::MemKeeps;
+use dc_memmedia::{MemDisks, MemKeeps};
 use dc_protocols::Protocol;
+use dc_redo::Redo;
 use dc_vista::Segment;
 use std::alloc::Global;
 use std::process::ExitCode;
@@ -78,9 +80,31 @@ fn led(alloc: Global, keeps: &mut MemKeeps, what: &str, words: &[String]) -> Opt
     work::commit_often::<Segment<MemKeeps>>(alloc, keeps, PAGES, lines, number(words, 3, COMMITS))
 }
 
+/// The same of a redo log, or the number of the state that its last recovery found.
+fn led_redo(alloc: Global, disks: &mut MemDisks, what: &str, words: &[String]) -> Option<u32> {
+    if what == "redo-load" {
+        return work::load::<Redo<MemDisks>>(alloc, disks, PAGES, number(words, 2, u32::MAX));
+    }
+    if what == "redo-recover" {
+        let (pages, count) = (number(words, 2, PAGES), number(words, 3, COMMITS));
+        return work::recover_often::<Redo<MemDisks>>(alloc, disks, pages, 48 * pages, count);
+    }
+    if what != "redo-commit" {
+        return None;
+    }
+    let pages = number(words, 4, PAGES);
+    let lines = number(words, 2, LINES).min(64 * pages);
+    work::commit_often::<Redo<MemDisks>>(alloc, disks, pages, lines, number(words, 3, COMMITS))
+}
+
 fn measured(alloc: Global, words: &[String]) -> Option<u64> {
     let mut keeps = MemKeeps::new(alloc, Vec::new(alloc)).ok()?;
     let what = words.get(1)?;
+    if what.starts_with("redo-") {
+        let mut disks = MemDisks::new(alloc, Vec::new(alloc)).ok()?;
+        let found = led_redo(alloc, &mut disks, what.as_str(), words)?;
+        return Some(u64::from(found));
+    }
     match led(alloc, &mut keeps, what.as_str(), words) {
         Some(sum) => Some(u64::from(sum)),
         None => calls_of(

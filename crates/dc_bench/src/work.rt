@@ -1,11 +1,12 @@
-//! What is measured: loads of a store and of a vector, and commits after so many lines were stored to.
+//! What is measured: loads of a store and of a vector, commits after so many lines were stored to, and recoveries.
 
 ghost use Rattle.std.specs.Prelude.{◌≡◌, ◌+◌, ◌*◌, ◌<◌, ◌≤◌, ◌^◌, IfOk, IfSome, OnOk, length};
 ghost use Rattle.dc_checkpoint.specs.Handles.{IsSame};
+ghost use Rattle.dc_checkpoint.specs.States.{IsFit};
 ghost use Rattle.dc_kernel.specs.Layout.{kernel_words};
 
 use dc_checkpoint::{CheckFault, Checkpoint};
-use dc_kernel::{Kernel, kernel_words};
+use dc_kernel::{Kernel, Saved, kernel_words};
 use std::alloc::{AllocError, Global};
 
 /// Loads so many words of a memory, each where the one before leads: its place, that word and one, added up.
@@ -98,6 +99,8 @@ pub fn commits<C: Checkpoint>(
     requires long { length text.old ≡ kernel_words kernel.old.n }
     requires number { C.number store.old ≡ kernel.old.commit }
     requires more { kernel.old.commit + count < 2 ^ 32 }
+    ensures same { IsSame C.Checkpoint store.old store.new }
+    ensures lent { C.lent store.new dev.new }
 {
     for _ in 0..count {
         commit(store, dev, kernel, text, lines)?;
@@ -190,6 +193,52 @@ pub fn commit_often<C: Checkpoint + Drop>(
     let mut store = made::<C>(alloc, dev, &kernel, pages)?;
     match commits(&mut store, dev, &mut kernel, &mut text, lines, count) {
         Ok(()) => Some(kernel.commit()),
+        Err(_fault) => None,
+    }
+}
+
+/// Recovers so often.
+fn recoveries<C: Checkpoint>(
+    store: &mut C,
+    dev: &mut C::Device,
+    saved: &mut Saved,
+    count: u32,
+) -> Result<(), CheckFault>
+    requires lent { C.lent store.old dev.old }
+    requires fit { IsFit (C.form store.old) saved.old }
+{
+    for _ in 0..count {
+        store.recover(dev, 0, saved)?;
+    }
+    Ok(())
+}
+
+/// The number of the state that the last of so many recoveries found, after a commit with so many lines stored to.
+pub fn recover_often<C: Checkpoint + Drop>(
+    alloc: Global,
+    dev: &mut C::Device,
+    pages: u32,
+    lines: u32,
+    count: u32,
+) -> Option<u32>
+    requires pages { pages ≤ 256 }
+    requires lines { lines ≤ 64 * pages }
+{
+    let Ok((mut kernel, mut text)) = first(alloc) else {
+        return None;
+    };
+    let mut store = made::<C>(alloc, dev, &kernel, pages)?;
+    if commits(&mut store, dev, &mut kernel, &mut text, lines, 1).is_err() {
+        return None;
+    }
+    let Ok(again) = Kernel::new(alloc, 1, 0) else {
+        return None;
+    };
+    let Ok(mut saved) = Saved::new(alloc, again) else {
+        return None;
+    };
+    match recoveries(&mut store, dev, &mut saved, count) {
+        Ok(()) => Some(saved.kernel.commit()),
         Err(_fault) => None,
     }
 }

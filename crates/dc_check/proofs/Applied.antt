@@ -59,7 +59,8 @@ one_shown p k AtReceive = omega arith
 one_shown p k (AtVisible body) = omega arith
 one_shown p k (AtSend to message) = omega arith
 
-one_event : (e : Event) → shows e ≤ 1
+-- an event is one visible event at most
+pub one_event : (e : Event) → shows e ≤ 1
 one_event AtEnd = omega arith
 one_event AtInternal = omega arith
 one_event AtClock = omega arith

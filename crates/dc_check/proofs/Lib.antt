@@ -1,5 +1,8 @@
-mod Applied
+pub mod Applied
 mod Drawing
 mod Fields
+mod Found
+mod Meaning
 mod Numbering
+pub mod Passing
 mod Thinned

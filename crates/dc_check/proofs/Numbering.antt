@@ -11,7 +11,7 @@ use Rattle.dc_words.specs.Hex.{hex_digit, hex_of, value_of}
 use Rattle.dc_words.specs.Texts.{fields_of, has_no}
 use Rattle.dc_words.specs.Words.{AllBelow, word_bytes}
 use Rattle.dc_words.proofs.Bytes.{hex_length}
-use Rattle.dc_words.proofs.Joining.{fields_last, fields_then}
+use Rattle.dc_words.proofs.Joining.{fields_last, fields_then, none_in_both}
 use Rattle.dc_words.proofs.Reading.{decimal_below, decimal_has_no}
 use Rattle.dc_check.specs.Records.{CanShow, is_body, is_hex, is_hex_text, is_hex_word, numbers_by, numbers_in}
 
@@ -19,8 +19,8 @@ use Rattle.dc_check.specs.Records.{CanShow, is_body, is_hex, is_hex_text, is_hex
 digit_hex : (n : ℕ) → n < 16 → is_some (value_of (hex_digit n)) ≡ true
 digit_hex n small = grind (arith, nat_tests)
 
-digit_shown : (n : ℕ) → n < 16 → (hex_digit n == 32) ≡ false
-digit_shown n small = grind (arith, nat_tests)
+digit_is_not : (stop n : ℕ) → stop < 48 → n < 16 → (hex_digit n == stop) ≡ false
+digit_is_not stop n low small = grind (arith, nat_tests)
 
 -- bytes that were written
 written_hex : (bytes : List ℕ) → AllBelow (2 ^ 8) bytes → is_hex (hex_of bytes) ≡ true
@@ -28,10 +28,10 @@ written_hex [] small = refl
 written_hex (b ∷ bytes) small = let below : b < 256 = small.0 in
     rw (digit_hex (b / 16) (omega (arith, below)), digit_hex (b % 16) (omega arith), written_hex bytes small.1) refl
 
-written_free : (bytes : List ℕ) → AllBelow (2 ^ 8) bytes → has_no 32 (hex_of bytes) ≡ true
-written_free [] small = refl
-written_free (b ∷ bytes) small = let below : b < 256 = small.0 in
-    rw (digit_shown (b / 16) (omega (arith, below)), digit_shown (b % 16) (omega arith), written_free bytes small.1) refl
+written_free : (stop : ℕ) (bytes : List ℕ) → stop < 48 → AllBelow (2 ^ 8) bytes → has_no stop (hex_of bytes) ≡ true
+written_free stop [] low small = refl
+written_free stop (b ∷ bytes) low small = let below : b < 256 = small.0 in
+    rw (digit_is_not stop (b / 16) low (omega (arith, below)), digit_is_not stop (b % 16) low (omega arith), written_free stop bytes low small.1) refl
 
 -- as many digits as an output has
 fitting : (l n : ℕ) → l ≡ 2 * n → 0 < n → n ≤ 256 → (l % 2 == 0 && (not (l == 0) && nat_le l 512)) ≡ true
@@ -45,9 +45,12 @@ digits_are : (text : List ℕ) → is_hex text ≡ true → (length text % 2 == 
 digits_are text hex fits = or_true (bytes_eq text (codes "-")) (is_hex text && (length text % 2 == 0 && (not (length text == 0) && nat_le (length text) 512))) (rw (hex, fits) refl)
 
 -- the text of an output
-out_free : (text : List ℕ) → AllBelow (2 ^ 8) text → has_no 32 (hex_text text) ≡ true
-out_free [] small = refl
-out_free (b ∷ text) small = written_free (b ∷ text) small
+dash_free : (stop : ℕ) → stop < 45 → has_no stop (codes "-") ≡ true
+dash_free stop low = grind (arith, nat_tests)
+
+out_free : (stop : ℕ) (text : List ℕ) → stop < 45 → AllBelow (2 ^ 8) text → has_no stop (hex_text text) ≡ true
+out_free stop [] low small = dash_free stop low
+out_free stop (b ∷ text) low small = written_free stop (b ∷ text) (omega (arith, low)) small
 
 out_is : (text : List ℕ) → length text ≤ 256 → AllBelow (2 ^ 8) text → is_hex_text (hex_text text) ≡ true
 out_is [] few small = refl
@@ -82,18 +85,22 @@ name_of (End code) = codes "end"
 name_of (Trap cause pc) = codes "trap"
 
 shown_is : (body : Body) → CanShow body → is_body (name_of body) (fields_of 32 (shown_text body)) ≡ true
-shown_is (Out text) can = ap (is_body (codes "out")) (fields_last 32 (hex_text text) (out_free text can.1)) ∙ rw (out_is text can.0 can.1) refl
+shown_is (Out text) can = ap (is_body (codes "out")) (fields_last 32 (hex_text text) (out_free 32 text (omega arith) can.1)) ∙ rw (out_is text can.0 can.1) refl
 shown_is (End code) can = ap (is_body (codes "end")) (fields_last 32 (decimal code) (decimal_has_no 32 code (omega arith) (omega (arith, can)))) ∙ rw (decimal_below (2 ^ 32) code can (omega (arith, can))) refl
 shown_is (Trap cause pc) can = ap (is_body (codes "trap"))
     (fields_then 32 (decimal cause) (hex_word pc) (decimal_has_no 32 cause (omega arith) (omega (arith, can.0)))
-    ∙ ap (λ xs. decimal cause ∷ xs) (fields_last 32 (hex_word pc) (written_free (reverse (word_bytes pc)) (word_below pc))))
+    ∙ ap (λ xs. decimal cause ∷ xs) (fields_last 32 (hex_word pc) (written_free 32 (reverse (word_bytes pc)) (omega arith) (word_below pc))))
     ∙ rw (decimal_below (2 ^ 32) cause can.0 (omega (arith, can.0)), word_is pc) refl
 
 -- a line as it is written, and by its fields
 grouped : (p k shown : List ℕ) → (((p ++ 32 ∷ []) ++ k) ++ 32 ∷ []) ++ shown ≡ p ++ 32 ∷ (k ++ 32 ∷ shown)
 grouped p k shown = ap (λ xs. (xs ++ 32 ∷ []) ++ shown) (append_assoc p (32 ∷ []) k) ∙ append_assoc (p ++ 32 ∷ k) (32 ∷ []) shown ∙ append_assoc p (32 ∷ k) (32 ∷ shown)
 
-line_is : (p k : ℕ) (body : Body) → body_line p k body ≡ (name_of body ++ 32 ∷ (decimal p ++ 32 ∷ (decimal k ++ 32 ∷ shown_text body))) ++ 10 ∷ []
+-- a line without its line feed
+abbrev pub bare : ℕ → ℕ → Body → List ℕ
+bare p k body = name_of body ++ 32 ∷ (decimal p ++ 32 ∷ (decimal k ++ 32 ∷ shown_text body))
+
+pub line_is : (p k : ℕ) (body : Body) → body_line p k body ≡ bare p k body ++ 10 ∷ []
 line_is p k (Out text) = ap (λ xs. (codes "out " ++ xs) ++ 10 ∷ []) (grouped (decimal p) (decimal k) (hex_text text))
 line_is p k (End code) = ap (λ xs. (codes "end " ++ xs) ++ 10 ∷ []) (grouped (decimal p) (decimal k) (decimal code))
 line_is p k (Trap cause pc) = ap (λ xs. xs ++ 10 ∷ [])
@@ -106,5 +113,21 @@ name_free (End code) = refl
 name_free (Trap cause pc) = refl
 
 pub record_numbers : (x : Visible) (line : List ℕ) → x.p < 2 ^ 32 → x.k < 2 ^ 32 → CanShow x.body → visible_line x ≡ line ++ 10 ∷ [] → numbers_in line ≡ Some (decimal x.p ++ 32 ∷ decimal x.k)
-record_numbers x line small few can is = ap numbers_in (append_cancel_right line (name_of x.body ++ 32 ∷ (decimal x.p ++ 32 ∷ (decimal x.k ++ 32 ∷ shown_text x.body))) (10 ∷ []) (sym is ∙ line_is x.p x.k x.body))
+record_numbers x line small few can is = ap numbers_in (append_cancel_right line (bare x.p x.k x.body) (10 ∷ []) (sym is ∙ line_is x.p x.k x.body))
     ∙ numbers (name_of x.body) x.p x.k (shown_text x.body) (name_free x.body) small few (shown_is x.body can)
+
+-- no line feed stands within a line
+shown_fed : (body : Body) → CanShow body → has_no 10 (shown_text body) ≡ true
+shown_fed (Out text) can = out_free 10 text (omega arith) can.1
+shown_fed (End code) can = decimal_has_no 10 code (omega arith) (omega (arith, can))
+shown_fed (Trap cause pc) can = none_in_both 10 (decimal cause) (32 ∷ hex_word pc) (decimal_has_no 10 cause (omega arith) (omega (arith, can.0))) (written_free 10 (reverse (word_bytes pc)) (omega arith) (word_below pc))
+
+name_fed : (body : Body) → has_no 10 (name_of body) ≡ true
+name_fed (Out text) = refl
+name_fed (End code) = refl
+name_fed (Trap cause pc) = refl
+
+pub line_fed : (p k : ℕ) (body : Body) → p < 2 ^ 32 → k < 2 ^ 32 → CanShow body → has_no 10 (bare p k body) ≡ true
+line_fed p k body small few can = none_in_both 10 (name_of body) (32 ∷ (decimal p ++ 32 ∷ (decimal k ++ 32 ∷ shown_text body))) (name_fed body)
+    (none_in_both 10 (decimal p) (32 ∷ (decimal k ++ 32 ∷ shown_text body)) (decimal_has_no 10 p (omega arith) (omega (arith, small)))
+    (none_in_both 10 (decimal k) (32 ∷ shown_text body) (decimal_has_no 10 k (omega arith) (omega (arith, few))) (shown_fed body can)))

@@ -8,7 +8,7 @@ use Rattle.dc_check.specs.Differences.{Difference, Seen, difference_from, differ
 use Rattle.dc_check.specs.Records.{numbers_in}
 
 -- a difference that is not there
-none_of : (a b : Option Difference) → or_else a b ≡ None → (a ≡ None) × (b ≡ None)
+pub none_of : (a b : Option Difference) → or_else a b ≡ None → (a ≡ None) × (b ≡ None)
 none_of None b e = (refl, e)
 none_of (Some d) b e = absurd (let never : ⊥ = cc in never)
 
@@ -18,7 +18,7 @@ none_missing number [] e = refl
 none_missing number (line ∷ wanted) e = absurd (let never : ⊥ = cc in never)
 
 -- a line is the next that is wanted
-like : (number : ℕ) (line next : List ℕ) → unlike number line (Some next) ≡ None → line ≡ next
+pub like : (number : ℕ) (line next : List ℕ) → unlike number line (Some next) ≡ None → line ≡ next
 like number line next e = ⊎_elim
     (λ yes. (bytes_eq-Decides line next).0 yes)
     (λ other. absurd (let never : unlike number line (Some next) ≡ Some (record { line = number; found = line; wanted = next }) = rw other refl in let no_way : ⊥ = cc in no_way))
@@ -29,13 +29,13 @@ is_next number line [] e = absurd (let never : ⊥ = cc in never)
 is_next number line (next ∷ wanted) e = ap (λ l. l ∷ wanted) (like number line next e)
 
 -- a line in front of others, and of the empty part behind them
-difference_on : (number : ℕ) (seen : Seen) (wanted lines : List (List ℕ)) (line : List ℕ) → difference_from number seen wanted (line ∷ (lines ++ [] ∷ []))
+pub difference_on : (number : ℕ) (seen : Seen) (wanted lines : List (List ℕ)) (line : List ℕ) → difference_from number seen wanted (line ∷ (lines ++ [] ∷ []))
     ≡ (if is_some (repeated seen line) then or_else (unlike number line (repeated seen line)) (difference_from (suc number) seen wanted (lines ++ [] ∷ []))
     else or_else (unlike number line (slice_get wanted 0)) (difference_from (suc number) (noted (numbers_in line) line seen) (drop 1 wanted) (lines ++ [] ∷ [])))
 difference_on number seen wanted [] line = refl
 difference_on number seen wanted (next ∷ lines) line = refl
 
-thinned_is : (number : ℕ) (seen : Seen) (wanted lines : List (List ℕ)) → difference_from number seen wanted (lines ++ [] ∷ []) ≡ None → thinned seen lines ≡ wanted
+pub thinned_is : (number : ℕ) (seen : Seen) (wanted lines : List (List ℕ)) → difference_from number seen wanted (lines ++ [] ∷ []) ≡ None → thinned seen lines ≡ wanted
 thinned_is number seen wanted [] e = sym (none_missing number wanted e)
 thinned_is number seen wanted (line ∷ lines) e = ⊎_elim
     (λ came. let parts = none_of (unlike number line (repeated seen line)) (difference_from (suc number) seen wanted (lines ++ [] ∷ [])) (sym (difference_on number seen wanted lines line ∙ rw came refl) ∙ e) in
@@ -54,7 +54,7 @@ parts_more c text [] is e rest = let one : text ≡ 10 ∷ [] = behind_front c c
     absurd (let lines : lines_of (10 ∷ []) ≡ [] = ap lines_of (sym one) ∙ is in let never : ⊥ = cc in never)
 parts_more c text (line ∷ lines) is e rest = ap (in_front c) (rest (behind_front c c text (ended (line ∷ lines)) e))
 
-all_ended : (text : List ℕ) → text ≡ ended (lines_of text) → fields_of 10 text ≡ lines_of text ++ [] ∷ []
+pub all_ended : (text : List ℕ) → text ≡ ended (lines_of text) → fields_of 10 text ≡ lines_of text ++ [] ∷ []
 all_ended [] e = refl
 all_ended (c ∷ text) e = ⊎_elim
     (λ feed. rw feed (ap (λ xs. [] ∷ xs) (all_ended text (behind_front c 10 text (ended (lines_of text)) (rw feed at e)))))

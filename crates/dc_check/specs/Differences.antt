@@ -1,5 +1,5 @@
 -- How an output differs from the lines that a run shows, where a line may be a repeat of an earlier one.
-use Rattle.std.specs.Prelude.{ℕ, suc, List, [], ◌∷◌, Option, Some, None, bytes_eq, drop, if◌then◌else◌, is_some, option_and_then, slice_get}
+use Rattle.std.specs.Prelude.{◌≡◌, ℕ, suc, List, IfSome, [], ◌∷◌, Option, Some, None, bytes_eq, drop, if◌then◌else◌, is_some, option_and_then, slice_get}
 use Rattle.dc_words.specs.Texts.{fields_of, lines_of}
 use Rattle.dc_check.specs.Records.{numbers_in}
 
@@ -59,3 +59,17 @@ difference_of text out = difference_from 1 (λ numbers. None) (lines_of text) (f
 abbrev pub thinned : Seen → List (List ℕ) → List (List ℕ)
 thinned seen [] = []
 thinned seen (line ∷ lines) = if is_some (repeated seen line) then thinned seen lines else line ∷ thinned (noted (numbers_in line) line seen) lines
+
+-- lines of which each whose process and number came before is the first with them
+abbrev pub RepeatsSame : Seen → List (List ℕ) → Type 0
+RepeatsSame seen [] = Unit {0}
+RepeatsSame seen (line ∷ lines) = IfSome (repeated seen line) (λ first. line ≡ first) × RepeatsSame (if is_some (repeated seen line) then seen else noted (numbers_in line) line seen) lines
+
+-- lines of which two that have one process and number are the same
+abbrev pub SameByNumbers : List (List ℕ) → Type 0
+SameByNumbers lines = (i j : ℕ) (a b numbers : List ℕ) → slice_get lines i ≡ Some a → slice_get lines j ≡ Some b → numbers_in a ≡ Some numbers → numbers_in b ≡ Some numbers → a ≡ b
+
+-- lines that are those of a run, but for repeats: each whose process and number did not come before is the next of the run's, and each other is the same as the first
+pub record AreLinesOf (lines wanted : List (List ℕ)) : Type 0 where
+  pub thinned_are : thinned (λ numbers. None) lines ≡ wanted
+  pub same : SameByNumbers lines

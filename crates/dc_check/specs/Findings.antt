@@ -1,11 +1,13 @@
 -- What comes of checking an output against the acts of a report.
-use Rattle.std.specs.Prelude.{ℕ, List, Option, Some, None, Result, Ok, Err, length}
+use Rattle.std.specs.Prelude.{◌≡◌, ℕ, List, Option, Some, None, Result, Ok, Err, length}
 use Rattle.dc_acts.specs.Lines.{text_of}
+use Rattle.dc_model.specs.Drawn.{Drawn}
 use Rattle.dc_model.specs.Guests.{Guests}
-use Rattle.dc_model.specs.World.{World}
+use Rattle.dc_model.specs.World.{World, run}
 use Rattle.dc_model.specs.declared.act.Taken.{Taken}
 use Rattle.dc_model.specs.declared.entry.Entry.{Entry}
-use Rattle.dc_check.specs.Differences.{Difference, difference_of}
+use Rattle.dc_words.specs.Texts.{lines_of}
+use Rattle.dc_check.specs.Differences.{AreLinesOf, Difference, difference_of}
 use Rattle.dc_check.specs.Played.{played}
 use Rattle.dc_check.specs.declared.finding.Finding.{Finding as found'}
 use Rattle.dc_check.specs.declared.finding.Finding.TheVariants as found
@@ -40,3 +42,11 @@ abbrev pub seen_finding : found' → Finding
 seen_finding (found.Passes visibles) = Passes visibles
 seen_finding (found.NotARun place) = NotARun place
 seen_finding (found.Differs difference) = Differs (seen_difference difference)
+
+-- an output whose lines all end passes: the acts were drawn and lead to a world, and its lines are those of that world's records, but for repeats of the first
+pub record IsPassing {Mc : Type 0} (G : Guests Mc) (schedule : List Entry) (acts : List Taken) (out : List ℕ) (visibles : ℕ) : Type 0 where
+  pub world : World Mc
+  pub drawn : Drawn G.count schedule acts
+  pub ran : run G acts ≡ Some world
+  pub lines : AreLinesOf (lines_of out) (lines_of (text_of world.visibles))
+  pub count : visibles ≡ length world.visibles

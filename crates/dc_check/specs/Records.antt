@@ -3,6 +3,7 @@ use Rattle.std.specs.Prelude.{ℕ, ◌==◌, ◌≤◌, ◌<◌, ◌%◌, ◌^�
 use Rattle.std.specs.List.{list_all}
 use Rattle.dc_model.specs.declared.visible.Body.{Body}
 use Rattle.dc_model.specs.declared.visible.Body.TheVariants.{Out, End, Trap}
+use Rattle.dc_model.specs.declared.visible.Visible.{Visible}
 use Rattle.dc_words.specs.Hex.{value_of}
 use Rattle.dc_words.specs.Numbers.{is_below}
 use Rattle.dc_words.specs.Texts.{fields_of}
@@ -44,3 +45,9 @@ abbrev pub CanShow : Body → Type 0
 CanShow (Out text) = (length text ≤ 256) × AllBelow (2 ^ 8) text
 CanShow (End code) = code < 2 ^ 32
 CanShow (Trap cause pc) = (cause < 2 ^ 32) × (pc < 2 ^ 32)
+
+-- a record whose line is known for a record's
+pub record IsWritten (x : Visible) : Type 0 where
+  pub process : x.p < 2 ^ 32
+  pub number : x.k < 2 ^ 32
+  pub shown : CanShow x.body

@@ -13,5 +13,6 @@ mod seen;
 pub use checking::check;
 pub use finding::{Difference, Finding};
 pub use laws::{
-    passing_acts_are_a_drawn_run, passing_outputs_thin_to_the_run, records_have_their_numbers,
+    findings_mean, passing_acts_are_a_drawn_run, passing_outputs_are_the_run,
+    passing_outputs_thin_to_the_run, records_have_their_numbers, shown_lines_pass,
 };

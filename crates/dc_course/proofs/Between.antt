@@ -1,12 +1,17 @@
 -- What is told at the beginning and at the end of a part of a run is told between.
-use Rattle.std.proofs.Common.{◌≡◌, ◌≤◌, ◌<◌, ◌-◌, ◌^◌, ◌∙◌, ℕ, List, Some, ap, arith, length, slice_get, subst, sym}
+use Rattle.std.proofs.Common.{◌≡◌, ◌≤◌, ◌<◌, ◌+◌, ◌-◌, ◌^◌, ◌∙◌, ℕ, List, Some, ap, arith, length, slice_get, subst, sym}
 use Rattle.dc_checkpoint.specs.declared.checkpoint.Checkpoint as checkpoint
 use Rattle.dc_model.specs.declared.entry.Entry.{Entry}
 use Rattle.dc_model.specs.declared.mark.Mark.{Mark}
+use Rattle.dc_recovery.proofs.Follows.{get_drop}
 use Rattle.dc_world.specs.Stages.{IsTold, KeepsTelling, Stage}
 use Rattle.dc_world.specs.declared.faults.TurnFault.{TurnFault}
 use Rattle.dc_course.specs.Headline.{Setting, IsCountedOn}
-use Rattle.dc_course.specs.Running.{Moment, RunsOff, RunsOn, StepsOff, StepsOn}
+use Rattle.dc_course.specs.Running.{IsRest, Moment, RunsOff, RunsOn, StepsOff, StepsOn}
+
+-- an entry of the rest of a schedule, by its turn
+pub entry_at : (setting : Setting) (entries : List Entry) (i : ℕ) (entry : Entry) → IsRest setting entries → slice_get entries i ≡ Some entry → slice_get setting.schedule (setting.from + i) ≡ Some entry
+entry_at setting entries i entry is at = sym (get_drop setting.schedule setting.from i) ∙ ap (λ es. slice_get es i) is ∙ at
 
 -- counts of a device never fall
 abbrev pub Later : {C D : Type 0} → checkpoint.Ghosts C D → D → D → Type 0
@@ -35,19 +40,19 @@ module _ {C D : Type 0} (g : checkpoint.Ghosts C D) where
         below : (p : ℕ) → p < length mid.slots → (g.stops mid.dev p < 2 ^ 64 - 1) × (g.faults mid.dev p < 2 ^ 64 - 1)
         below p less = let there = subst (λ n. p < n) (sym same) less in let l = later p in let s = still.stops p there in let f = still.faults p there in (omega (arith, l.0, s), omega (arith, l.1, f))
 
-  module _ (schedule : List Entry) (entry : Entry) (start mid new : Moment C D) (at : slice_get schedule (length mid.marks) ≡ Some entry) (long : length mid.stage.slots ≡ length start.stage.slots) (same : length new.stage.slots ≡ length mid.stage.slots)
-      (tells : (p : ℕ) → KeepsTelling g start.stage.dev mid.stage.dev p) (later : Later g mid.stage.dev new.stage.dev) (runs : RunsOn g schedule start mid) where
+  module _ (entries : List Entry) (entry : Entry) (start mid new : Moment C D) (at : slice_get entries (length mid.marks) ≡ Some entry) (long : length mid.stage.slots ≡ length start.stage.slots) (same : length new.stage.slots ≡ length mid.stage.slots)
+      (tells : (p : ℕ) → KeepsTelling g start.stage.dev mid.stage.dev p) (later : Later g mid.stage.dev new.stage.dev) (runs : RunsOn g entries start mid) where
     -- an entry more
-    pub runs_more : StepsOn g entry mid new → RunsOn g schedule start new
-    runs_more steps setting up first alike is told still begun =
+    pub runs_more : StepsOn g entry mid new → RunsOn g entries start new
+    runs_more steps setting begun first ok is told still running =
         let between = told_between start.stage mid.stage new.stage long same tells later told still in
-        steps setting up first alike (ap (λ s. slice_get s (length mid.marks)) is ∙ at) between still (runs setting up first alike is told between begun)
+        steps setting begun first ok (entry_at setting entries (length mid.marks) entry is at) between still (runs setting begun first ok is told between running)
 
     -- or the last
-    pub runs_off : (fault : TurnFault) → StepsOff g entry fault mid new → RunsOff g schedule fault start new
-    runs_off fault steps setting up first alike is told still begun =
+    pub runs_off : (fault : TurnFault) → StepsOff g entry fault mid new → RunsOff g entries fault start new
+    runs_off fault steps setting begun first ok is told still running =
         let between = told_between start.stage mid.stage new.stage long same tells later told still in
-        steps setting up first alike (ap (λ s. slice_get s (length mid.marks)) is ∙ at) between still (runs setting up first alike is told between begun)
+        steps setting begun first ok (entry_at setting entries (length mid.marks) entry is at) between still (runs setting begun first ok is told between running)
 
 -- the stops of two parts
 pub counted_twice : (setting : Setting) (p : ℕ) (first mid last : List Mark) (a b c : ℕ → ℕ) → IsCountedOn setting p first mid a b → IsCountedOn setting p mid last b c → IsCountedOn setting p first last a c

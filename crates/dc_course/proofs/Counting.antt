@@ -7,12 +7,12 @@ use Rattle.dc_media.specs.declared.planned.PlannedStop.{PlannedStop}
 use Rattle.dc_model.specs.declared.entry.Entry.{Entry}
 use Rattle.dc_model.specs.declared.mark.Mark.{Mark}
 use Rattle.dc_model.specs.declared.mark.Mark.TheVariants as mark
-use Rattle.dc_protocols.specs.Rules.{is_global}
+use Rattle.dc_protocols.specs.Rules.{is_joint}
 use Rattle.dc_protocols.specs.declared.protocol.Protocol.{Protocol}
 use Rattle.dc_recovery.specs.Parts.{is_with}
 use Rattle.dc_world.specs.Worlds.{TakesPart}
 use Rattle.dc_course.proofs.Partaking.{part_with, with_alone}
-use Rattle.dc_course.specs.Headline.{IsCalledOn, IsUnstopped, Setting, StopsCome, StopsTold, counted_with, is_planned, is_planned_with, is_stopped, is_unplanned, late, takes_part, unplanned}
+use Rattle.dc_course.specs.Headline.{IsCalledOn, IsUnstopped, Setting, StopsCome, StopsTold, counted_with, is_planned, is_planned_with, is_stopped, is_unplanned, late, takes_part, turn_after, unplanned}
 
 -- counts of a process before and after, none of which fell
 module _ (protocol : Protocol) (p : ℕ) (before after : ℕ → ℕ) (later : (q : ℕ) → before q ≤ after q) where
@@ -55,7 +55,7 @@ module _ (protocol : Protocol) (stops : List PlannedStop) (turn p : ℕ) where
       (cases_Bool (is_planned stops turn q))
 
 -- where each process commits by itself, the counts are its own: nothing is said of others
-module _ (protocol : Protocol) (alone : is_global protocol ≡ false) (p : ℕ) where
+module _ (protocol : Protocol) (alone : is_joint protocol ≡ false) (p : ℕ) where
   counted_none : (count : ℕ → ℕ) (n : ℕ) → n ≤ p → counted_with protocol p count n ≡ 0
   counted_none count zero below = refl
   counted_none count (suc n) below =
@@ -81,7 +81,7 @@ module _ (protocol : Protocol) (alone : is_global protocol ≡ false) (p : ℕ) 
       or_same false = refl
 
 -- so what is told of stops there is told of each process
-pub told_alone : (setting : Setting) (alone : is_global setting.protocol ≡ false) (up : ℕ → Bool) (marks : List Mark) (before after : ℕ → ℕ) → StopsTold setting up marks before after
+pub told_alone : (setting : Setting) (alone : is_joint setting.protocol ≡ false) (up : ℕ → Bool) (marks : List Mark) (before after : ℕ → ℕ) → StopsTold setting up marks before after
     → (p : ℕ) → p < length setting.images → before p + late (up p) + unplanned setting p (reverse marks) ≤ after p
 told_alone setting alone up marks before after told p less =
     let first = counted_alone setting.protocol alone p before (length setting.images) less in let last = counted_alone setting.protocol alone p after (length setting.images) less in
@@ -93,22 +93,22 @@ module _ (setting : Setting) (marks : List Mark) (m : Mark) (p : ℕ) where
   abbrev one : Bool → ℕ
   one b = if b then 1 else 0
 
-  more : unplanned setting p (reverse (marks ++ m ∷ [])) ≡ one (is_unplanned setting p (length marks) m) + unplanned setting p (reverse marks)
-  more = ap (unplanned setting p) (reverse-append marks (m ∷ [])) ∙ ap (λ n. one (is_unplanned setting p n m) + unplanned setting p (reverse marks)) (length-reverse marks)
+  more : unplanned setting p (reverse (marks ++ m ∷ [])) ≡ one (is_unplanned setting p (turn_after setting marks) m) + unplanned setting p (reverse marks)
+  more = ap (unplanned setting p) (reverse-append marks (m ∷ [])) ∙ ap (λ n. one (is_unplanned setting p (setting.from + n) m) + unplanned setting p (reverse marks)) (length-reverse marks)
 
   -- so the counts go on
-  pub counted_on : (before after : ℕ) → before ≤ after → (is_unplanned setting p (length marks) m ≡ true → before < after)
+  pub counted_on : (before after : ℕ) → before ≤ after → (is_unplanned setting p (turn_after setting marks) m ≡ true → before < after)
       → before + unplanned setting p (reverse (marks ++ m ∷ [])) ≤ after + unplanned setting p (reverse marks)
-  counted_on before after later rises = by (is_unplanned setting p (length marks) m) refl
+  counted_on before after later rises = by (is_unplanned setting p (turn_after setting marks) m) refl
     where
-      by : (b : Bool) → is_unplanned setting p (length marks) m ≡ b → before + unplanned setting p (reverse (marks ++ m ∷ [])) ≤ after + unplanned setting p (reverse marks)
+      by : (b : Bool) → is_unplanned setting p (turn_after setting marks) m ≡ b → before + unplanned setting p (reverse (marks ++ m ∷ [])) ≤ after + unplanned setting p (reverse marks)
       by true is = let rise = rises is in let e = more ∙ ap (λ b. one b + unplanned setting p (reverse marks)) is in omega (arith, rise, e)
       by false is = let e = more ∙ ap (λ b. one b + unplanned setting p (reverse marks)) is in omega (arith, later, e)
 
 -- the calls of one entry more
-pub called_on : (setting : Setting) (marks : List Mark) (m : Mark) (p from after : ℕ) → from ≤ after → IsUnstopped setting p (length marks) m from after → IsCalledOn setting p marks (marks ++ m ∷ []) from after
+pub called_on : (setting : Setting) (marks : List Mark) (m : Mark) (p from after : ℕ) → from ≤ after → IsUnstopped setting p (turn_after setting marks) m from after → IsCalledOn setting p marks (marks ++ m ∷ []) from after
 called_on setting marks m p from after later unstopped before come = subst (λ ms. StopsCome setting p ms before after) (sym (reverse-append marks (m ∷ [])))
-    (from, come, later, subst (λ n. IsUnstopped setting p n m from after) (sym (length-reverse marks)) unstopped)
+    (from, come, later, subst (λ n. IsUnstopped setting p (setting.from + n) m from after) (sym (length-reverse marks)) unstopped)
 
 -- what is said of a stop that is planned for a turn, of that turn by another name
 pub at_turn : (stops : List PlannedStop) (p : ℕ) (P : PlannedStop → Type 0) (t n : ℕ) → IfSome (first_stop stops t p) P → t ≡ n → IfSome (first_stop stops n p) P

@@ -1,31 +1,31 @@
 -- Which processes take part in an entry, and which stop together.
-use Rattle.std.proofs.Common.{◌≡◌, ◌≤◌, ◌<◌, ◌||◌, ◌==◌, ◌∙◌, ℕ, true, false, Some, ap, arith, length, subst, sym, ⊎_elim}
+use Rattle.std.proofs.Common.{◌≡◌, ◌≤◌, ◌<◌, ◌+◌, ◌||◌, ◌==◌, ◌∙◌, ℕ, true, false, Some, ap, arith, length, subst, sym, ⊎_elim}
 use Rattle.std.proofs.lemmas.Bool.{cases_Bool, eq-eqb, eqb-true, or_left, or_right, true≢false}
 use Rattle.dc_model.specs.declared.entry.Entry.{Entry}
 use Rattle.dc_model.specs.declared.entry.Entry.TheVariants.{Turn, Stop, Power}
-use Rattle.dc_protocols.specs.Rules.{is_global}
+use Rattle.dc_protocols.specs.Rules.{is_joint}
 use Rattle.dc_protocols.specs.declared.protocol.Protocol.{Protocol}
 use Rattle.dc_recovery.specs.Parts.{is_with}
 use Rattle.dc_world.specs.Worlds.{TakesPart}
-use Rattle.dc_world.specs.declared.world.World.{World}
-use Rattle.dc_course.specs.Headline.{Setting, takes_part}
+use Rattle.dc_course.specs.Headline.{Setting, takes_part, turn_after}
 use Rattle.dc_course.specs.Running.{IsSettingOf}
+use Rattle.dc_course.specs.declared.running.Running.{Running}
 
 -- those that stop together
 module _ (protocol : Protocol) where
   -- where each commits by itself it stops with none but itself
-  pub with_alone : is_global protocol ≡ false → (p q : ℕ) → is_with protocol p q ≡ (p == q)
+  pub with_alone : is_joint protocol ≡ false → (p q : ℕ) → is_with protocol p q ≡ (p == q)
   with_alone alone p q = ap (λ b. b || p == q) alone
 
-  with_same : is_global protocol ≡ false → (p q : ℕ) → is_with protocol p q ≡ true → p ≡ q
+  with_same : is_joint protocol ≡ false → (p q : ℕ) → is_with protocol p q ≡ true → p ≡ q
   with_same alone p q is = eqb-true p q (sym (with_alone alone p q) ∙ is)
 
   -- two that stop with a third stop with one another
   with_both : (r p q : ℕ) → is_with protocol r p ≡ true → is_with protocol r q ≡ true → is_with protocol p q ≡ true
   with_both r p q one two = ⊎_elim
-      (λ (together : is_global protocol ≡ true). or_left (is_global protocol) (p == q) together)
-      (λ (alone : is_global protocol ≡ false). or_right (is_global protocol) (p == q) (eq-eqb p q (sym (with_same alone r p one) ∙ with_same alone r q two)))
-      (cases_Bool (is_global protocol))
+      (λ (together : is_joint protocol ≡ true). or_left (is_joint protocol) (p == q) together)
+      (λ (alone : is_joint protocol ≡ false). or_right (is_joint protocol) (p == q) (eq-eqb p q (sym (with_same alone r p one) ∙ with_same alone r q two)))
+      (cases_Bool (is_joint protocol))
 
 -- who takes part in an entry, by the test
 pub part_is : (protocol : Protocol) (n p : ℕ) (entry : Entry) → p < n → takes_part protocol p (Some entry) ≡ true → TakesPart protocol n p entry
@@ -45,17 +45,21 @@ part_with protocol n p q (Turn turn) is part = (with_both protocol turn.p p q is
 part_with protocol n p q (Stop r) is part = absurd part
 part_with protocol n p q Power is part = absurd part
 
--- a setting of a world is one of a later one
-pub setting_kept : {C : Type 0} (w w1 : World C) (setting : Setting) → IsSettingOf w setting → w1.processes.protocol ≡ w.processes.protocol → length w1.processes.slots.items ≡ length w.processes.slots.items → IsSettingOf w1 setting
-setting_kept w w1 setting of protocol long = record { protocol_is = of.protocol_is ∙ sym protocol; images_long = of.images_long ∙ sym long }
+-- a setting of a run is one of it later on
+pub setting_kept : {C : Type 0} (r r1 : Running C) (setting : Setting) → IsSettingOf r setting → r1.world.processes.protocol ≡ r.world.processes.protocol → length r1.world.processes.slots.items ≡ length r.world.processes.slots.items → r1.from ≡ r.from → IsSettingOf r1 setting
+setting_kept r r1 setting of protocol long begins = record { protocol_is = of.protocol_is ∙ sym protocol; images_long = of.images_long ∙ sym long; from_is = of.from_is ∙ sym begins }
 
--- who takes part in an entry of a world does in it by its setting
-pub part_set : {C : Type 0} (w : World C) (setting : Setting) (q : ℕ) (entry : Entry) → IsSettingOf w setting → TakesPart w.processes.protocol (length w.processes.slots.items) q entry → TakesPart setting.protocol (length setting.images) q entry
-part_set w setting q entry of part = subst (λ pr. TakesPart pr (length setting.images) q entry) (sym of.protocol_is) (subst (λ n. TakesPart w.processes.protocol n q entry) (sym of.images_long) part)
+-- the turn that comes next in a run does so in its setting
+pub next_is : {C : Type 0} (r : Running C) (setting : Setting) (turn : ℕ) → IsSettingOf r setting → turn ≡ r.from + length r.marks.items → turn_after setting r.marks.items ≡ turn
+next_is r setting turn of is = ap (λ n. n + length r.marks.items) of.from_is ∙ sym is
+
+-- who takes part in an entry of a run's world does in it by its setting
+pub part_set : {C : Type 0} (r : Running C) (setting : Setting) (q : ℕ) (entry : Entry) → IsSettingOf r setting → TakesPart r.world.processes.protocol (length r.world.processes.slots.items) q entry → TakesPart setting.protocol (length setting.images) q entry
+part_set r setting q entry of part = subst (λ pr. TakesPart pr (length setting.images) q entry) (sym of.protocol_is) (subst (λ n. TakesPart r.world.processes.protocol n q entry) (sym of.images_long) part)
 
 -- the other way
-pub part_back : {C : Type 0} (w : World C) (setting : Setting) (q : ℕ) (entry : Entry) → IsSettingOf w setting → TakesPart setting.protocol (length setting.images) q entry → TakesPart w.processes.protocol (length w.processes.slots.items) q entry
-part_back w setting q entry of part = subst (λ pr. TakesPart pr (length w.processes.slots.items) q entry) of.protocol_is (subst (λ n. TakesPart setting.protocol n q entry) of.images_long part)
+pub part_back : {C : Type 0} (r : Running C) (setting : Setting) (q : ℕ) (entry : Entry) → IsSettingOf r setting → TakesPart setting.protocol (length setting.images) q entry → TakesPart r.world.processes.protocol (length r.world.processes.slots.items) q entry
+part_back r setting q entry of part = subst (λ pr. TakesPart pr (length r.world.processes.slots.items) q entry) of.protocol_is (subst (λ n. TakesPart setting.protocol n q entry) of.images_long part)
 
 -- one that is not there takes no part in an entry
 pub part_below : (protocol : Protocol) (entry : Entry) (n q : ℕ) → n ≤ q → TakesPart protocol n q entry → ⊥

@@ -3,7 +3,7 @@ use Rattle.std.proofs.Common.{◌≡◌, ◌∙◌, ◌<◌, ℕ, Bool, true, fa
 use Rattle.dc_checkpoint.specs.States.{Reading, unlogged}
 use Rattle.dc_checkpoint.specs.declared.checkpoint.Checkpoint as checkpoint
 use Rattle.dc_media.specs.declared.keeps.Keeps as keeps
-use Rattle.dc_protocols.specs.Rules.{is_global}
+use Rattle.dc_protocols.specs.Rules.{is_joint}
 use Rattle.dc_recovery.specs.Core.{Core}
 use Rattle.dc_vista.specs.Parts.{parts, segment_words}
 use Rattle.dc_vista.specs.Standing.{Numbers, Shape, StandsFor}
@@ -96,8 +96,8 @@ module _ {S C D : Type 0} (words : keeps.Ghosts S) (g : checkpoint.Ghosts C D) (
       form_is = λ p less. let c = store p less in form_at p c.0 c.1;
       long = λ p less. let c = store p less in long_at p c.0 c.1;
       stand = record {
-        one = λ p inside d decided r l. left.stand.one p inside d (decided_at (is_global setting.protocol) d decided) r (reading_at p d r l);
-        all = λ global d decided r l. left.stand.all global d (decided_at (is_global setting.protocol) d decided) r (λ p inside. reading_at p d (r p) (l p inside));
+        one = λ p inside d decided r l. left.stand.one p inside d (decided_at (is_joint setting.protocol) d decided) r (reading_at p d r l);
+        all = λ global d decided r l. left.stand.all global d (decided_at (is_joint setting.protocol) d decided) r (λ p inside. reading_at p d (r p) (l p inside));
       };
     }
 

@@ -8,7 +8,7 @@ use Rattle.dc_model.specs.Runs.{own}
 use Rattle.dc_proc.proofs.Numbers.{numbered_less}
 use Rattle.dc_proc.specs.Processes.{IsAt}
 use Rattle.dc_proc.specs.Worlds.{IsUp}
-use Rattle.dc_protocols.specs.Rules.{is_global}
+use Rattle.dc_protocols.specs.Rules.{is_joint}
 use Rattle.dc_recovery.specs.Core.{Core}
 use Rattle.dc_recovery.specs.Systems.{System}
 use Rattle.dc_twophase.proofs.Laws.{Laws, QuietLaws}
@@ -63,6 +63,7 @@ module _ {C D : Type 0} (g : checkpoint.Ghosts C D) (laws : Laws g) (quiet : Qui
     world_still S c world = record {
       count_is = world.count_is;
       protocol_is = world.protocol_is;
+      seven = world.seven;
       inputs_are = world.inputs_are;
       stands = record {
         each = λ p inside on. let was : IsUp S c p (seen_of g (over old x) p) = world.stands.each p inside on in record {
@@ -70,8 +71,8 @@ module _ {C D : Type 0} (g : checkpoint.Ghosts C D) (laws : Laws g) (quiet : Qui
           known = was.known;
         };
         stores = record {
-          one = λ p inside d decided r l. world.stands.stores.one p inside d (decided_still (is_global S.protocol) d decided) r (leaves_still (store_of x p) d r l);
-          all = λ global d decided r l. world.stands.stores.all global d (decided_still (is_global S.protocol) d decided) r (λ p inside. leaves_still (store_of x p) d (r p) (l p inside));
+          one = λ p inside d decided r l. world.stands.stores.one p inside d (decided_still (is_joint S.protocol) d decided) r (leaves_still (store_of x p) d r l);
+          all = λ global d decided r l. world.stands.stores.all global d (decided_still (is_joint S.protocol) d decided) r (λ p inside. leaves_still (store_of x p) d (r p) (l p inside));
         };
       };
       up_are = world.up_are;
@@ -92,11 +93,13 @@ module _ {C D : Type 0} (g : checkpoint.Ghosts C D) (laws : Laws g) (quiet : Qui
     }
 
     -- and it is how far the run has come
-    pub running_still : (setting : Setting) (up : ℕ → Bool) (marks : List Mark) (out : Output) → IsRunning g setting up (over old x) marks out → IsRunning g setting up (over new x) marks out
-    running_still setting up marks out r = record {
+    pub running_still : (setting : Setting) (begun : Core) (marks : List Mark) (out : Output) → IsRunning g setting begun (over old x) marks out → IsRunning g setting begun (over new x) marks out
+    running_still setting begun marks out r = record {
       core = r.core;
+      added = r.added;
       of = record { protocol_is = r.of.protocol_is; inputs_are = r.of.inputs_are };
       led = r.led;
+      lines_are = r.lines_are;
       world = world_still (system_in setting) r.core r.world;
       entries_are = r.entries_are;
       shows = r.shows;

@@ -1,7 +1,7 @@
 -- Which processes are up when a run begins; past the last one, as is said of the theory's.
 use Rattle.std.proofs.Common.{◌≡◌, ◌∙◌, ◌≤◌, ◌<◌, ◌||◌, ℕ, Bool, true, not, List, Option, ap, if◌then◌else◌, length, nat_le, subst, sym, ⊎_elim}
 use Rattle.std.proofs.lemmas.Bool.{cases_lt, le-leb, lt-leb, or_right}
-use Rattle.dc_protocols.specs.Rules.{is_global}
+use Rattle.dc_protocols.specs.Rules.{is_joint}
 use Rattle.dc_protocols.specs.declared.protocol.Protocol.{Protocol}
 use Rattle.dc_world.specs.Opened.{AreAlike}
 use Rattle.dc_world.specs.Slots.{is_up, slot_at}
@@ -10,7 +10,7 @@ use Rattle.dc_world.specs.declared.slot.Slot.{Slot}
 module _ (protocol : Protocol) (n : ℕ) (slots : List (Option Slot)) where
   -- past the last one: where all commit together as the first, else up
   abbrev past : Bool
-  past = not (is_global protocol) || is_up (slot_at slots 0)
+  past = not (is_joint protocol) || is_up (slot_at slots 0)
 
   -- a process of n by its slot
   abbrev pub up_in : ℕ → Bool
@@ -24,9 +24,9 @@ module _ (protocol : Protocol) (n : ℕ) (slots : List (Option Slot)) where
 
   -- where the first one is, what is not there is too
   pub up_past : up_in 0 ≡ is_up (slot_at slots 0) → up_in 0 ≡ true → (p : ℕ) → n ≤ p → up_in p ≡ true
-  up_past first up p high = beyond p high ∙ or_right (not (is_global protocol)) (is_up (slot_at slots 0)) (sym first ∙ up)
+  up_past first up p high = beyond p high ∙ or_right (not (is_joint protocol)) (is_up (slot_at slots 0)) (sym first ∙ up)
 
-  module _ (long : length slots ≡ n) (some : 0 < n) (together : is_global protocol ≡ true) (alike : AreAlike slots) where
+  module _ (long : length slots ≡ n) (some : 0 < n) (together : is_joint protocol ≡ true) (alike : AreAlike slots) where
     -- as the first one
     as_first : (p : ℕ) → p < n → is_up (slot_at slots p) ≡ is_up (slot_at slots 0)
     as_first p less = let there = subst (λ m. p < m) (sym long) less in let first = subst (λ m. 0 < m) (sym long) some in ⊎_elim

@@ -6,12 +6,12 @@ use Rattle.dc_acts.specs.Lines.{text_of}
 use Rattle.dc_checkpoint.specs.declared.checkpoint.Checkpoint as checkpoint
 use Rattle.dc_media.specs.Told.{Becomes}
 use Rattle.dc_model.specs.declared.mark.Mark.{Mark}
-use Rattle.dc_protocols.specs.Rules.{is_global}
+use Rattle.dc_protocols.specs.Rules.{is_joint}
 use Rattle.dc_guest.specs.Guest.{Guest}
 use Rattle.dc_proc.specs.Processes.{IsAt}
 use Rattle.dc_proc.specs.Worlds.{IsUp}
 use Rattle.dc_recovery.proofs.Unstopping.{determined}
-use Rattle.dc_recovery.specs.Core.{at_start, opened_core}
+use Rattle.dc_recovery.specs.Core.{Core, at_start, opened_core, opening}
 use Rattle.dc_recovery.specs.Systems.{System}
 use Rattle.dc_recovery.specs.Turned.{LeadsTo}
 use Rattle.dc_world.specs.Ended.{HaveEnded}
@@ -24,10 +24,10 @@ use Rattle.dc_world.specs.declared.processes.Processes.{Processes}
 use Rattle.dc_world.specs.declared.slot.Slot.{Slot}
 use Rattle.dc_world.specs.declared.slot.Slot.TheVariants.{Up, Down}
 use Rattle.dc_course.proofs.Between.{Later}
-use Rattle.dc_course.proofs.Promised.{promised}
+use Rattle.dc_course.proofs.Promised.{led_opened, promised}
 use Rattle.dc_course.proofs.Steps.{steps_whole}
 use Rattle.dc_course.specs.Courses.{IsCourse, Counts, StoresLeft, TellsThroughout, ending_by, ending_of}
-use Rattle.dc_course.specs.Headline.{AreUpAlike, IsEnding, Last, Setting, PlannedCome, StopsTold, marks_at, system_in}
+use Rattle.dc_course.specs.Headline.{AreUpAlike, IsEnding, Last, Setting, PlannedCome, StopsTold, marks_at, system_in, turn_after}
 use Rattle.dc_course.specs.Headline.Last.{Whole, CutOff, Broken}
 use Rattle.dc_course.specs.declared.ending.Ending.{Ending}
 use Rattle.dc_course.specs.Running.{IsEnded, IsEndedBy, IsRunning, Moment, Output, output}
@@ -37,15 +37,17 @@ nothing_written : (held : Option (List ℕ)) → Becomes held held (λ before no
 nothing_written None = tt
 nothing_written (Some text) = sym (append-nil text)
 
--- a run that was just opened
-pub opened_running : {C D : Type 0} (g : checkpoint.Ghosts C D) (setting : Setting) (up : ℕ → Bool) (x : Stage C D) (marks : List Mark) (held : Option (List ℕ)) → x.protocol ≡ setting.protocol → x.inputs ≡ setting.inputs → x.entries ≡ 0 → marks ≡ []
-    → IsWorld g (system_in setting) (opened_core up) x → IsRunning g setting up x marks (output held held)
-opened_running g setting up x marks held protocol inputs none empty world = subst (λ ms. IsRunning g setting up x ms (output held held)) (sym empty) (record {
-  core = opened_core up;
+-- a run that just began
+pub begun_running : {C D : Type 0} (g : checkpoint.Ghosts C D) (setting : Setting) (begun : Core) (x : Stage C D) (marks : List Mark) (held : Option (List ℕ)) → x.protocol ≡ setting.protocol → x.inputs ≡ setting.inputs → x.entries ≡ setting.from → marks ≡ []
+    → IsWorld g (system_in setting) begun x → IsRunning g setting begun x marks (output held held)
+begun_running g setting begun x marks held protocol inputs entries empty world = subst (λ ms. IsRunning g setting begun x ms (output held held)) (sym empty) (record {
+  core = begun;
+  added = [];
   of = record { protocol_is = protocol; inputs_are = inputs };
   led = refl;
+  lines_are = refl;
   world = world;
-  entries_are = none;
+  entries_are = omega (arith, entries);
   shows = nothing_written held;
 })
 
@@ -54,6 +56,7 @@ pub up_as : {C D : Type 0} (g : checkpoint.Ghosts C D) (S : System Guest) (x : S
 up_as g S x up up1 same world = record {
   count_is = world.count_is;
   protocol_is = world.protocol_is;
+  seven = world.seven;
   inputs_are = world.inputs_are;
   stands = record {
     each = λ p inside on. let was : IsUp S (opened_core up) p (seen_of g x p) = world.stands.each p inside (sym (same p inside) ∙ on) in record {
@@ -107,38 +110,38 @@ module _ {C D : Type 0} (g : checkpoint.Ghosts C D) (c : C) (dev : D) where
 -- so is each store of a world that may run
 lent_of : {C D : Type 0} (g : checkpoint.Ghosts C D) (stores : List C) (dev : D) (w : Processes) → IsReady g stores dev w → (p : ℕ) (c : C) → slice_get stores p ≡ Some c → g.lent c dev
 lent_of g stores dev w ready p c at = ⊎_elim
-    (λ (together : is_global w.protocol ≡ true). ⊎_elim (λ fit. fit_lent g c dev (slot_at w.slots.items p) (fit.0 p c at)) (λ down. down_lent g c dev (slot_at w.slots.items p) (down p c at)) (ready.together together).0)
-    (λ (alone : is_global w.protocol ≡ false). handled_lent g c dev w.left (slot_at w.slots.items p) (ready.handled alone p c at))
-    (cases_Bool (is_global w.protocol))
+    (λ (together : is_joint w.protocol ≡ true). ⊎_elim (λ fit. fit_lent g c dev (slot_at w.slots.items p) (fit.0 p c at)) (λ down. down_lent g c dev (slot_at w.slots.items p) (down p c at)) (ready.together together).0)
+    (λ (alone : is_joint w.protocol ≡ false). handled_lent g c dev w.left (slot_at w.slots.items p) (ready.handled alone p c at))
+    (cases_Bool (is_joint w.protocol))
 
 -- how the last entry of a run went, and that it ended so
-pub record Came {C D : Type 0} (g : checkpoint.Ghosts C D) (setting : Setting) (up : ℕ → Bool) (ending : Ending) (m : Moment C D) (first : Option (List ℕ)) : Type 0 where
+pub record Came {C D : Type 0} (g : checkpoint.Ghosts C D) (setting : Setting) (begun : Core) (ending : Ending) (m : Moment C D) (first : Option (List ℕ)) : Type 0 where
   pub last : Last
-  pub ended : IsEnded g setting up m.stage m.marks last (output first m.held)
+  pub ended : IsEnded g setting begun m.stage m.marks last (output first m.held)
   pub is : IsEnding setting ending m.marks last ended.core
 
 -- and the last one was not whole
-pub record CameBroken {C D : Type 0} (g : checkpoint.Ghosts C D) (setting : Setting) (up : ℕ → Bool) (ending : Ending) (m : Moment C D) (first : Option (List ℕ)) : Type 0 where
+pub record CameBroken {C D : Type 0} (g : checkpoint.Ghosts C D) (setting : Setting) (begun : Core) (ending : Ending) (m : Moment C D) (first : Option (List ℕ)) : Type 0 where
   pub last : Last
-  pub ended : IsEnded g setting up m.stage m.marks last (output first m.held)
+  pub ended : IsEnded g setting begun m.stage m.marks last (output first m.held)
   pub is : IsEnding setting ending m.marks last ended.core
   pub broken : last ≡ Whole → ⊥
 
-module _ {C D : Type 0} (g : checkpoint.Ghosts C D) (setting : Setting) (up : ℕ → Bool) (m : Moment C D) (first : Option (List ℕ)) where
+module _ {C D : Type 0} (g : checkpoint.Ghosts C D) (setting : Setting) (begun : Core) (m : Moment C D) (first : Option (List ℕ)) where
   -- with its schedule
-  pub ending_whole : (b : Bool) (r : IsRunning g setting up m.stage m.marks (output first m.held)) → HaveEnded b (system_in setting).guests r.core → length m.marks ≡ length setting.schedule → Came g setting up (ending_of b) m first
+  pub ending_whole : (b : Bool) (r : IsRunning g setting begun m.stage m.marks (output first m.held)) → HaveEnded b (system_in setting).guests r.core → turn_after setting m.marks ≡ length setting.schedule → Came g setting begun (ending_of b) m first
   unfolding steps_whole
-  ending_whole true r have used = record { last = Whole; ended = steps_whole g setting up m.stage m.marks (output first m.held) r; is = ((used, refl), have) }
-  ending_whole false r have used = record { last = Whole; ended = steps_whole g setting up m.stage m.marks (output first m.held) r; is = ((used, refl), have) }
+  ending_whole true r have used = record { last = Whole; ended = steps_whole g setting begun m.stage m.marks (output first m.held) r; is = ((used, refl), have) }
+  ending_whole false r have used = record { last = Whole; ended = steps_whole g setting begun m.stage m.marks (output first m.held) r; is = ((used, refl), have) }
 
   -- by a fault
-  pub ending_broken : (f : TurnFault) → IsEndedBy g f setting up m first → CameBroken g setting up (ending_by f) m first
+  pub ending_broken : (f : TurnFault) → IsEndedBy g f setting begun m first → CameBroken g setting begun (ending_by f) m first
   ending_broken (fault.Device p) ended = record { last = Broken; ended = ended.0; is = (refl, ended.1, ended.2); broken = λ e. absurd (cc) }
   ending_broken (fault.Store p why) ended = absurd ended
   ending_broken fault.Sink ended = record { last = CutOff ended.0; ended = ended.1; is = (ended.0, refl, ended.2); broken = λ e. absurd (cc) }
 
-module _ {C D : Type 0} (g : checkpoint.Ghosts C D) (setting : Setting) (up : ℕ → Bool) (alike : AreUpAlike setting up) (stores : List C) (dev : D) (w : Processes) (marks : List Mark) (last : Last) (out : Output)
-    (ended : IsEnded g setting up (stage_of stores dev w) marks last out) (ready : IsReady g stores dev w) (long : length w.slots.items ≡ length setting.images) (beyond : ((p : ℕ) → p < length setting.images → up p ≡ true) → (p : ℕ) → length setting.images ≤ p → up p ≡ true) where
+module _ {C D : Type 0} (g : checkpoint.Ghosts C D) (setting : Setting) (up : ℕ → Bool) (alike : AreUpAlike setting up) (from_is : setting.from ≡ 0) (stores : List C) (dev : D) (w : Processes) (marks : List Mark) (last : Last) (out : Output)
+    (ended : IsEnded g setting (opened_core up) (stage_of stores dev w) marks last out) (ready : IsReady g stores dev w) (long : length w.slots.items ≡ length setting.images) (beyond : ((p : ℕ) → p < length setting.images → up p ≡ true) → (p : ℕ) → length setting.images ≤ p → up p ≡ true) where
   -- the stores that it leaves
   stores_left : StoresLeft g setting ended.core dev
   stores_left = record {
@@ -154,8 +157,8 @@ module _ {C D : Type 0} (g : checkpoint.Ghosts C D) (setting : Setting) (up : �
   all_up below p = ⊎_elim (λ (less : p < length setting.images). below p less) (λ (high : length setting.images ≤ p). beyond below p high) (cases_lt p (length setting.images))
 
   -- so the marks lead there from where all are up
-  led_up : ((p : ℕ) → p < length setting.images → up p ≡ true) → LeadsTo (system_in setting) setting.schedule 0 (opened_core (λ p. true)) (marks_at last marks) ended.core
-  led_up below = subst (λ u. LeadsTo (system_in setting) setting.schedule 0 (opened_core u) (marks_at last marks) ended.core) (λ i p. all_up below p i) ended.led
+  led_up : ((p : ℕ) → p < length setting.images → up p ≡ true) → LeadsTo (system_in setting) setting.schedule (opening (λ p. true)) (marks_at last marks) ended.core
+  led_up below = subst (λ u. LeadsTo (system_in setting) setting.schedule (opening u) (marks_at last marks) ended.core) (λ i p. all_up below p i) (led_opened setting up from_is (marks_at last marks) ended.core ended.led)
 
   -- it keeps what it promises
   pub course_is : (counts : Counts) (ending : Ending) → IsEnding setting ending marks last ended.core → StopsTold setting up marks counts.stops_before counts.stops_after
@@ -166,7 +169,7 @@ module _ {C D : Type 0} (g : checkpoint.Ghosts C D) (setting : Setting) (up : �
     up = up;
     alike = alike;
     core = ended.core;
-    headline = promised g setting up alike (stage_of stores dev w) marks last out ended;
+    headline = promised g setting up alike from_is (stage_of stores dev w) marks last out ended;
     ending_is = is;
     stops_told = told;
     planned_come = come;

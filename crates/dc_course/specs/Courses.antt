@@ -6,7 +6,7 @@ use Rattle.dc_model.specs.declared.entry.Entry.{Entry}
 use Rattle.dc_elf.specs.Loaded.{seen_image}
 use Rattle.dc_words.specs.Lists.{lists_of}
 use Rattle.dc_proc.specs.Worlds.{StoresStand}
-use Rattle.dc_protocols.specs.Rules.{is_global}
+use Rattle.dc_protocols.specs.Rules.{is_joint}
 use Rattle.dc_recovery.specs.Core.{Core}
 use Rattle.dc_recovery.specs.Unstopped.{AreTurns, IsDetermined, Unstopped}
 use Rattle.dc_world.specs.Joints.{IsOwn}
@@ -20,9 +20,9 @@ use Rattle.dc_course.specs.declared.ending.Ending.TheVariants as ending
 use Rattle.dc_world.specs.declared.faults.TurnFault.{TurnFault}
 use Rattle.dc_world.specs.declared.faults.TurnFault.TheVariants as fault
 
--- what a run is given
+-- what a run is given that begins at its opening
 abbrev pub setting_of : Setup → List Entry → List PlannedStop → Setting
-setting_of setup schedule stops = record { protocol = setup.protocol; images = map seen_image setup.images.items; inputs = lists_of setup.inputs.items; schedule = schedule; stops = stops }
+setting_of setup schedule stops = record { protocol = setup.protocol; images = map seen_image setup.images.items; inputs = lists_of setup.inputs.items; schedule = schedule; stops = stops; from = 0 }
 
 -- what it lists of itself
 abbrev pub account_of : Course → Account
@@ -51,7 +51,7 @@ pub record StoresLeft {C D : Type 0} (g : checkpoint.Ghosts C D) (setting : Sett
   pub all : length stores ≡ length setting.images
   pub own : (p : ℕ) (c : C) → slice_get stores p ≡ Some c → IsOwn g (length setting.images) p c
   pub lent : (p : ℕ) (c : C) → slice_get stores p ≡ Some c → g.lent c dev
-  pub stand : StoresStand (system_in setting) core (decided_by (is_global setting.protocol) (λ d. IsSomeAnd (slice_get stores 0) (λ c. g.numbers c dev d))) (λ p d r. IsSomeAnd (slice_get stores p) (λ c. g.leaves c dev d r))
+  pub stand : StoresStand (system_in setting) core (decided_by (is_joint setting.protocol) (λ d. IsSomeAnd (slice_get stores 0) (λ c. g.numbers c dev d))) (λ p d r. IsSomeAnd (slice_get stores p) (λ c. g.leaves c dev d r))
 
 -- A run: it keeps the promise, ended as it says, was stopped as planned and no more often than its devices say besides, and left its stores so.
 pub record IsCourse (setting : Setting) (run : Account) (ending : Ending) (out : Output) (counts : Counts) (Left : Core → Type 0) : Type 0 where

@@ -17,9 +17,9 @@ use Rattle.dc_model.specs.declared.mark.Mark.{Mark}
 use Rattle.dc_model.specs.declared.mark.Mark.TheVariants as mark
 use Rattle.dc_model.specs.declared.visible.Visible.{Visible}
 use Rattle.dc_proc.specs.Carried.{system}
-use Rattle.dc_protocols.specs.Rules.{is_global}
+use Rattle.dc_protocols.specs.Rules.{is_global, is_joint}
 use Rattle.dc_protocols.specs.declared.protocol.Protocol.{Protocol}
-use Rattle.dc_recovery.specs.Core.{Core, opened_core}
+use Rattle.dc_recovery.specs.Core.{Core, Start, opening}
 use Rattle.dc_recovery.specs.Parts.{is_with}
 use Rattle.dc_recovery.specs.Recoveries.{SavedBeforeShown}
 use Rattle.dc_recovery.specs.Systems.{System}
@@ -28,17 +28,27 @@ use Rattle.dc_world.specs.Ended.{HaveEnded}
 use Rattle.dc_course.specs.declared.ending.Ending.{Ending}
 use Rattle.dc_course.specs.declared.ending.Ending.TheVariants.{Done, Unfinished, Device, Store, Sink}
 
--- what a run is given: the protocol of its processes, their images and inputs, the schedule, and the stops that are planned
+-- what a run is given: the protocol of its processes, their images and inputs, the schedule, the stops that are planned, and how many entries of the
+-- schedule an earlier part of it took: none where it begins at its opening
 pub record Setting : Type 0 where
   pub protocol : Protocol
   pub images : List Image
   pub inputs : List (List (List ℕ))
   pub schedule : List Entry
   pub stops : List PlannedStop
+  pub from : ℕ
 
 -- its guests, under its protocol
 abbrev pub system_in : Setting → System Guest
 system_in setting = system setting.images setting.inputs setting.protocol
+
+-- where it begins, at this core
+abbrev pub start_at : Setting → Core → Start
+start_at setting begun = record { entries = setting.from; core = begun }
+
+-- the number of the turn that comes after these marks
+abbrev pub turn_after : Setting → List Mark → ℕ
+turn_after setting marks = setting.from + length marks
 
 -- what a run lists of itself: the acts that count, the marks of its entries, and how many whole lines it wrote
 pub record Account : Type 0 where
@@ -75,29 +85,30 @@ pub record LinesShown (whole torn : List Visible) (lines : ℕ) (visibles : List
   pub thinned : thin (whole ++ torn) ≡ visibles
   pub written : Becomes before after (Shows whole torn)
 
--- the marks lead from the opened core, in which these processes are up, to one of these acts and records
-pub record CoreLed (setting : Setting) (up : ℕ → Bool) (marks : List Mark) (core : Core) (acts : List Taken) (records : List Visible) : Type 0 where
-  pub led : LeadsTo (system_in setting) setting.schedule 0 (opened_core up) marks core
+-- the marks lead from a start to a core of these acts and records
+pub record CoreLed (setting : Setting) (start : Start) (marks : List Mark) (core : Core) (acts : List Taken) (records : List Visible) : Type 0 where
+  pub led : LeadsTo (system_in setting) setting.schedule start marks core
   pub acts_are : reported core.acts ≡ acts
   pub lines_are : reverse core.lines ≡ records
 
 -- The lines on the output, dropping a process's outputs whose number came before, are exactly the visible records of the failure-free
 -- run of the same guests on the same inputs whose acts are listed; each act was drawn at its turn of the schedule, in order; a repeat
--- equals its first line and follows a recovery.
+-- equals its first line and follows a recovery. It is said of a run from its opening, at which these processes are up.
 pub record IsHeadline (setting : Setting) (run : Account) (last : Last) (up : ℕ → Bool) (core : Core) (before after : Option (List ℕ)) : Type 0 where
   pub world : World Guest
   pub whole : List Visible
+  pub from_is : setting.from ≡ 0
   pub acts_run : run_of (system_in setting).guests run.acts ≡ Some world
   pub acts_drawn : Drawn (length setting.images) setting.schedule run.acts
   pub lines_shown : LinesShown whole (torn_at last) run.lines world.visibles before after
-  pub repeats_equal : RepeatsEqual (is_global setting.protocol) setting.schedule (marks_at last run.marks) (reverse (whole ++ torn_at last))
-  pub core_led : CoreLed setting up (marks_at last run.marks) core run.acts (whole ++ torn_at last)
+  pub repeats_equal : RepeatsEqual (is_joint setting.protocol) setting.schedule (marks_at last run.marks) (reverse (whole ++ torn_at last))
+  pub core_led : CoreLed setting (opening up) (marks_at last run.marks) core run.acts (whole ++ torn_at last)
   -- where all commit together, nothing that could have come otherwise stands unsaved before a line that was shown
   pub saved : is_global setting.protocol ≡ true → SavedBeforeShown (system_in setting).guests core
 
 -- where all commit together, all of these are up or none is
 abbrev pub AreUpAlike : Setting → (ℕ → Bool) → Type 0
-AreUpAlike setting up = is_global setting.protocol ≡ true → (p q : ℕ) → up p ≡ up q
+AreUpAlike setting up = is_joint setting.protocol ≡ true → (p q : ℕ) → up p ≡ up q
 
 -- process p takes part in an entry: its turn is p's or, where all commit together, any's
 abbrev pub takes_part : Protocol → ℕ → Option Entry → Bool
@@ -105,17 +116,17 @@ takes_part protocol p (Some (entry.Turn turn)) = is_with protocol turn.p p
 takes_part protocol p _ = false
 
 -- the schedule was used up
-abbrev pub IsUsedUp : List Entry → List Mark → Last → Type 0
-IsUsedUp schedule marks last = (length marks ≡ length schedule) × (last ≡ Whole)
+abbrev pub IsUsedUp : Setting → List Mark → Last → Type 0
+IsUsedUp setting marks last = (turn_after setting marks ≡ length setting.schedule) × (last ≡ Whole)
 
 -- done where the schedule is used up and every process is up and has ended, unfinished where one is not; else a fault at the entry behind the
 -- marked ones: of the device of a process that takes part in it, or of the output
 abbrev pub IsEnding : Setting → Ending → List Mark → Last → Core → Type 0
-IsEnding setting Done marks last core = IsUsedUp setting.schedule marks last × HaveEnded true (system_in setting).guests core
-IsEnding setting Unfinished marks last core = IsUsedUp setting.schedule marks last × HaveEnded false (system_in setting).guests core
-IsEnding setting (Device p) marks last core = (last ≡ Broken) × (takes_part setting.protocol p (slice_get setting.schedule (length marks)) ≡ true) × (p < length setting.images)
+IsEnding setting Done marks last core = IsUsedUp setting marks last × HaveEnded true (system_in setting).guests core
+IsEnding setting Unfinished marks last core = IsUsedUp setting marks last × HaveEnded false (system_in setting).guests core
+IsEnding setting (Device p) marks last core = (last ≡ Broken) × (takes_part setting.protocol p (slice_get setting.schedule (turn_after setting marks)) ≡ true) × (p < length setting.images)
 IsEnding setting (Store p fault) marks last core = ⊥
-IsEnding setting Sink marks last core = (torn : Visible) × (last ≡ CutOff torn) × (length marks < length setting.schedule)
+IsEnding setting Sink marks last core = (torn : Visible) × (last ≡ CutOff torn) × (turn_after setting marks < length setting.schedule)
 
 -- a stop is planned for this turn and process
 abbrev pub is_planned : List PlannedStop → ℕ → ℕ → Bool
@@ -138,7 +149,7 @@ is_unplanned setting p turn m = is_stopped m && (takes_part setting.protocol p (
 -- how many of the turns in which process p takes part were stopped for which no such stop was planned, by the marks, the last first
 abbrev pub unplanned : Setting → ℕ → List Mark → ℕ
 unplanned setting p [] = 0
-unplanned setting p (m ∷ marks) = (if is_unplanned setting p (length marks) m then 1 else 0) + unplanned setting p marks
+unplanned setting p (m ∷ marks) = (if is_unplanned setting p (turn_after setting marks) m then 1 else 0) + unplanned setting p marks
 
 -- whether the making of a process's store was stopped, or of that of one that stops with it, as a count
 abbrev pub late : Bool → ℕ
@@ -162,7 +173,7 @@ IsUnstopped setting p turn m before after = is_stopped m ≡ false → takes_par
 -- the calls of a process's device in a run, entry by entry, by the marks, the last first: before the first entry those of the opening; no planned stop was left out
 abbrev pub StopsCome : Setting → ℕ → List Mark → ℕ → ℕ → Type 0
 StopsCome setting p [] before after = before ≤ after
-StopsCome setting p (m ∷ marks) before after = (from : ℕ) × StopsCome setting p marks before from × (from ≤ after) × IsUnstopped setting p (length marks) m from after
+StopsCome setting p (m ∷ marks) before after = (from : ℕ) × StopsCome setting p marks before from × (from ≤ after) × IsUnstopped setting p (turn_after setting marks) m from after
 
 -- so in the whole run; of an entry that a fault ended nothing is said
 pub record PlannedCome (setting : Setting) (last : Last) (marks : List Mark) (p before after : ℕ) : Type 0 where

@@ -1,5 +1,5 @@
 -- How far a run has come, and how one ended.
-use Rattle.std.specs.Prelude.{◌≡◌, ◌<◌, ℕ, Bool, true, List, ◌++◌, length, reverse, slice_get, Option, Some}
+use Rattle.std.specs.Prelude.{◌≡◌, ◌<◌, ◌+◌, ℕ, true, List, ◌++◌, drop, length, reverse, slice_get, Option, Some}
 use Rattle.dc_acts.specs.Lines.{text_of}
 use Rattle.dc_checkpoint.specs.declared.checkpoint.Checkpoint as checkpoint
 use Rattle.dc_media.specs.Told.{Becomes}
@@ -7,17 +7,17 @@ use Rattle.dc_model.specs.World.{reported}
 use Rattle.dc_model.specs.declared.entry.Entry.{Entry}
 use Rattle.dc_model.specs.declared.mark.Mark.{Mark}
 use Rattle.dc_model.specs.declared.visible.Visible.{Visible}
-use Rattle.dc_protocols.specs.Rules.{is_global}
+use Rattle.dc_protocols.specs.Rules.{is_joint}
 use Rattle.dc_proc.specs.Worlds.{StoresStand}
-use Rattle.dc_recovery.specs.Core.{Core, opened_core}
+use Rattle.dc_recovery.specs.Core.{Core}
+use Rattle.dc_recovery.specs.Invariant.{Holds}
 use Rattle.dc_recovery.specs.Turned.{LeadsTo}
 use Rattle.dc_world.specs.Slots.{is_up, slot_at}
 use Rattle.dc_world.specs.Stages.{IsTold, IsWorld, Stage, decided_by, leaves_of, numbers_of}
 use Rattle.dc_world.specs.Worlds.{stage_in}
 use Rattle.dc_world.specs.declared.faults.TurnFault.{TurnFault}
 use Rattle.dc_world.specs.declared.faults.TurnFault.TheVariants as fault
-use Rattle.dc_world.specs.declared.world.World.{World}
-use Rattle.dc_course.specs.Headline.{AreUpAlike, Last, Setting, Shows, marks_at, system_in, takes_part, torn_at}
+use Rattle.dc_course.specs.Headline.{Last, Setting, Shows, marks_at, start_at, system_in, takes_part, torn_at, turn_after}
 use Rattle.dc_course.specs.Headline.Last.{Broken, CutOff}
 use Rattle.dc_course.specs.declared.running.Running.{Running}
 
@@ -35,31 +35,38 @@ pub record IsOfSetting {C D : Type 0} (setting : Setting) (x : Stage C D) : Type
   pub protocol_is : x.protocol ≡ setting.protocol
   pub inputs_are : x.inputs ≡ setting.inputs
 
--- a setting has the protocol of this world, and as many processes
-pub record IsSettingOf {C : Type 0} (w : World C) (setting : Setting) : Type 0 where
-  pub protocol_is : setting.protocol ≡ w.processes.protocol
-  pub images_long : length setting.images ≡ length w.processes.slots.items
+-- a setting has the protocol of this run and as many processes, and begins where it does
+pub record IsSettingOf {C : Type 0} (r : Running C) (setting : Setting) : Type 0 where
+  pub protocol_is : setting.protocol ≡ r.world.processes.protocol
+  pub images_long : length setting.images ≡ length r.world.processes.slots.items
+  pub from_is : setting.from ≡ r.from
 
--- the marks lead from the opening, with these processes up, to a core that the world stands for, and whose lines stand on the output
-pub record IsRunning {C D : Type 0} (g : checkpoint.Ghosts C D) (setting : Setting) (up : ℕ → Bool) (x : Stage C D) (marks : List Mark) (out : Output) : Type 0 where
+-- a run of this setting may begin at this core
+abbrev pub CanBegin : Setting → Core → Type 0
+CanBegin setting begun = Holds (system_in setting) setting.schedule setting.from begun
+
+-- the marks lead from the core where the run begins to one that the world stands for, and the lines that were added since stand on the output
+pub record IsRunning {C D : Type 0} (g : checkpoint.Ghosts C D) (setting : Setting) (begun : Core) (x : Stage C D) (marks : List Mark) (out : Output) : Type 0 where
   pub core : Core
+  pub added : List Visible
   pub of : IsOfSetting setting x
-  pub led : LeadsTo (system_in setting) setting.schedule 0 (opened_core up) (reverse marks) core
+  pub led : LeadsTo (system_in setting) setting.schedule (start_at setting begun) (reverse marks) core
+  pub lines_are : core.lines ≡ added ++ begun.lines
   pub world : IsWorld g (system_in setting) core x
-  pub entries_are : x.entries ≡ length marks
-  pub shows : Becomes out.before out.now (λ before now. now ≡ before ++ text_of (reverse core.lines))
+  pub entries_are : x.entries ≡ turn_after setting marks
+  pub shows : Becomes out.before out.now (λ before now. now ≡ before ++ text_of (reverse added))
 
--- a run that came to its end, or to a fault at the entry behind the marked ones, which is counted with them
-pub record IsEnded {C D : Type 0} (g : checkpoint.Ghosts C D) (setting : Setting) (up : ℕ → Bool) (x : Stage C D) (marks : List Mark) (last : Last) (out : Output) : Type 0 where
+-- a run that came to its end, or to a fault at the entry behind the marked ones, which is counted with them; its whole lines are those that were added
+pub record IsEnded {C D : Type 0} (g : checkpoint.Ghosts C D) (setting : Setting) (begun : Core) (x : Stage C D) (marks : List Mark) (last : Last) (out : Output) : Type 0 where
   pub core : Core
   pub whole : List Visible
-  pub led : LeadsTo (system_in setting) setting.schedule 0 (opened_core up) (marks_at last marks) core
+  pub led : LeadsTo (system_in setting) setting.schedule (start_at setting begun) (marks_at last marks) core
   pub acts_are : reported core.acts ≡ x.acts
-  pub lines_are : reverse core.lines ≡ whole ++ torn_at last
-  pub count : length whole ≡ x.lines
+  pub lines_are : reverse core.lines ≡ reverse begun.lines ++ (whole ++ torn_at last)
+  pub count : length begun.lines + length whole ≡ x.lines
   pub shows : Becomes out.before out.now (Shows whole (torn_at last))
   pub up_are : (p : ℕ) → p < (system_in setting).guests.count → (core.procs p).up ≡ is_up (slot_at x.slots p)
-  pub stores : StoresStand (system_in setting) core (decided_by (is_global setting.protocol) (numbers_of g x)) (leaves_of g x)
+  pub stores : StoresStand (system_in setting) core (decided_by (is_joint setting.protocol) (numbers_of g x)) (leaves_of g x)
 
 -- what is known of one moment of a run: its world, its marks, and what the output holds
 pub record Moment (C D : Type 0) : Type 0 where
@@ -77,29 +84,33 @@ moment_of run dev held = moment (stage_in run.world dev) run.marks.items held
 
 -- a run ended by a fault at the entry behind the marked ones: of the device of a process that takes part in it, or of the output; none is refused
 -- for what its store holds
-abbrev pub IsEndedBy : {C D : Type 0} → checkpoint.Ghosts C D → TurnFault → Setting → (ℕ → Bool) → Moment C D → Option (List ℕ) → Type 0
-IsEndedBy g (fault.Device p) setting up m first = IsEnded g setting up m.stage m.marks Broken (output first m.held) × (takes_part setting.protocol p (slice_get setting.schedule (length m.marks)) ≡ true) × (p < length setting.images)
-IsEndedBy g (fault.Store p why) setting up m first = ⊥
-IsEndedBy g fault.Sink setting up m first = (torn : Visible) × IsEnded g setting up m.stage m.marks (CutOff torn) (output first m.held) × (length m.marks < length setting.schedule)
+abbrev pub IsEndedBy : {C D : Type 0} → checkpoint.Ghosts C D → TurnFault → Setting → Core → Moment C D → Option (List ℕ) → Type 0
+IsEndedBy g (fault.Device p) setting begun m first = IsEnded g setting begun m.stage m.marks Broken (output first m.held) × (takes_part setting.protocol p (slice_get setting.schedule (turn_after setting m.marks)) ≡ true) × (p < length setting.images)
+IsEndedBy g (fault.Store p why) setting begun m first = ⊥
+IsEndedBy g fault.Sink setting begun m first = (torn : Visible) × IsEnded g setting begun m.stage m.marks (CutOff torn) (output first m.held) × (turn_after setting m.marks < length setting.schedule)
 
 -- wherever a run has come to, an entry leads it on, where its devices were told and still tell
 abbrev pub StepsOn : {C D : Type 0} → checkpoint.Ghosts C D → Entry → Moment C D → Moment C D → Type 0
-StepsOn g entry old new = (setting : Setting) (up : ℕ → Bool) (first : Option (List ℕ)) → AreUpAlike setting up → slice_get setting.schedule (length old.marks) ≡ Some entry
-    → IsTold g old.stage → IsTold g new.stage → IsRunning g setting up old.stage old.marks (output first old.held)
-    → IsRunning g setting up new.stage new.marks (output first new.held)
+StepsOn g entry old new = (setting : Setting) (begun : Core) (first : Option (List ℕ)) → CanBegin setting begun → slice_get setting.schedule (turn_after setting old.marks) ≡ Some entry
+    → IsTold g old.stage → IsTold g new.stage → IsRunning g setting begun old.stage old.marks (output first old.held)
+    → IsRunning g setting begun new.stage new.marks (output first new.held)
 
 -- or it ends there by a fault
 abbrev pub StepsOff : {C D : Type 0} → checkpoint.Ghosts C D → Entry → TurnFault → Moment C D → Moment C D → Type 0
-StepsOff g entry fault old new = (setting : Setting) (up : ℕ → Bool) (first : Option (List ℕ)) → AreUpAlike setting up → slice_get setting.schedule (length old.marks) ≡ Some entry
-    → IsTold g old.stage → IsTold g new.stage → IsRunning g setting up old.stage old.marks (output first old.held) → IsEndedBy g fault setting up new first
+StepsOff g entry fault old new = (setting : Setting) (begun : Core) (first : Option (List ℕ)) → CanBegin setting begun → slice_get setting.schedule (turn_after setting old.marks) ≡ Some entry
+    → IsTold g old.stage → IsTold g new.stage → IsRunning g setting begun old.stage old.marks (output first old.held) → IsEndedBy g fault setting begun new first
 
--- wherever a run began, the whole schedule leads it on
+-- these entries are the rest of a setting's schedule, from where its run begins
+abbrev pub IsRest : Setting → List Entry → Type 0
+IsRest setting entries = drop setting.from setting.schedule ≡ entries
+
+-- wherever a run began, the rest of the schedule leads it on
 abbrev pub RunsOn : {C D : Type 0} → checkpoint.Ghosts C D → List Entry → Moment C D → Moment C D → Type 0
-RunsOn g schedule old new = (setting : Setting) (up : ℕ → Bool) (first : Option (List ℕ)) → AreUpAlike setting up → setting.schedule ≡ schedule
-    → IsTold g old.stage → IsTold g new.stage → IsRunning g setting up old.stage old.marks (output first old.held)
-    → IsRunning g setting up new.stage new.marks (output first new.held)
+RunsOn g entries old new = (setting : Setting) (begun : Core) (first : Option (List ℕ)) → CanBegin setting begun → IsRest setting entries
+    → IsTold g old.stage → IsTold g new.stage → IsRunning g setting begun old.stage old.marks (output first old.held)
+    → IsRunning g setting begun new.stage new.marks (output first new.held)
 
 -- or it ends before by a fault
 abbrev pub RunsOff : {C D : Type 0} → checkpoint.Ghosts C D → List Entry → TurnFault → Moment C D → Moment C D → Type 0
-RunsOff g schedule fault old new = (setting : Setting) (up : ℕ → Bool) (first : Option (List ℕ)) → AreUpAlike setting up → setting.schedule ≡ schedule
-    → IsTold g old.stage → IsTold g new.stage → IsRunning g setting up old.stage old.marks (output first old.held) → IsEndedBy g fault setting up new first
+RunsOff g entries fault old new = (setting : Setting) (begun : Core) (first : Option (List ℕ)) → CanBegin setting begun → IsRest setting entries
+    → IsTold g old.stage → IsTold g new.stage → IsRunning g setting begun old.stage old.marks (output first old.held) → IsEndedBy g fault setting begun new first

@@ -1,11 +1,12 @@
 //! A run, from its opening to its end.
 
-ghost use Rattle.std.specs.Prelude.{◌≡◌, ◌<◌, ◌≤◌, ◌+◌, ◌-◌, ◌^◌, ℕ, All, Err, IfOk, OnErr, [], length};
+ghost use Rattle.std.specs.Prelude.{◌≡◌, ◌<◌, ◌≤◌, ◌+◌, ◌-◌, ◌^◌, ℕ, All, Err, IfOk, OnErr, [], length, false};
 ghost use Rattle.dc_course.specs.Courses.{IsCourse, StoresLeft, TellsThroughout, account_of, counts_of, ending_by, ending_of, setting_of};
 ghost use Rattle.dc_course.specs.Running.{output};
 ghost use Rattle.dc_course.specs.declared.ending.Ending.TheVariants as endings;
 ghost use Rattle.dc_media.specs.Causes.{Rose};
 ghost use Rattle.dc_media.specs.Told.{TellsOn};
+ghost use Rattle.dc_protocols.specs.Rules.{is_causal};
 ghost use Rattle.dc_world.specs.Opened.{CanOpen};
 ghost use Rattle.dc_world.specs.Stages.{KeepsTelling};
 ghost use Rattle.dc_world.specs.Worlds.{IsOfProcesses};
@@ -38,7 +39,11 @@ impl<C: Planned + Drop> Running<C> {
     fn course(self, ending: Ending) -> Course
         ensures { result ≡ record { acts = self.world.processes.acts; marks = self.marks; lines = self.world.processes.lines; ending = ending } }
     {
-        let Running { world, marks } = self;
+        let Running {
+            world,
+            marks,
+            from: _,
+        } = self;
         let lines = world.lines();
         Course {
             acts: world.into_acts(),
@@ -96,6 +101,7 @@ pub fn run<C: Planned + Drop, O: Sink>(
     requires few { length setup.images.items ≤ PROCESSES }
     requires inputs { length setup.inputs.items ≡ length setup.images.items }
     requires good { All CanOpen setup.images.items }
+    requires seven { is_causal setup.protocol ≡ false }
     requires entries { length schedule.now ≤ ENTRIES }
     requires processes { All (IsOfProcesses (length setup.images.items)) schedule.now }
     requires idle { C.idle dev.old }
@@ -123,7 +129,11 @@ pub fn run<C: Planned + Drop, O: Sink>(
         Ok(world) => world,
         Err(fault) => return Err(fault),
     };
-    let mut running = Running { world, marks };
+    let mut running = Running {
+        world,
+        marks,
+        from: 0,
+    };
     let ending = match running.run(schedule, dev, out) {
         Ok(()) => ended(running.world.ended()),
         Err(fault) => ended_by(fault),

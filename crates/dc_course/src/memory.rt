@@ -1,6 +1,6 @@
 //! Runs over recoverable memory.
 
-ghost use Rattle.std.specs.Prelude.{◌≡◌, ◌<◌, ◌≤◌, ℕ, All, Err, IfOk, OnErr, length};
+ghost use Rattle.std.specs.Prelude.{◌≡◌, ◌<◌, ◌≤◌, ℕ, All, Err, IfOk, OnErr, length, false};
 ghost use Rattle.dc_course.specs.Courses.{IsCourse, account_of, counts_of, setting_of};
 ghost use Rattle.dc_course.specs.Running.{output};
 ghost use Rattle.dc_course.specs.Segments.{SegmentsLeft, capped_by, TellsStores};
@@ -8,6 +8,7 @@ ghost use Rattle.dc_course.specs.declared.ending.Ending.TheVariants as endings;
 ghost use Rattle.dc_media.specs.Causes.{Rose};
 ghost use Rattle.dc_media.specs.Devices.{of_words};
 ghost use Rattle.dc_media.specs.Told.{IsSameStore, TellsOn};
+ghost use Rattle.dc_protocols.specs.Rules.{is_causal};
 ghost use Rattle.dc_world.specs.Opened.{CanOpen};
 ghost use Rattle.dc_world.specs.Worlds.{IsOfProcesses};
 ghost use Rattle.dc_world.specs.declared.faults.OpenFault.TheVariants as opening;
@@ -34,6 +35,7 @@ pub fn run_on_memory<K: Keeps, O: Sink>(
     requires few { length setup.images.items ≤ PROCESSES }
     requires inputs { length setup.inputs.items ≡ length setup.images.items }
     requires good { All CanOpen setup.images.items }
+    requires seven { is_causal setup.protocol ≡ false }
     requires entries { length schedule.now ≤ ENTRIES }
     requires processes { All (IsOfProcesses (length setup.images.items)) schedule.now }
     ensures headline { IfOk result (λ course. TellsStores K.Keeps (length setup.images.items) keeps.old keeps.new →

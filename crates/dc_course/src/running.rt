@@ -3,9 +3,9 @@
 ghost use Rattle.std.specs.Prelude.{◌≡◌, ◌<◌, ◌≤◌, ◌+◌, ◌-◌, ◌^◌, ℕ, All, IfSome, IsErrOf, IsOk, OnErr, OnOk, Some, false, length, slice_get};
 ghost use Rattle.dc_armed.specs.Armed.{IsUnrefused};
 ghost use Rattle.dc_armed.specs.Stops.{first_stop};
-ghost use Rattle.dc_course.specs.Headline.{IsCalledOn, IsCountedOn, is_planned};
+ghost use Rattle.dc_course.specs.Headline.{IsCalledOn, IsCountedOn, is_planned, turn_after};
 ghost use Rattle.dc_course.specs.Headline.{Setting as Settings};
-ghost use Rattle.dc_course.specs.Running.{IsSettingOf, RunsOff, RunsOn, StepsOff, StepsOn, moment_of};
+ghost use Rattle.dc_course.specs.Running.{IsRest, IsSettingOf, RunsOff, RunsOn, StepsOff, StepsOn, moment_of};
 ghost use Rattle.dc_media.specs.Causes.{Rose};
 ghost use Rattle.dc_media.specs.Told.{TellsOn};
 ghost use Rattle.dc_world.specs.Stages.{KeepsTelling};
@@ -20,11 +20,12 @@ use dc_media::Sink;
 use dc_model::{Entry, Mark};
 use dc_world::{TurnFault, World};
 
-/// A run that was opened: its world, and the marks of its entries.
+/// A run that was opened: its world, the marks of its entries, and how many entries an earlier part of it took.
 #[derive(Drop)]
 pub(crate) struct Running<C: Drop> {
     pub world: World<C>,
     pub marks: Reserved<Mark>,
+    pub from: u32,
 }
 
 /// Begins a turn of a world.
@@ -45,6 +46,14 @@ fn begin<C: Planned + Drop>(world: &World<C>, dev: &mut C::Device, turn: u32)
 }
 
 impl<C: Planned + Drop> Running<C> {
+    /// The number of the turn that comes next.
+    fn next_turn(&self) -> u32
+        requires few { self.now.from + length self.now.marks.items < 2 ^ 32 }
+        ensures { result ≡ self.now.from + length self.now.marks.items }
+    {
+        self.from + self.marks.len() as u32
+    }
+
     /// Runs one entry, and notes its mark. At a fault it has none.
     fn turn<O: Sink>(
         &mut self,
@@ -56,9 +65,10 @@ impl<C: Planned + Drop> Running<C> {
         requires left { 0 < self.old.world.processes.left }
         requires process { IsOfProcesses (length self.old.world.processes.slots.items) entry.now }
         requires room { length self.old.marks.items < self.old.marks.room }
-        requires few { length self.old.marks.items < 2 ^ 32 }
+        requires few { self.old.from + length self.old.marks.items < 2 ^ 32 }
         ensures ready { MayRun C.Checkpoint self.new.world dev.new }
         ensures left { self.new.world.processes.left + 1 ≡ self.old.world.processes.left }
+        ensures from { self.new.from ≡ self.old.from }
         ensures protocol { self.new.world.processes.protocol ≡ self.old.world.processes.protocol }
         ensures long { length self.new.world.processes.slots.items ≡ length self.old.world.processes.slots.items }
         ensures room { self.old.marks.room ≤ self.new.marks.room }
@@ -69,9 +79,9 @@ impl<C: Planned + Drop> Running<C> {
         ensures device { (p : ℕ) → IsErrOf result (faults.Device p) → IsPartOf self.old.world p entry.now × Rose (C.faults dev.old p) (C.faults dev.new p) }
         ensures sink { IsErrOf result faults.Sink → Rose (O.faults out.old) (O.faults out.new) }
         ensures lasts { C.lasts dev.old dev.new }
-        ensures stops { (setting : Settings) (p : ℕ) → IsSettingOf self.old.world setting → setting.stops ≡ C.planned dev.old → slice_get setting.schedule (length self.old.marks.items) ≡ Some entry.now → ((q : ℕ) → q < length setting.images → C.stops dev.new q < 2 ^ 64 - 1)
+        ensures stops { (setting : Settings) (p : ℕ) → IsSettingOf self.old setting → setting.stops ≡ C.planned dev.old → slice_get setting.schedule (turn_after setting self.old.marks.items) ≡ Some entry.now → ((q : ℕ) → q < length setting.images → C.stops dev.new q < 2 ^ 64 - 1)
             → IsCountedOn setting p self.old.marks.items self.new.marks.items (C.unplanned dev.old) (C.unplanned dev.new) }
-        ensures comes { OnOk result ((setting : Settings) (p : ℕ) → p < length setting.images → IsSettingOf self.old.world setting → setting.stops ≡ C.planned dev.old → slice_get setting.schedule (length self.old.marks.items) ≡ Some entry.now → C.stops dev.new p < 2 ^ 64 - 1 → C.faults dev.new p < 2 ^ 64 - 1
+        ensures comes { OnOk result ((setting : Settings) (p : ℕ) → p < length setting.images → IsSettingOf self.old setting → setting.stops ≡ C.planned dev.old → slice_get setting.schedule (turn_after setting self.old.marks.items) ≡ Some entry.now → C.stops dev.new p < 2 ^ 64 - 1 → C.faults dev.new p < 2 ^ 64 - 1
             → IsCalledOn setting p self.old.marks.items self.new.marks.items (C.calls dev.old p) (C.calls dev.new p)) }
         ensures once { (p : ℕ) → C.stops dev.new p + C.unplanned dev.old p ≤ C.unplanned dev.new p + C.stops dev.old p + 1 }
         ensures later { (p : ℕ) → (C.stops dev.old p ≤ C.stops dev.new p) × (C.faults dev.old p ≤ C.faults dev.new p) }
@@ -80,7 +90,7 @@ impl<C: Planned + Drop> Running<C> {
         ensures out_tells { TellsOn 0 (O.faults out.new) (O.held out.old) (O.held out.new) }
         ensures out_later { O.faults out.old ≤ O.faults out.new }
     {
-        begin(&self.world, dev, self.marks.len() as u32);
+        begin(&self.world, dev, self.next_turn());
         match self.world.turn(entry, dev, out) {
             Ok(mark) => {
                 self.marks.push(mark);
@@ -90,7 +100,7 @@ impl<C: Planned + Drop> Running<C> {
         }
     }
 
-    /// The whole schedule, entry by entry, up to a fault.
+    /// The rest of a schedule, entry by entry, up to a fault.
     pub fn run<O: Sink>(
         &mut self,
         schedule: &[Entry],
@@ -102,7 +112,7 @@ impl<C: Planned + Drop> Running<C> {
         requires left { length schedule.now ≤ self.old.world.processes.left }
         requires processes { All (IsOfProcesses (length self.old.world.processes.slots.items)) schedule.now }
         requires room { length schedule.now ≤ self.old.marks.room }
-        requires few { length schedule.now ≤ ENTRIES }
+        requires few { self.old.from + length schedule.now ≤ ENTRIES }
         ensures ready { MayRun C.Checkpoint self.new.world dev.new }
         ensures long { length self.new.world.processes.slots.items ≡ length self.old.world.processes.slots.items }
         ensures used { OnOk result (length self.new.marks.items ≡ length schedule.now) }
@@ -112,9 +122,9 @@ impl<C: Planned + Drop> Running<C> {
         ensures device { (p : ℕ) → IsErrOf result (faults.Device p) → Rose (C.faults dev.old p) (C.faults dev.new p) }
         ensures sink { IsErrOf result faults.Sink → Rose (O.faults out.old) (O.faults out.new) }
         ensures lasts { C.lasts dev.old dev.new }
-        ensures stops { (setting : Settings) (p : ℕ) → IsSettingOf self.old.world setting → setting.stops ≡ C.planned dev.old → setting.schedule ≡ schedule.now → ((q : ℕ) → q < length setting.images → C.stops dev.new q < 2 ^ 64 - 1)
+        ensures stops { (setting : Settings) (p : ℕ) → IsSettingOf self.old setting → setting.stops ≡ C.planned dev.old → IsRest setting schedule.now → ((q : ℕ) → q < length setting.images → C.stops dev.new q < 2 ^ 64 - 1)
             → IsCountedOn setting p self.old.marks.items self.new.marks.items (C.unplanned dev.old) (C.unplanned dev.new) }
-        ensures come { (setting : Settings) (p : ℕ) → p < length setting.images → IsSettingOf self.old.world setting → setting.stops ≡ C.planned dev.old → setting.schedule ≡ schedule.now → C.stops dev.new p < 2 ^ 64 - 1 → C.faults dev.new p < 2 ^ 64 - 1
+        ensures come { (setting : Settings) (p : ℕ) → p < length setting.images → IsSettingOf self.old setting → setting.stops ≡ C.planned dev.old → IsRest setting schedule.now → C.stops dev.new p < 2 ^ 64 - 1 → C.faults dev.new p < 2 ^ 64 - 1
             → (made : ℕ) × IsCalledOn setting p self.old.marks.items self.new.marks.items (C.calls dev.old p) made × (made ≤ C.calls dev.new p) × (IsOk result → made ≡ C.calls dev.new p) }
         ensures planned { (p : ℕ) → C.stops dev.new p + C.unplanned dev.old p ≤ C.unplanned dev.new p + C.stops dev.old p + length schedule.now }
         ensures later { (p : ℕ) → (C.stops dev.old p ≤ C.stops dev.new p) × (C.faults dev.old p ≤ C.faults dev.new p) }

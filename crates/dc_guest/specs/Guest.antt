@@ -1,5 +1,5 @@
 -- The guests of this program: RV32I machines with a number, that run or have ended. Here the model meets the machine.
-use Rattle.std.specs.Prelude.{ℕ, ◌-◌, ◌^◌, ◌/◌, ◌%◌, Bool, true, false, List, [], length, take, drop, replicate, Option, None, Some, if◌then◌else◌, slice_get, slice_set, unwrap_or}
+use Rattle.std.specs.Prelude.{ℕ, ◌-◌, ◌^◌, ◌/◌, ◌%◌, Bool, true, false, List, [], ◌∷◌, length, take, drop, replicate, Option, None, Some, if◌then◌else◌, slice_get, slice_set, unwrap_or}
 use Rattle.dc_calls.specs.Calls.{answered_x, call_of}
 use Rattle.dc_calls.specs.declared.call.Call as calls
 use Rattle.dc_calls.specs.declared.call.Call.TheVariants.{Exit, Output, Input, Clock, Random, Send, Receive, Own, BadArgument, Unknown}
@@ -10,7 +10,7 @@ use Rattle.dc_model.specs.Guests.{Event, Answer, Guests}
 use Rattle.dc_model.specs.Guests.Event.{AtEnd, AtInternal, AtClock, AtRandom, AtInput, AtReceive, AtVisible, AtSend}
 use Rattle.dc_model.specs.Guests.{Answer as answer}
 use Rattle.dc_model.specs.declared.visible.Body.TheVariants.{Out, End, Trap}
-use Rattle.dc_rv32.specs.Machine.{Machine, next_pc, stepped}
+use Rattle.dc_rv32.specs.Machine.{Machine, next_pc, stepped, stores}
 use Rattle.dc_rv32.specs.Bytes.{with_bytes}
 use Rattle.dc_words.specs.Words.{bytes_in}
 use Rattle.dc_rv32.specs.declared.machine.Stepped.{Stepped}
@@ -122,6 +122,22 @@ after_call Own a p n m = answered m p (Some n)
 after_call BadArgument a p n m = answered m (minus 3) None
 after_call Unknown a p n m = answered m (minus 9) None
 
+-- some bytes
+abbrev pub are_some : List ℕ → Bool
+are_some [] = false
+are_some (b ∷ bytes) = true
+
+-- whether it stores to memory in what it does next, so answered: an instruction that stores, an input or a message of one byte or more
+abbrev pub stores_next : Next → Answer → Machine → Bool
+stores_next next.Retire a m = stores m
+stores_next (next.Call (Input to room)) (answer.InputNext bytes) m = are_some bytes
+stores_next (next.Call (Receive to room)) (answer.ReceiveFrom s bytes) m = are_some bytes
+stores_next _ a m = false
+
+-- where it has ended it stores nothing
+abbrev pub stores_of : Guest → Answer → Bool
+stores_of g a = if g.ended then false else stores_next (next_of g) a g.machine
+
 -- whether a guest ends by what it does next
 abbrev pub ends : Next → Bool
 ends (next.Trap cause) = true
@@ -157,6 +173,7 @@ guests_of images inputs = record {
   count = length images;
   next = coming;
   after = after_answer;
+  stores = stores_of;
   start = λ p. started p (length images) (slice_get images p);
   inputs = λ p. unwrap_or (slice_get inputs p) [];
 }

@@ -1,9 +1,10 @@
-ghost use Rattle.std.specs.Prelude.{◌≡◌, ◌≤◌, ◌<◌, ◌*◌, ◌%◌, ◌^◌, ℕ, List, false, IfErr, IfOk, IfSome, OnErr, OnOk, Some, length, slice_index};
+ghost use Rattle.std.specs.Prelude.{◌≡◌, ◌≤◌, ◌<◌, ◌*◌, ◌%◌, ◌^◌, ℕ, List, false, IfErr, IfOk, IfSome, OnErr, OnOk, Some, length, slice_index, true};
 ghost use Rattle.dc_guest.specs.Answers.{answer_of, effect_of};
 ghost use Rattle.dc_guest.specs.Guest.{after_next, call_at, ends, event_of, machine_over, next_of, over, started};
 ghost use Rattle.dc_guest.specs.Nexts.{IfRetired, IfWaits, IsSameGuest, IsSentBy, NextFits, Waits, called_by, stored_by};
 ghost use Rattle.dc_media.specs.Told.{Becomes};
 ghost use Rattle.dc_model.specs.Guests.Answer.{Plain};
+ghost use Rattle.dc_rv32.specs.Machine.{stores};
 ghost use Rattle.dc_rv32.specs.Stores.{BreakOff, Follow, OnceAtMost};
 ghost use Rattle.dc_words.specs.Words.{bytes_in};
 
@@ -118,6 +119,7 @@ impl Guest {
         ensures once { OnOk result (OnceAtMost B.made bus.old bus.new) }
         ensures refused { IfErr result (λ why. (i : ℕ) × B.refused bus.old i bus.new why) }
         ensures reached { OnErr result (IfSome (B.told bus.old) (λ words. next_of (over self.old words) ≡ Next.Retire)) }
+        ensures storing { OnErr result (IfSome (B.told bus.old) (λ words. stores (machine_over self.old words) ≡ true)) }
     {
         match step(&mut self.regs, bus) {
             Ok(Stepped::Retired) => Ok(Next::Retire),

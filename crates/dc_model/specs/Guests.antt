@@ -24,11 +24,12 @@ pub data Answer : Type 0 where
   ReceiveNone : Answer
   ReceiveFrom : (s : ℕ) (message : List ℕ) → Answer
 
--- the guests: how many there are, what a machine is about to do, the machine after an answer, where each starts, and its inputs
+-- the guests: how many there are, what a machine is about to do, the machine after an answer, whether it stores to memory then, where each starts, and its inputs
 pub record Guests (Mc : Type 0) : Type 0 where
   pub count : ℕ
   pub next : Mc → Event
   pub after : Mc → Answer → Mc
+  pub stores : Mc → Answer → Bool
   pub start : ℕ → Mc
   pub inputs : ℕ → List (List ℕ)
 

@@ -1,27 +1,29 @@
 -- A plan that is read is allowed.
-use Rattle.std.proofs.Common.{◌≡◌, ◌∙◌, ◌≤◌, ◌%◌, ◌*◌, ◌+◌, ◌&&◌, ◌==◌, ℕ, arith, All, Bool, true, List, [], ◌∷◌, length, map, replicate, Option, Some, None, Result, Ok, Err, nat_le, if◌then◌else◌, ap, sym, subst, ⊎_elim}
-use Rattle.std.specs.List.{list_all}
+use Rattle.std.proofs.Common.{◌≡◌, ◌∙◌, ◌≤◌, ◌<◌, ◌^◌, ◌%◌, ◌*◌, ◌+◌, ◌&&◌, ◌==◌, ℕ, zero, suc, IfSome, arith, All, Bool, true, List, [], ◌∷◌, length, map, replicate, Option, Some, None, Result, Ok, Err, nat_le, if◌then◌else◌, bytes_eq, codes, ap, sym, subst, ⊎_elim, false, refl}
+use Rattle.std.specs.List.{AllByRecursion, list_all}
 use Rattle.std.specs.Str.{is_utf8}
 use Rattle.std.proofs.lemmas.Bool.{and_parts, cases_Bool, leb-true, eqb-true}
 use Rattle.std.proofs.lemmas.List.{length-map, length-replicate}
-use Rattle.std.proofs.lemmas.List.Elements.{All-cons, All-nil, All-replicate}
 use Rattle.toml.specs.Data.{Data, Members, as_integer}
 use Rattle.toml.specs.Parse.{parse_document}
 use Rattle.toml.specs.View.{view}
 use Rattle.toml.specs.declared.value.Value.{Value}
 use Rattle.dc_plan.specs.Stops.{HasRoom, stop_of}
 use Rattle.dc_words.specs.Hex.{byte_before, byte_of_digits, bytes_of_hex, value_of}
+use Rattle.dc_protocols.specs.Rules.{is_causal}
 use Rattle.dc_protocols.specs.declared.protocol.Protocol.{Protocol}
+use Rattle.dc_protocols.specs.declared.protocol.Protocol.TheVariants.{Cand, CandLog, Cbndv2pc, Cbndvs, CbndvsLog, Cpv2pc, Cpvs}
 use Rattle.dc_plan.proofs.Passing.{between, gave, passed}
 use Rattle.dc_plan.proofs.Sources.{source_allowed}
 use Rattle.dc_plan.proofs.Stopping.{room_for, stops_allowed, tables_have_room}
-use Rattle.dc_plan.specs.Allowed.{IsAllowed}
+use Rattle.dc_plan.specs.Allowed.{IsAllowed, IsRecord}
 use Rattle.dc_plan.specs.Built.{is_medium_built}
 use Rattle.dc_plan.specs.Plans.{Plan, are_inputs_few, are_inputs_right, at_key, guests_row, has_known_keys, inputs_row, inputs_said, is_input_record, medium_named, medium_row, memory_row, needed, only_if, optional, plan_from, plan_of, protocol_named, protocol_row, input_record_of, record_in, rows, schedule_row, seed_row, stops_row, tested, turns_row}
 use Rattle.dc_words.specs.Results.{or_fault}
+use Rattle.dc_words.specs.Words.{AllBelow}
 use Rattle.dc_plan.specs.Values.{is_array_of, is_between, is_text, is_whole, items_in, natural_in, text_in, text_or_empty}
 use Rattle.dc_plan.specs.declared.fault.PlanFault.{PlanFault}
-use Rattle.dc_plan.specs.declared.fault.PlanFault.TheVariants.{Text, Unknown}
+use Rattle.dc_plan.specs.declared.fault.PlanFault.TheVariants.{Range, Text, Unknown}
 use Rattle.dc_plan.specs.declared.keys.Key.TheVariants as key
 use Rattle.dc_plan.specs.declared.plan.Medium.{Medium}
 
@@ -32,6 +34,47 @@ kept fault test (Some y) x e = ⊎_elim
     (λ good. let same : Ok y ≡ Ok x = sym (ap (λ b. or_fault fault (if b then Some y else None)) good) ∙ e in let is : y ≡ x = cc in ap test (sym is) ∙ good)
     (λ bad. let same : Err fault ≡ Ok x = sym (ap (λ b. or_fault fault (if b then Some y else None)) bad) ∙ e in absurd (let never : ⊥ = cc in never))
     (cases_Bool (test y))
+
+-- each protocol that has a name is one of the seven
+abbrev AllSeven : Option Protocol → Type 0
+AllSeven o = (m : Protocol) → or_fault (Range key.Protocol) o ≡ Ok m → is_causal m ≡ false
+
+none_seven : AllSeven None
+none_seven m e = absurd (let never : ⊥ = cc in never)
+
+one_seven : (b : Bool) (p : Protocol) → is_causal p ≡ false → (rest : Option Protocol) → AllSeven rest → AllSeven (if b then Some p else rest)
+one_seven true p is rest good m e = let same : p ≡ m = cc in ap is_causal (sym same) ∙ is
+one_seven false p is rest good m e = good m e
+
+module _ (name : List ℕ) where
+  abbrev last : Option Protocol
+  last = if bytes_eq name (codes "cbndv-2pc") then Some Cbndv2pc else None
+
+  abbrev sixth : Option Protocol
+  sixth = if bytes_eq name (codes "cpv-2pc") then Some Cpv2pc else last
+
+  abbrev fifth : Option Protocol
+  fifth = if bytes_eq name (codes "cbndvs-log") then Some CbndvsLog else sixth
+
+  abbrev fourth : Option Protocol
+  fourth = if bytes_eq name (codes "cbndvs") then Some Cbndvs else fifth
+
+  abbrev third : Option Protocol
+  third = if bytes_eq name (codes "cpvs") then Some Cpvs else fourth
+
+  abbrev second : Option Protocol
+  second = if bytes_eq name (codes "cand-log") then Some CandLog else third
+
+  named_seven : AllSeven (protocol_named name)
+  named_seven = one_seven (bytes_eq name (codes "cand")) Cand refl second (one_seven (bytes_eq name (codes "cand-log")) CandLog refl third (one_seven (bytes_eq name (codes "cpvs")) Cpvs refl fourth
+      (one_seven (bytes_eq name (codes "cbndvs")) Cbndvs refl fifth (one_seven (bytes_eq name (codes "cbndvs-log")) CbndvsLog refl sixth (one_seven (bytes_eq name (codes "cpv-2pc")) Cpv2pc refl last
+      (one_seven (bytes_eq name (codes "cbndv-2pc")) Cbndv2pc refl None none_seven))))))
+
+protocol_allowed : (ms : Members) (m : Protocol) → protocol_row ms ≡ Ok m → is_causal m ≡ false
+protocol_allowed ms m e =
+    let value = gave (needed key.Protocol ms) _ m e in
+    let name = gave (tested key.Protocol (is_text value.value) true true (text_in value.value)) _ m value.after in
+    named_seven name.value m name.after
 
 medium_allowed : (ms : Members) (m : Medium) → medium_row ms ≡ Ok m → is_medium_built m ≡ true
 medium_allowed ms m e =
@@ -85,26 +128,58 @@ record_short text = ⊎_elim
     (λ long. rw long (omega arith))
     (cases_Bool (nat_le (length text) 128))
 
-records_short : (ds : List Data) → All (λ (bytes : List ℕ). length bytes ≤ 64) (map input_record_of ds)
-records_short [] = All-nil _
-records_short (d ∷ ds) = All-cons (λ (bytes : List ℕ). length bytes ≤ 64) (input_record_of d) (map input_record_of ds) (record_short (text_in d)) (records_short ds)
+-- a digit is below 16, so a byte of two is below 256
+abbrev IfBelow : ℕ → Option ℕ → Type 0
+IfBelow bound o = IfSome o (λ v. v < bound)
 
-lists_short : (ds : List Data) → All (All (λ (bytes : List ℕ). length bytes ≤ 64)) (map (λ records. map input_record_of (items_in records)) ds)
-lists_short [] = All-nil _
-lists_short (d ∷ ds) = All-cons (All (λ (bytes : List ℕ). length bytes ≤ 64)) (map input_record_of (items_in d)) (map (λ records. map input_record_of (items_in records)) ds) (records_short (items_in d)) (lists_short ds)
+digit_below : (c : ℕ) → IfBelow 16 (value_of c)
+digit_below c = ⊎_elim
+    (λ so. rw so (let parts = and_parts (nat_le 48 c) (nat_le c 57) so in let low = leb-true 48 c parts.0 in let high = leb-true c 57 parts.1 in omega (arith, low, high)))
+    (λ other. rw other (⊎_elim
+    (λ so. rw so (let parts = and_parts (nat_le 97 c) (nat_le c 102) so in let low = leb-true 97 c parts.0 in let high = leb-true c 102 parts.1 in omega (arith, low, high)))
+    (λ none. rw none tt)
+    (cases_Bool (nat_le 97 c && nat_le c 102))))
+    (cases_Bool (nat_le 48 c && nat_le c 57))
 
-none_short : (n : ℕ) → All (All (λ (bytes : List ℕ). length bytes ≤ 64)) (replicate n [])
-none_short n = All-replicate (All (λ (bytes : List ℕ). length bytes ≤ 64)) n [] (All-nil (λ (bytes : List ℕ). length bytes ≤ 64))
+byte_below : (high low : Option ℕ) → IfBelow 16 high → IfBelow 16 low → IfBelow 256 (byte_of_digits high low)
+byte_below None low h l = tt
+byte_below (Some a) None h l = tt
+byte_below (Some a) (Some b) h l = omega (arith, h, l)
 
-records_allowed : (ms : Members) (guests : ℕ) (inputs : List (List (List ℕ))) → inputs_row guests ms ≡ Ok inputs → All (All (λ (bytes : List ℕ). length bytes ≤ 64)) inputs
+before_below : (b : Option ℕ) (rest : Option (List ℕ)) → IfBelow 256 b → AllBelow (2 ^ 8) (text_or_empty rest) → AllBelow (2 ^ 8) (text_or_empty (byte_before b rest))
+before_below (Some b) (Some bytes) one all = (one, all)
+before_below (Some b) None one all = tt
+before_below None rest one all = tt
+
+hex_below : (text : List ℕ) → AllBelow (2 ^ 8) (text_or_empty (bytes_of_hex text))
+hex_below [] = tt
+hex_below (c ∷ []) = tt
+hex_below (high ∷ low ∷ text) = before_below (byte_of_digits (value_of high) (value_of low)) (bytes_of_hex text) (byte_below (value_of high) (value_of low) (digit_below high) (digit_below low)) (hex_below text)
+
+record_below : (text : List ℕ) → AllBelow (2 ^ 8) (text_or_empty (record_in text))
+record_below text = ⊎_elim (λ short. rw short (hex_below text)) (λ long. rw long tt) (cases_Bool (nat_le (length text) 128))
+
+records_right : (ds : List Data) → AllByRecursion IsRecord (map input_record_of ds)
+records_right [] = tt
+records_right (d ∷ ds) = ((record_short (text_in d), record_below (text_in d)), records_right ds)
+
+lists_right : (ds : List Data) → AllByRecursion (AllByRecursion IsRecord) (map (λ records. map input_record_of (items_in records)) ds)
+lists_right [] = tt
+lists_right (d ∷ ds) = (records_right (items_in d), lists_right ds)
+
+none_right : (n : ℕ) → AllByRecursion (AllByRecursion IsRecord) (replicate n [])
+none_right zero = tt
+none_right (suc n) = (tt, none_right n)
+
+records_allowed : (ms : Members) (guests : ℕ) (inputs : List (List (List ℕ))) → inputs_row guests ms ≡ Ok inputs → AllByRecursion (AllByRecursion IsRecord) inputs
 records_allowed ms guests inputs e = at (at_key key.Inputs ms) e
   where
     at : (found : Option Data) → optional (inputs_said guests None) (λ d. tested key.Inputs (is_array_of (is_array_of is_text) d) (are_inputs_few d) (are_inputs_right guests d)
-        (inputs_said guests (Some (items_in d)))) found ≡ Ok inputs → All (All (λ (bytes : List ℕ). length bytes ≤ 64)) inputs
-    at None e = let is : replicate guests [] ≡ inputs = cc in subst (All (All (λ (bytes : List ℕ). length bytes ≤ 64))) is (none_short guests)
+        (inputs_said guests (Some (items_in d)))) found ≡ Ok inputs → AllByRecursion (AllByRecursion IsRecord) inputs
+    at None e = let is : replicate guests [] ≡ inputs = cc in subst (AllByRecursion (AllByRecursion IsRecord)) is (none_right guests)
     at (Some d) e =
         let p = passed key.Inputs (is_array_of (is_array_of is_text) d) (are_inputs_few d) (are_inputs_right guests d) (inputs_said guests (Some (items_in d))) inputs e in
-        subst (All (All (λ (bytes : List ℕ). length bytes ≤ 64))) p.said_is (lists_short (items_in d))
+        subst (AllByRecursion (AllByRecursion IsRecord)) p.said_is (lists_right (items_in d))
 
 rows_allowed : (ms : Members) (plan : Plan) → rows ms ≡ Ok plan → IsAllowed plan
 rows_allowed ms plan e =
@@ -122,6 +197,7 @@ rows_allowed ms plan e =
     let stopped = stops_allowed medium.value (length guests.value) counted.0 ms stops.value stops.first in
     let is = said_is _ plan stops.after in
     rw (← is) (record {
+      seven = protocol_allowed ms protocol.value protocol.first;
       medium = medium_allowed ms medium.value medium.first;
       memory_least = sized.0;
       memory_most = sized.1;

@@ -1,12 +1,15 @@
 -- What holds of each plan that is read.
-use Rattle.std.specs.Prelude.{◌≡◌, ◌≤◌, ◌<◌, ◌^◌, ◌%◌, ℕ, true, All, Option, None, Some, length}
+use Rattle.std.specs.Prelude.{◌≡◌, ◌≤◌, ◌<◌, ◌^◌, ◌%◌, ℕ, false, true, All, List, Option, None, Some, length}
+use Rattle.std.specs.List.{AllByRecursion}
 use Rattle.dc_limits.specs.declared.bounds.TheConstants.{ENTRIES, INPUT_BYTES}
 use Rattle.dc_limits.specs.declared.sizes.TheConstants.{PROCESSES}
 use Rattle.dc_media.specs.declared.planned.PlannedStop.{PlannedStop}
 use Rattle.dc_plan.specs.Built.{is_medium_built}
 use Rattle.dc_plan.specs.Plans.{Plan, Source, InFile, FromSeed}
 use Rattle.dc_plan.specs.declared.plan.Medium.{Medium}
+use Rattle.dc_protocols.specs.Rules.{is_causal}
 use Rattle.dc_plan.specs.declared.plan.Medium.TheVariants as medium
+use Rattle.dc_words.specs.Words.{AllBelow}
 
 -- a file, or up to a million turns from a seed below 2 ^ 63
 abbrev pub IsSourceAllowed : Source → Type 0
@@ -28,8 +31,13 @@ pub record IsStopAllowed (medium : Medium) (guests : ℕ) (stop : PlannedStop) :
   pub keep : stop.tear.keep ≤ 4000000000
   pub fill : MayFill medium stop.tear.fill
 
+-- what one request for input hands over: so many bytes at most
+abbrev pub IsRecord : List ℕ → Type 0
+IsRecord bytes = (length bytes ≤ INPUT_BYTES) × AllBelow (2 ^ 8) bytes
+
 -- a plan that is within every bound
 pub record IsAllowed (plan : Plan) : Type 0 where
+  pub seven : is_causal plan.protocol ≡ false
   pub medium : is_medium_built plan.medium ≡ true
   pub memory_least : 65536 ≤ plan.memory
   pub memory_most : plan.memory ≤ 1048576
@@ -37,7 +45,7 @@ pub record IsAllowed (plan : Plan) : Type 0 where
   pub guests_least : 1 ≤ length plan.guests
   pub guests_most : length plan.guests ≤ PROCESSES
   pub inputs : length plan.inputs ≡ length plan.guests
-  pub records : All (All (λ bytes. length bytes ≤ INPUT_BYTES)) plan.inputs
+  pub records : AllByRecursion (AllByRecursion IsRecord) plan.inputs
   pub schedule : IsSourceAllowed plan.schedule
   pub stops : All (IsStopAllowed plan.medium (length plan.guests)) plan.stops
   pub stops_most : length plan.stops ≤ 1000

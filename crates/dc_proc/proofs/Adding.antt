@@ -25,6 +25,7 @@ module _ (S : System Guest) (p : ℕ) (answers : List Answer) (a : Answer) where
       kernel_is = subst (λ (l : Local Guest). IsKernelAt S.guests.count p s.position l is.0.words is.0.kernel) (before s.position h) is.2.kernel_is;
       first = is.2.first;
       log_is = is.2.log_is;
+      number_is = is.2.number_is;
     },
   )
 
@@ -36,6 +37,7 @@ module _ (S : System Guest) (p : ℕ) (answers : List Answer) (a : Answer) where
     own_is = is.own_is;
     left_is = is.left_is;
     based_is = λ s less. is.based_is s less ∙ ap (λ (l : Local Guest). l.received s) (before st.older.position (let f = go.from in let w = go.within in omega arith));
+    number_is = is.number_is;
   }
 
   process_more : (st : Status) (m : Option (List ℕ)) (h : Held) → IsGoing answers st → IsProcess S p answers st m h → IsProcess S p (a ∷ answers) st m h

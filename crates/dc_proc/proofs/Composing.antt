@@ -11,7 +11,7 @@ use Rattle.dc_proc.proofs.Links.{first_small, trimmed_link}
 use Rattle.dc_proc.proofs.Saving.{stands_later}
 use Rattle.dc_proc.specs.Processes.{Held, IsAt, IsLinkOf, IsSavedAs, Stands}
 use Rattle.dc_proc.specs.Worlds.{HasLearned, IsUp, Seen, WorldStands, others_of}
-use Rattle.dc_protocols.specs.Rules.{is_global}
+use Rattle.dc_protocols.specs.Rules.{is_joint}
 use Rattle.dc_recovery.specs.Core.{Core, Status, learned}
 use Rattle.dc_recovery.specs.Systems.{System}
 
@@ -47,6 +47,7 @@ module _ (S : System Guest) (p : ℕ) (answers : List Answer) (later : ℕ → �
     own_is = same.own_is;
     left_is = same.left_is;
     based_is = same.based_is;
+    number_is = same.number_is;
   }
 
 -- from one call on process p, which left u of it, to the world of the next core
@@ -60,8 +61,8 @@ module _ (S : System Guest) (c d : Core) (seen seen2 : ℕ → Seen) (numbers fe
     (up_is : st.up ≡ true → IsAt S p answers st u.words u.held × ((q : ℕ) → q < S.guests.count → slice_index u.held.others q ≤ others_of S.guests d p q))
     (store_is : (others : ℕ → ℕ) × ((q : ℕ) → q < S.guests.count → others q ≤ others_of S.guests d p q) × ((n : ℕ) → fewer n → Stands S.guests p answers others st (leaves2 p n)))
     (stores_stay : (q : ℕ) → p ≢ q → (n : ℕ) → fewer n → (r : Reading) → leaves2 q n r → leaves q n r)
-    -- where all commit together, jointly all images stand for older saves or all for newer ones
-    (joint_is : is_global S.protocol ≡ true → (n : ℕ) → fewer n → (x : ℕ → Reading) → ((q : ℕ) → q < S.guests.count → leaves2 q n (x q))
+    -- where all fall together, jointly all images stand for older saves or all for newer ones
+    (joint_is : is_joint S.protocol ≡ true → (n : ℕ) → fewer n → (x : ℕ → Reading) → ((q : ℕ) → q < S.guests.count → leaves2 q n (x q))
     → ((q : ℕ) → q < S.guests.count → IsSavedAs S.guests q (own q d.acts) (others_of S.guests d q) (d.procs q).older (x q))
     ⊎ ((q : ℕ) → q < S.guests.count → IsSavedAs S.guests q (own q d.acts) (others_of S.guests d q) (d.procs q).newer (x q)))
     -- then each process that is up learned

@@ -10,7 +10,7 @@ use Rattle.dc_model.specs.declared.entry.Entry.{Entry}
 use Rattle.dc_proc.proofs.Composing.{world_next}
 use Rattle.dc_proc.specs.Processes.{IsAt, IsSavedAs, Stands}
 use Rattle.dc_proc.specs.Worlds.{HasLearned, Narrow, Seen, WorldStands, others_of}
-use Rattle.dc_protocols.specs.Rules.{is_global}
+use Rattle.dc_protocols.specs.Rules.{is_joint}
 use Rattle.dc_recovery.proofs.Given.{IsGiven}
 use Rattle.dc_recovery.proofs.Holding.{rise_learned, rise_own_none, rise_own_with}
 use Rattle.dc_recovery.proofs.Linked.{learned_later}
@@ -26,7 +26,7 @@ use Rattle.dc_recovery.specs.Systems.{IsSound, System}
 use Rattle.dc_recovery.specs.Turned.{after_fall, after_power, after_rise, after_turn}
 
 -- each process commits by itself; the world stands for a core where the invariant holds
-module _ (S : System Guest) (sound : IsSound S) (alone : is_global S.protocol ≡ false) (schedule : List Entry) (t : ℕ) (c : Core) (now : Holds S schedule t c)
+module _ (S : System Guest) (sound : IsSound S) (alone : is_joint S.protocol ≡ false) (schedule : List Entry) (t : ℕ) (c : Core) (now : Holds S schedule t c)
     (seen seen2 : ℕ → Seen) (numbers : ℕ → Type 0) (leaves leaves2 : ℕ → ℕ → Reading → Type 0) (world : WorldStands S c seen numbers leaves) (p : ℕ) (u : Seen)
     (stay : (q : ℕ) → p ≢ q → (n : ℕ) → numbers n → (r : Reading) → leaves2 q n r → leaves q n r) where
   -- a turn of a process that is up, whole or stopped: the call knows of the others what was known before
@@ -60,15 +60,15 @@ module _ (S : System Guest) (sound : IsSound S) (alone : is_global S.protocol �
       → WorldStands S (after_rise S c p k) seen2 numbers leaves2
   world_rise down k up_is small store_is learns = world_next S c (after_rise S c p k) seen seen2 numbers numbers leaves leaves2 p u
       (oldest (reach S p (own p c.acts) (save_of k (c.procs p))) (own p c.acts)) (risen (save_of k (c.procs p))) world (λ n is. is)
-      (rise_own_with S sound schedule t c now p down k p (with_self S.protocol p)) (each_yes S.protocol p (λ x. risen (save_of k x)) c.procs p (with_self S.protocol p))
-      (λ q ne. rise_own_none S sound schedule t c now p down k q (with_none S.protocol p q alone ne)) (λ q ne. each_no S.protocol p (λ x. risen (save_of k x)) c.procs q (with_none S.protocol p q alone ne))
+      (rise_own_with S sound schedule t c now p down k p (with_self S.protocol p)) (each_yes (is_with S.protocol p) (λ x. risen (save_of k x)) c.procs p (with_self S.protocol p))
+      (λ q ne. rise_own_none S sound schedule t c now p down k q (with_none S.protocol p q alone ne)) (λ q ne. each_no (is_with S.protocol p) (λ x. risen (save_of k x)) c.procs q (with_none S.protocol p q alone ne))
       grows (λ on. (up_is, λ q h. let a = small q h in let b = grows q p in omega arith)) (others_of S.guests c p, (λ q h. grows q p), store_is) stay (λ g. absurd (true≢false (sym g ∙ alone))) learns
     where
       grows : (q r : ℕ) → learned S.guests c q r ≤ learned S.guests (after_rise S c p k) q r
       grows q r = rise_learned S sound schedule t c now p down k q r
 
 -- a stop of p between turns: its store stands for what it stood for
-module _ (S : System Guest) (alone : is_global S.protocol ≡ false) (c : Core) (p : ℕ) (seen : ℕ → Seen) (numbers : ℕ → Type 0) (leaves leaves2 : ℕ → ℕ → Reading → Type 0)
+module _ (S : System Guest) (alone : is_joint S.protocol ≡ false) (c : Core) (p : ℕ) (seen : ℕ → Seen) (numbers : ℕ → Type 0) (leaves leaves2 : ℕ → ℕ → Reading → Type 0)
     (world : WorldStands S c seen numbers leaves) (narrow : Narrow numbers leaves leaves2) where
   abbrev f : Core
   f = after_fall S.protocol c p

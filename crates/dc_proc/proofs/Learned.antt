@@ -65,6 +65,7 @@ module _ (old new : Held) (q known : ℕ) (kernel_is : new.kernel ≡ record old
       own_is = ap (λ (h : Held). h.own) rest ∙ is.own_is;
       left_is = ap (λ (h : Held). h.log_left) rest ∙ is.left_is;
       based_is = λ s less. ap (λ (h : Held). slice_index h.based s) rest ∙ is.based_is s less;
+      number_is = ap (λ (k : Kernel). k.commit) kernel_is ∙ is.number_is;
     }
 
     pub process_known : (memory : Option (List ℕ)) → IsProcess S p answers st memory old → IsProcess S p answers st memory new

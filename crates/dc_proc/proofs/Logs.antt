@@ -23,7 +23,7 @@ module _ (G : Guests Guest) (p : ℕ) (answers : List Answer) (others : ℕ → 
   saved_logged s leaves r only (state, there, is) = let b = only (Ok state) there in (
     record { words = b.0.words; kernel = b.0.kernel; log = b.0.log ++ rec ∷ [] },
     is ∙ ap (λ (x : State). Ok (with_record x rec)) (ap (state_in state) b.1),
-    record { kernel_ok = b.2.kernel_ok; kernel_is = b.2.kernel_is; first = b.2.first; log_is = map_more logged_of b.0.log rec ∙ ap (λ l. l ++ logged_of rec ∷ []) b.2.log_is },
+    record { kernel_ok = b.2.kernel_ok; kernel_is = b.2.kernel_is; first = b.2.first; log_is = map_more logged_of b.0.log rec ∙ ap (λ l. l ++ logged_of rec ∷ []) b.2.log_is; number_is = b.2.number_is },
   )
 
   -- where both saves are one
@@ -51,6 +51,7 @@ module _ (S : System Guest) (p : ℕ) (answers : List Answer) (st : Status) (h :
     own_is = is.own_is;
     left_is = let e = is.left_is in let l = length-append st.older.log (logged_of rec ∷ []) in omega (arith, e, l, less);
     based_is = is.based_is;
+    number_is = is.number_is;
   })
 
   pub over_logged : (old new : Option (List ℕ)) (before leaves : Reading → Type 0) (left : ℕ) (h2 : Held) → IsOver S p answers st old h before → h2 ≡ record h { log_left = left } → left + 1 ≡ h.log_left

@@ -7,12 +7,14 @@ use Rattle.dc_events.specs.declared.event.Next.{Next}
 use Rattle.dc_guest.specs.Answers.{effect_of}
 use Rattle.dc_guest.specs.Guest.{Guest, after_answer, after_next, event_of, machine_over, next_of, over}
 use Rattle.dc_guest.specs.declared.effect.Effect.{Effect}
+use Rattle.dc_guest.specs.declared.effect.Effect.TheVariants.{Nothing, Sends, Shows}
 use Rattle.dc_kernel.specs.Kernels.{Kernel}
 use Rattle.dc_kernel.specs.declared.status.Status.{Status as KernelStatus}
 use Rattle.dc_kernel.specs.declared.status.Status.TheVariants.{Running, Exited, Trapped}
 use Rattle.dc_links.specs.Links.{link_to}
 use Rattle.dc_media.specs.Told.{Becomes}
 use Rattle.dc_model.specs.Guests.{Answer, Event, Guests}
+use Rattle.dc_model.specs.Guests.Answer.{InputNext, ReceiveFrom}
 use Rattle.dc_model.specs.Process.{Local, at_position, comes, local, moved, posted, shows, took_from, took_input}
 use Rattle.dc_proc.proofs.Happening.{answer_place, answer_received, answer_rest, effect_rest, event_links, event_visible, map_drop, status_is, there_within}
 use Rattle.dc_proc.proofs.Ruling.{event_is, guest_is}
@@ -28,6 +30,17 @@ use Rattle.dc_recovery.specs.Parts.{passed, sets_own}
 use Rattle.dc_recovery.specs.Saves.{answer_at}
 use Rattle.dc_recovery.specs.Systems.{System}
 use Rattle.dc_rv32.specs.Machine.{machine_of}
+
+-- an event leaves the number of the last commit
+answer_commit : (a : Answer) (k : Kernel) → (with_answer a k).commit ≡ k.commit
+answer_commit (InputNext bytes) k = refl
+answer_commit (ReceiveFrom s message) k = refl
+answer_commit _ k = refl
+
+effect_commit : (others : List ℕ) (e : Effect) (k : Kernel) → (with_effect others e k).commit ≡ k.commit
+effect_commit others Nothing k = refl
+effect_commit others (Shows body) k = refl
+effect_commit others (Sends q message) k = refl
 
 -- a process that has not ended runs
 pub running : (status : KernelStatus) → has_ended status ≡ false → status ≡ Running
@@ -123,6 +136,7 @@ module _ (images : List Image) (inputs : List (List (List ℕ))) (pr : Protocol)
       own_is = own_is ∙ ap (λ b. b || sets_own log replay a) is.own_is;
       left_is = left_same ∙ is.left_is;
       based_is = λ s less. ap (λ xs. slice_index xs s) based_same ∙ is.based_is s less;
+      number_is = ap (λ (k : Kernel). k.commit) kernel_is ∙ effect_commit u.others.items e k1 ∙ answer_commit a u.kernel ∙ is.number_is;
     }
 
   process_next : (old new : Option (List ℕ)) → IsProcess S p answers st old (held u) → IfSome old (λ w. n ≡ next_of (over u.guest w)) → IfSome old (λ w. e ≡ effect_of (event_of n (machine_over u.guest w)))

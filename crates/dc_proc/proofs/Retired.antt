@@ -1,26 +1,27 @@
 -- An instruction that retires: its turn asks for nothing but the event.
-use Rattle.std.proofs.Common.{◌≡◌, ◌∙◌, ℕ, List, false, true, Option, None, Some, IfSome, refl, sym, ap, subst}
+use Rattle.std.proofs.Common.{◌≡◌, ◌∙◌, ◌&&◌, if◌then◌else◌, ℕ, List, false, true, Option, None, Some, IfSome, refl, sym, ap, subst}
 use Rattle.std.proofs.lemmas.Bool.{true≢false}
 use Rattle.dc_checkpoint.specs.States.{Reading}
 use Rattle.dc_elf.specs.Images.{Image}
 use Rattle.dc_events.specs.declared.event.Kind.TheVariants as kind
 use Rattle.dc_events.specs.declared.event.Next.TheVariants as next
 use Rattle.dc_guest.specs.Answers.{effect_of, may_answer}
-use Rattle.dc_guest.specs.Guest.{Bare, Guest, event_of, machine_over, next_of, over}
+use Rattle.dc_guest.specs.Guest.{Bare, Guest, event_of, machine_over, next_of, over, stores_next, stores_of}
 use Rattle.dc_guest.specs.declared.effect.Effect.TheVariants.{Nothing}
 use Rattle.dc_model.specs.Guests.{Answer}
 use Rattle.dc_model.specs.Guests.Answer.{Plain, Clock, Random, InputNone, InputNext, InputEnd, ReceiveNone, ReceiveFrom}
 use Rattle.dc_model.specs.Guests.Event.{AtInternal}
-use Rattle.dc_proc.proofs.Ruling.{event_is}
+use Rattle.dc_model.specs.Process.{at_position}
+use Rattle.dc_proc.proofs.Ruling.{event_is, guest_is}
 use Rattle.dc_proc.proofs.Stopped.{over_as}
 use Rattle.dc_proc.specs.Carried.{system}
 use Rattle.dc_proc.specs.Processes.{IsAt, IsOver, Stands}
 use Rattle.dc_proc.specs.Turns.{IsBased, IsStopped, Written}
 use Rattle.dc_proc.specs.Ups.{IsWhole, held}
 use Rattle.dc_proc.specs.declared.up.Up.{Up}
-use Rattle.dc_protocols.specs.Rules.{is_global, rule_of}
+use Rattle.dc_protocols.specs.Rules.{is_joint, rule_of}
 use Rattle.dc_protocols.specs.declared.protocol.Protocol.{Protocol}
-use Rattle.dc_protocols.specs.declared.protocol.Protocol.TheVariants.{Cand, CandLog, Cpvs, Cbndvs, CbndvsLog, Cpv2pc, Cbndv2pc}
+use Rattle.dc_protocols.specs.declared.protocol.Protocol.TheVariants.{Cand, CandLog, Cpvs, Cbndvs, CbndvsLog, Cpv2pc, Cbndv2pc, Cbndv2pcCausal}
 use Rattle.dc_protocols.specs.declared.protocol.Rule.{Rule}
 use Rattle.dc_recovery.specs.Alone.{answers_alone, event_alone, status_alone, without_commits}
 use Rattle.dc_recovery.specs.Answers.{replays, since}
@@ -28,6 +29,7 @@ use Rattle.dc_recovery.specs.Core.{Status}
 use Rattle.dc_recovery.specs.Parts.{Place, left_of, may_store, passed, sets_own}
 use Rattle.dc_recovery.specs.Parts.Place.{Nowhere, InEvent}
 use Rattle.dc_recovery.specs.Systems.{System, kind_at}
+use Rattle.dc_rv32.specs.Machine.{stores}
 use Rattle.dc_recovery.specs.Turned.{is_whole}
 
 -- what tells nothing is all that it may be answered
@@ -45,7 +47,7 @@ plain_is (ReceiveFrom s message) e = absurd (true≢false (sym e))
 abbrev none : Rule
 none = record { before = false; log = false; after = false }
 
-nothing_asked : (pr : Protocol) (st : Status) → without_commits (is_global pr) (rule_of pr kind.Internal (since 64 AtInternal st false false)) ≡ none
+nothing_asked : (pr : Protocol) (st : Status) → without_commits (is_joint pr) (rule_of pr kind.Internal (since 64 AtInternal st false false)) ≡ none
 nothing_asked Cand st = refl
 nothing_asked CandLog st = refl
 nothing_asked Cpvs st = refl
@@ -53,6 +55,7 @@ nothing_asked Cbndvs st = refl
 nothing_asked CbndvsLog st = refl
 nothing_asked Cpv2pc st = refl
 nothing_asked Cbndv2pc st = refl
+nothing_asked Cbndv2pcCausal st = refl
 
 pub told_nothing : (o : Option (List ℕ)) (g : Bare) → IfSome o (λ w. Nothing ≡ effect_of (event_of next.Retire (machine_over g w)))
 told_nothing None g = tt
@@ -67,7 +70,7 @@ module _ (images : List Image) (inputs : List (List (List ℕ))) (pr : Protocol)
   internal = event_is images inputs pr p answers st words u whole is runs Plain ∙ ap (λ n. event_of n (machine_over u.guest words)) retires
 
   status_retired : (w : Place) → status_alone S p answers st Plain w ≡ left_of none false (record { position = st.position; answer = Plain }) st w
-  status_retired w = ap (λ e. left_of (without_commits (is_global pr) (rule_of pr (kind_at e) (since 64 e st false false))) (replays e st) (record { position = st.position; answer = Plain }) st w) internal
+  status_retired w = ap (λ e. left_of (without_commits (is_joint pr) (rule_of pr (kind_at e) (since 64 e st false false))) (replays e st) (record { position = st.position; answer = Plain }) st w) internal
       ∙ ap (λ (r : Rule). left_of r false (record { position = st.position; answer = Plain }) st w) (nothing_asked pr st)
 
   abbrev more : List Answer
@@ -75,12 +78,14 @@ module _ (images : List Image) (inputs : List (List (List ℕ))) (pr : Protocol)
 
   module _ (a : Answer) (plain : a ≡ Plain) where
     -- it was stopped
-    pub stopped_retiring : (others : ℕ → ℕ) (leaves : Reading → Type 0) (acts : Written) (based : List ℕ) → Stands S.guests p more others st leaves → acts.after ≡ acts.more
+    pub stopped_retiring : stores (machine_over u.guest words) ≡ true → (others : ℕ → ℕ) (leaves : Reading → Type 0) (acts : Written) (based : List ℕ) → Stands S.guests p more others st leaves → acts.after ≡ acts.more
         → IsBased S (record { p = p; answers = more; st = st }) based → IsStopped S (record { p = p; answers = answers; st = st }) a others leaves acts based
-    stopped_retiring others leaves acts based stood written was = subst (λ b. IsStopped S (record { p = p; answers = answers; st = st }) b others leaves acts based) (sym plain) (record {
+    stopped_retiring storing others leaves acts based stood written was = subst (λ b. IsStopped S (record { p = p; answers = answers; st = st }) b others leaves acts based) (sym plain) (record {
       place = InEvent;
       somewhere = λ e. true≢false (sym (ap is_whole e));
-      may = ap (λ e. may_store e Plain) internal;
+      may = ap (λ e. stores_of (at_position S.guests p st.position answers).machine Plain && may_store e Plain) internal ∙ ap (λ (g : Guest). stores_of g Plain && true) (guest_is images inputs pr p answers st words u whole is)
+          ∙ ap (λ b. (if b then false else stores_next (next_of (over u.guest words)) Plain (machine_over u.guest words)) && true) runs
+          ∙ ap (λ n. stores_next n Plain (machine_over u.guest words) && true) retires ∙ ap (λ b. b && true) storing;
       stands = subst (λ (s : Status). Stands S.guests p more others s leaves) (sym (status_retired InEvent)) stood;
       written = written;
       based_is = subst (λ (s : Status). IsBased S (record { p = p; answers = more; st = s }) based) (sym (status_retired InEvent)) was;

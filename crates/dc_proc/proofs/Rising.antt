@@ -83,6 +83,10 @@ module _ (S : System Guest) (room : S.log_room ≡ 64) (p : ℕ) (answers : List
     first_at : (r : ℕ) → r < G.count → slice_index h.others r ≡ number_of_first (link_to saved.kernel.links r)
     first_at r less = others_are r (subst (λ n. r < n) (sym count_is) less)
 
+    -- the number of the save is that of its kernel
+    number_kept : saved.kernel.commit ≡ s.number
+    number_kept = ap (λ (z : Kernel). z.commit) (sym same) ∙ is.number_is
+
     pub at_words : IsAt S p kept (risen s) x.words h
     at_words = record {
       kernel_is = subst (λ z. IsKernelAt G.count p s.position (at_position G p s.position kept) x.words z) (sym kernel_is) kernel_at;
@@ -91,6 +95,7 @@ module _ (S : System Guest) (room : S.log_room ≡ 64) (p : ℕ) (answers : List
       own_is = own_is;
       left_is = let e = ap (λ l. length l) log_same in let f = ap (λ l. length l) is.log_is in let l = mapped x.log in omega (arith, left_is, e, f, l, room);
       based_is = λ r less. based_is r (subst (λ n. r < n) (sym count_is) less) ∙ kernel_at.received r less;
+      number_is = ap (λ (z : Kernel). z.commit) kernel_is ∙ number_kept;
     }
 
     memory_is : memory ≡ Some x.words
@@ -116,6 +121,7 @@ module _ (S : System Guest) (room : S.log_room ≡ 64) (p : ℕ) (answers : List
           kernel_is = kernel_at;
           first = λ r less. let e = first_at r less in omega (arith, e);
           log_is = is.log_is;
+          number_is = number_kept;
         },
       );
     }

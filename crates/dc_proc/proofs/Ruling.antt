@@ -19,12 +19,13 @@ use Rattle.dc_proc.specs.Processes.{IsAt, IsGoing, has_ended, logged_of}
 use Rattle.dc_proc.specs.Turns.{is_none, makes_eight}
 use Rattle.dc_proc.specs.Ups.{IsWhole, held}
 use Rattle.dc_proc.specs.declared.up.Up.{Up}
-use Rattle.dc_protocols.specs.Rules.{at_inputs, is_global, rule_of}
+use Rattle.dc_protocols.specs.Rules.{at_inputs, is_joint, rule_of}
 use Rattle.dc_protocols.specs.declared.protocol.Protocol.{Protocol}
 use Rattle.dc_protocols.specs.declared.protocol.Since.{Since}
 use Rattle.dc_recovery.specs.Alone.{event_alone, rule_alone, without_commits}
-use Rattle.dc_recovery.specs.Answers.{is_empty_log, makes_most, replays, since}
+use Rattle.dc_recovery.specs.Answers.{makes_most, replays, since}
 use Rattle.dc_recovery.specs.Core.{Status}
+use Rattle.dc_recovery.specs.Saves.{is_empty_log}
 use Rattle.dc_recovery.specs.Systems.{System, kind_at}
 use Rattle.dc_rv32.specs.Machine.{Machine}
 
@@ -131,5 +132,5 @@ module _ (images : List Image) (inputs : List (List (List ℕ))) (pr : Protocol)
       asked_is any = ap (rule_of pr (kind_of (next_of (over u.guest words)))) (since_is any)
           ∙ ap (λ k. rule_of pr k (since 64 (event_alone S.guests p answers st a) st any (makes_most S p answers st a))) (sym (kind_is (next_of (over u.guest words)) (machine_over u.guest words)) ∙ ap kind_at (sym (event_is a)))
 
-      pub rule_is : without_commits (is_global pr) (rule_of pr (kind_of (next_of (over u.guest words))) (found false (kind_of (next_of (over u.guest words))))) ≡ rule_alone S p answers st a
-      rule_is = ap (without_commits (is_global pr)) (asked_is false)
+      pub rule_is : without_commits (is_joint pr) (rule_of pr (kind_of (next_of (over u.guest words))) (found false (kind_of (next_of (over u.guest words))))) ≡ rule_alone S p answers st a
+      rule_is = ap (without_commits (is_joint pr)) (asked_is false)

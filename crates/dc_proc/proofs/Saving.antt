@@ -8,7 +8,7 @@ use Rattle.dc_model.specs.Process.{at_position, local, oldest}
 use Rattle.dc_proc.proofs.Links.{first_small}
 use Rattle.dc_proc.specs.Processes.{Held, IsAt, IsKernelAt, IsSavedAs, Stands, reading_of}
 use Rattle.dc_recovery.specs.Core.{Status}
-use Rattle.dc_recovery.specs.Parts.{committed, save_now}
+use Rattle.dc_recovery.specs.Parts.{committed_as, save_as}
 use Rattle.dc_recovery.specs.Saves.{Save}
 use Rattle.dc_recovery.specs.Systems.{System}
 
@@ -23,6 +23,7 @@ save_moves G p answers more others later s r kept grows (x, reads, is) = (
     kernel_is = subst (λ (ds : List Answer). IsKernelAt G.count p s.position (local G p ds) x.words x.kernel) (sym kept) is.kernel_is;
     first = λ q h. let a = is.first q h in let b = grows q h in omega arith;
     log_is = is.log_is;
+    number_is = is.number_is;
   },
 )
 
@@ -54,7 +55,7 @@ module _ (S : System Guest) (p : ℕ) (answers : List Answer) (st : Status) (wor
 
   -- the state of its memory with that kernel and nothing logged is the save that a commit leaves
   pub save_committed : IsKernel S.guests.count p (record held.kernel { commit = number })
-      → IsSavedAs S.guests p answers (slice_index held.others) (save_now st) (reading_of (record { words = words; kernel = record held.kernel { commit = number }; log = [] }))
+      → IsSavedAs S.guests p answers (slice_index held.others) (save_as number st) (reading_of (record { words = words; kernel = record held.kernel { commit = number }; log = [] }))
   save_committed ok = (
     record { words = words; kernel = numbered; log = [] },
     refl,
@@ -63,12 +64,13 @@ module _ (S : System Guest) (p : ℕ) (answers : List Answer) (st : Status) (wor
       kernel_is = numbered_is;
       first = λ q h. first_small _ _ (slice_index held.others q) (is.kernel_is.links q h) (is.kept q h);
       log_is = refl;
+      number_is = refl;
     },
   )
 
   -- what it holds after it: nothing to read, own clear, an empty log, and what it had received
   pub at_committed : (based : List ℕ) → ((s : ℕ) → s < S.guests.count → slice_index based s ≡ slice_index held.kernel.received s)
-      → IsAt S p answers (committed st) words (record { kernel = record held.kernel { commit = number }; unread = []; own = false; log_left = S.log_room; based = based; others = held.others })
+      → IsAt S p answers (committed_as number st) words (record { kernel = record held.kernel { commit = number }; unread = []; own = false; log_left = S.log_room; based = based; others = held.others })
   at_committed based copied = record {
     kernel_is = numbered_is;
     kept = is.kept;
@@ -76,4 +78,5 @@ module _ (S : System Guest) (p : ℕ) (answers : List Answer) (st : Status) (wor
     own_is = refl;
     left_is = omega arith;
     based_is = λ s h. copied s h ∙ is.kernel_is.received s h;
+    number_is = refl;
   }

@@ -1,22 +1,22 @@
 -- A turn, where it was stopped and where it was not, is one of the theory.
-use Rattle.std.proofs.Common.{◌≡◌, ◌∙◌, ◌&&◌, ℕ, List, Bool, true, false, not, Option, None, Some, IfSome, refl, sym, ap, subst, nat_eq, slice_index}
+use Rattle.std.proofs.Common.{◌≡◌, ◌∙◌, ◌&&◌, ℕ, List, Bool, true, false, not, Option, None, Some, IfSome, refl, sym, ap, subst, nat_eq, slice_index, if◌then◌else◌}
 use Rattle.std.proofs.lemmas.Bool.{true≢false}
 use Rattle.dc_checkpoint.specs.States.{Reading}
 use Rattle.dc_elf.specs.Images.{Image}
 use Rattle.dc_events.specs.Kinds.{kind_of}
 use Rattle.dc_events.specs.declared.event.Kind.{Kind}
 use Rattle.dc_events.specs.declared.event.Next.{Next}
-use Rattle.dc_guest.specs.Guest.{Guest, event_of, machine_over, next_of, over}
+use Rattle.dc_guest.specs.Guest.{Guest, event_of, machine_over, next_of, over, stores_next, stores_of}
 use Rattle.dc_media.specs.Told.{Becomes}
 use Rattle.dc_model.specs.Guests.{Answer}
-use Rattle.dc_proc.proofs.Ruling.{event_is, replay_is, rule_is}
+use Rattle.dc_proc.proofs.Ruling.{event_is, guest_is, replay_is, rule_is}
 use Rattle.dc_proc.specs.Carried.{system}
 use Rattle.dc_proc.specs.Events.{IsSender}
 use Rattle.dc_proc.specs.Processes.{Held, IsAt, IsGoing, IsOver, Stands}
 use Rattle.dc_proc.specs.Turns.{IsBased, IsStopped, Written, is_none, makes_eight}
 use Rattle.dc_proc.specs.Ups.{IsWhole, held}
 use Rattle.dc_proc.specs.declared.up.Up.{Up}
-use Rattle.dc_protocols.specs.Rules.{at_inputs, is_global, rule_of}
+use Rattle.dc_protocols.specs.Rules.{at_inputs, is_joint, rule_of}
 use Rattle.dc_protocols.specs.declared.protocol.Protocol.{Protocol}
 use Rattle.dc_protocols.specs.declared.protocol.Rule.{Rule}
 use Rattle.dc_protocols.specs.declared.protocol.Since.{Since}
@@ -57,7 +57,7 @@ still P o None same is = tt
 still P None (Some a) same is = absurd same
 still P (Some b) (Some a) same is = subst P (sym same) is
 
--- where all commit together the rules of logs are the same
+-- where all fall together the rules of logs are the same
 log_with : (global : Bool) (rule : Rule) → (without_commits global rule).log ≡ rule.log
 log_with true rule = refl
 log_with false rule = refl
@@ -65,7 +65,7 @@ log_with false rule = refl
 module _ (images : List Image) (inputs : List (List (List ℕ))) (pr : Protocol) (p : ℕ) (answers : List Answer) (st : Status) (a : Answer) (words : List ℕ) (u : Up) (whole : IsWhole u)
     (is : IsAt (system images inputs pr) p answers st words (held u)) (runs : u.guest.ended ≡ false) (going : IsGoing answers st) (sender : IsSender u.kernel a)
     (next : Next) (kind : Kind) (asked : Rule) (replay : Bool) (next_is : next ≡ next_of (over u.guest words)) (kind_is : kind ≡ kind_of next)
-    (asked_is : asked ≡ without_commits (is_global pr) (rule_of pr kind (record { own = u.own; any = false; full = nat_eq u.log_left 0; eighth = makes_eight u.kernel.received u.based.items a; replay = at_inputs kind && not (is_none (held u).unread) })))
+    (asked_is : asked ≡ without_commits (is_joint pr) (rule_of pr kind (record { own = u.own; any = false; full = nat_eq u.log_left 0; eighth = makes_eight u.kernel.received u.based.items a; replay = at_inputs kind && not (is_none (held u).unread) })))
     (replay_found : replay ≡ (at_inputs kind && not (is_none (held u).unread))) where
   abbrev S : System Guest
   S = system images inputs pr
@@ -74,7 +74,7 @@ module _ (images : List Image) (inputs : List (List (List ℕ))) (pr : Protocol)
   kind_here = kind_is ∙ ap kind_of next_is
 
   pub rule_same : asked ≡ rule_alone S p answers st a
-  rule_same = asked_is ∙ ap (λ k. without_commits (is_global pr) (rule_of pr k (record { own = u.own; any = false; full = nat_eq u.log_left 0; eighth = makes_eight u.kernel.received u.based.items a; replay = at_inputs k && not (is_none (held u).unread) }))) kind_here
+  rule_same = asked_is ∙ ap (λ k. without_commits (is_joint pr) (rule_of pr k (record { own = u.own; any = false; full = nat_eq u.log_left 0; eighth = makes_eight u.kernel.received u.based.items a; replay = at_inputs k && not (is_none (held u).unread) }))) kind_here
       ∙ rule_is images inputs pr p answers st words u whole is runs a going sender
 
   pub replay_same : replay ≡ replays (event_alone S.guests p answers st a) st
@@ -113,11 +113,14 @@ module _ (images : List Image) (inputs : List (List (List ℕ))) (pr : Protocol)
       based_is = subst (λ (r : Rule). Based more (first_of r.before st) based) rule_same was;
     }
 
-    pub stopped_event : ((m : Machine) → may_store (event_of next m) a ≡ true) → Stands S.guests p more others (fallen (second_of asked.log x (first_of asked.before st))) leaves → acts.after ≡ acts.more → Based more (second_of asked.log x (first_of asked.before st)) based → Is
+    pub stopped_event : ((m : Machine) → (stores_next next a m && may_store (event_of next m) a) ≡ true) → Stands S.guests p more others (fallen (second_of asked.log x (first_of asked.before st))) leaves → acts.after ≡ acts.more → Based more (second_of asked.log x (first_of asked.before st)) based → Is
     stopped_event stores stood written was = record {
       place = InEvent;
       somewhere = λ e. true≢false (sym (ap is_whole e));
-      may = ap (λ e. may_store e a) (event_is images inputs pr p answers st words u whole is runs a) ∙ ap (λ n. may_store (event_of n (machine_over u.guest words)) a) (sym next_is) ∙ stores (machine_over u.guest words);
+      may = ap (λ (g : Guest). stores_of g a && may_store (event_alone S.guests p answers st a) a) (guest_is images inputs pr p answers st words u whole is)
+          ∙ ap (λ b. (if b then false else stores_next (next_of (over u.guest words)) a (machine_over u.guest words)) && may_store (event_alone S.guests p answers st a) a) runs
+          ∙ ap (λ e. stores_next (next_of (over u.guest words)) a (machine_over u.guest words) && may_store e a) (event_is images inputs pr p answers st words u whole is runs a)
+          ∙ ap (λ n. stores_next n a (machine_over u.guest words) && may_store (event_of n (machine_over u.guest words)) a) (sym next_is) ∙ stores (machine_over u.guest words);
       stands = subst (λ (r : Rule). Stands S.guests p more others (fallen (second_of r.log x (first_of r.before st))) leaves) rule_same stood;
       written = written;
       based_is = subst (λ (r : Rule). Based more (second_of r.log x (first_of r.before st)) based) rule_same was;
@@ -142,8 +145,8 @@ module _ (images : List Image) (inputs : List (List (List ℕ))) (pr : Protocol)
       (subst (λ (r : Rule). IsOver S p more (left_of r replay x st Nowhere) memory h leaves) rule_same over)
 
 -- a record is asked for at requests alone
-pub log_at_inputs : (pr : Protocol) (kind : Kind) (since : Since) (asked : Rule) → asked ≡ without_commits (is_global pr) (rule_of pr kind since) → asked.log ≡ true → at_inputs kind ≡ true
-log_at_inputs pr kind since asked asked_is due = log_unseen kind since pr (sym (log_with (is_global pr) (rule_of pr kind since)) ∙ ap (λ (r : Rule). r.log) (sym asked_is) ∙ due)
+pub log_at_inputs : (pr : Protocol) (kind : Kind) (since : Since) (asked : Rule) → asked ≡ without_commits (is_joint pr) (rule_of pr kind since) → asked.log ≡ true → at_inputs kind ≡ true
+log_at_inputs pr kind since asked asked_is due = log_unseen kind since pr (sym (log_with (is_joint pr) (rule_of pr kind since)) ∙ ap (λ (r : Rule). r.log) (sym asked_is) ∙ due)
 
 -- the log record is of this answer, where it is due
 pub record_is : (log : Bool) (l x : Logged) (st : Status) → (log ≡ true → l ≡ x) → second_of log l st ≡ second_of log x st

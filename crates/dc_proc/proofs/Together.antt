@@ -12,12 +12,12 @@ use Rattle.dc_proc.proofs.Composing.{at_learned, world_next}
 use Rattle.dc_proc.proofs.Saving.{save_moves}
 use Rattle.dc_proc.specs.Processes.{IsAt, IsSavedAs}
 use Rattle.dc_proc.specs.Worlds.{HasLearned, Narrow, SavesStand, Seen, StoresStand, WorldStands, others_of}
-use Rattle.dc_protocols.specs.Rules.{is_global}
+use Rattle.dc_protocols.specs.Rules.{is_joint}
 use Rattle.dc_recovery.proofs.Linked.{received_kept}
 use Rattle.dc_recovery.proofs.Parts.{each_yes, with_all}
 use Rattle.dc_recovery.proofs.Worlds.{oldest_kept, own_more_other}
-use Rattle.dc_recovery.specs.Core.{Core, Status, Which, learned, save_of}
-use Rattle.dc_recovery.specs.Parts.{at_one, committed, fallen, passed, risen, save_now, torn}
+use Rattle.dc_recovery.specs.Core.{Core, Status, Which, learned, save_of, untied}
+use Rattle.dc_recovery.specs.Parts.{at_one, committed, fallen, is_with, passed, risen, save_now, torn}
 use Rattle.dc_recovery.specs.Saves.{Save}
 use Rattle.dc_recovery.specs.Systems.{System}
 use Rattle.dc_recovery.specs.Turned.{after_rise, with_act}
@@ -44,7 +44,7 @@ module _ (S : System Guest) (c d : Core) (older newer : ℕ → Save) (numbers f
 
 -- a commit of all that was acknowledged: each image stands for the new save, and each process learned
 pub commit_acknowledged : (S : System Guest) (c : Core) (seen seen2 : ℕ → Seen) (numbers : ℕ → Type 0) (leaves2 : ℕ → ℕ → Reading → Type 0)
-    → let d : Core = record { acts = c.acts; lines = c.lines; procs = λ q. committed (c.procs q) } in
+    → let d : Core = record { acts = c.acts; lines = c.lines; procs = λ q. committed (c.procs q); ties = untied } in
     ((q s : ℕ) → learned S.guests c q s ≤ learned S.guests d q s)
     → ((q : ℕ) → q < S.guests.count → (c.procs q).up ≡ true
     → IsAt S q (own q c.acts) (committed (c.procs q)) (seen q).words (seen q).held × ((r : ℕ) → r < S.guests.count → slice_index (seen q).held.others r ≡ others_of S.guests c q r))
@@ -52,7 +52,7 @@ pub commit_acknowledged : (S : System Guest) (c : Core) (seen seen2 : ℕ → Se
     → ((q : ℕ) → q < S.guests.count → (c.procs q).up ≡ true → HasLearned S.guests.count (others_of S.guests d q) (seen q) (seen2 q))
     → WorldStands S d seen2 numbers leaves2
 commit_acknowledged S c seen seen2 numbers leaves2 grows are saved learns =
-    let d : Core = record { acts = c.acts; lines = c.lines; procs = λ q. committed (c.procs q) } in
+    let d : Core = record { acts = c.acts; lines = c.lines; procs = λ q. committed (c.procs q); ties = untied } in
     let moves : (q : ℕ) (r : Reading) → IsSavedAs S.guests q (own q c.acts) (others_of S.guests c q) (save_now (c.procs q)) r → IsSavedAs S.guests q (own q c.acts) (others_of S.guests d q) (save_now (c.procs q)) r =
     λ q r is. save_moves S.guests q (own q c.acts) (own q c.acts) (others_of S.guests c q) (others_of S.guests d q) (save_now (c.procs q)) r refl (λ s h. grows s q) is in record {
       each = λ q h on. record {
@@ -68,13 +68,13 @@ commit_acknowledged S c seen seen2 numbers leaves2 grows are saved learns =
 -- a commit of all that was refused: all are down; jointly all images stand for the old saves or all for the new
 pub commit_refused : (S : System Guest) (c : Core) (seen : ℕ → Seen) (numbers : ℕ → Type 0) (leaves2 : ℕ → ℕ → Reading → Type 0)
     → SavesStand S c (λ q. (c.procs q).older) (λ q. save_now (c.procs q)) numbers leaves2
-    → WorldStands S (record { acts = c.acts; lines = c.lines; procs = λ q. torn (c.procs q) }) seen numbers leaves2
+    → WorldStands S (record { acts = c.acts; lines = c.lines; procs = λ q. torn (c.procs q); ties = untied }) seen numbers leaves2
 commit_refused S c seen numbers leaves2 is = record { each = λ q h on. absurd (true≢false (sym on)); stores = record { one = is.one; all = is.all } }
 
 -- a stop of all: the stores stand for what they stood for
 pub all_fall : (S : System Guest) (c : Core) (seen : ℕ → Seen) (numbers : ℕ → Type 0) (leaves leaves2 : ℕ → ℕ → Reading → Type 0)
     → Narrow numbers leaves leaves2 → StoresStand S c numbers leaves
-    → WorldStands S (record { acts = c.acts; lines = c.lines; procs = λ q. fallen (c.procs q) }) seen numbers leaves2
+    → WorldStands S (record { acts = c.acts; lines = c.lines; procs = λ q. fallen (c.procs q); ties = untied }) seen numbers leaves2
 all_fall S c seen numbers leaves leaves2 narrow is = record {
   each = λ q h on. absurd (true≢false (sym on));
   stores = record {
@@ -84,7 +84,7 @@ all_fall S c seen numbers leaves leaves2 narrow is = record {
 }
 
 -- a recovery of all: one choice for all
-pub all_rise : (S : System Guest) (c : Core) (p : ℕ) (k : Which) (seen seen2 : ℕ → Seen) (numbers : ℕ → Type 0) (leaves2 : ℕ → ℕ → Reading → Type 0) → is_global S.protocol ≡ true
+pub all_rise : (S : System Guest) (c : Core) (p : ℕ) (k : Which) (seen seen2 : ℕ → Seen) (numbers : ℕ → Type 0) (leaves2 : ℕ → ℕ → Reading → Type 0) → is_joint S.protocol ≡ true
     → ((q s : ℕ) → learned S.guests c q s ≤ learned S.guests (after_rise S c p k) q s)
     → ((q : ℕ) → oldest (save_of k (c.procs q)).position (own q (after_rise S c p k).acts) ≡ oldest (save_of k (c.procs q)).position (own q c.acts))
     → ((q : ℕ) → q < S.guests.count → (n : ℕ) → numbers n → (r : Reading) → leaves2 q n r → IsSavedAs S.guests q (own q c.acts) (others_of S.guests c q) (save_of k (c.procs q)) r)
@@ -94,7 +94,7 @@ pub all_rise : (S : System Guest) (c : Core) (p : ℕ) (k : Which) (seen seen2 :
     → WorldStands S (after_rise S c p k) seen2 numbers leaves2
 all_rise S c p k seen seen2 numbers leaves2 g grows kept saved are learns =
     let d : Core = after_rise S c p k in
-    let procs_are : (q : ℕ) → d.procs q ≡ risen (save_of k (c.procs q)) = λ q. each_yes S.protocol p (λ st. risen (save_of k st)) c.procs q (with_all S.protocol p q g) in
+    let procs_are : (q : ℕ) → d.procs q ≡ risen (save_of k (c.procs q)) = λ q. each_yes (is_with S.protocol p) (λ st. risen (save_of k st)) c.procs q (with_all S.protocol p q g) in
     let moved : (q : ℕ) → q < S.guests.count → (n : ℕ) → numbers n → (r : Reading) → leaves2 q n r → IsSavedAs S.guests q (own q d.acts) (others_of S.guests d q) (d.procs q).older r =
     λ q h n counts r there. subst (λ (st : Status). IsSavedAs S.guests q (own q d.acts) (others_of S.guests d q) st.older r) (sym (procs_are q))
     (save_moves S.guests q (own q c.acts) (own q d.acts) (others_of S.guests c q) (others_of S.guests d q) (save_of k (c.procs q)) r (kept q) (λ s l. grows s q) (saved q h n counts r there)) in record {
@@ -114,7 +114,7 @@ module _ (S : System Guest) (t : ℕ) (c : Core) (run_now : IsRun S.guests c.act
     (within_older : (q : ℕ) → (c.procs q).older.position ≤ length (own q c.acts)) (within_newer : (q : ℕ) → (c.procs q).newer.position ≤ length (own q c.acts))
     (seen seen2 : ℕ → Seen) (numbers : ℕ → Type 0) (leaves leaves2 : ℕ → ℕ → Reading → Type 0) (u : Seen) (world : WorldStands S c seen numbers leaves) where
   abbrev d : Core
-  d = record { acts = with_act t c p a; lines = lines; procs = at_one p (passed replay sets) c.procs }
+  d = record { acts = with_act t c p a; lines = lines; procs = at_one p (passed replay sets) c.procs; ties = untied }
 
   older_same : (q : ℕ) → (d.procs q).older ≡ (c.procs q).older
   older_same q = ⊎_elim
@@ -139,8 +139,8 @@ module _ (S : System Guest) (t : ℕ) (c : Core) (run_now : IsRun S.guests c.act
   pub event_together : ((c.procs p).up ≡ true → IsAt S p (own p (with_act t c p a)) (passed replay sets (c.procs p)) u.words u.held
       × ((q : ℕ) → q < S.guests.count → slice_index u.held.others q ≤ others_of S.guests c p q))
       → p < S.guests.count → Narrow numbers leaves leaves2
-      → ((q : ℕ) → q < S.guests.count → ((at_one p (passed replay sets) c.procs) q).up ≡ true → HasLearned S.guests.count (others_of S.guests (record { acts = with_act t c p a; lines = lines; procs = at_one p (passed replay sets) c.procs }) q) (if p == q then u else seen q) (seen2 q))
-      → WorldStands S (record { acts = with_act t c p a; lines = lines; procs = at_one p (passed replay sets) c.procs }) seen2 numbers leaves2
+      → ((q : ℕ) → q < S.guests.count → ((at_one p (passed replay sets) c.procs) q).up ≡ true → HasLearned S.guests.count (others_of S.guests (record { acts = with_act t c p a; lines = lines; procs = at_one p (passed replay sets) c.procs; ties = untied }) q) (if p == q then u else seen q) (seen2 q))
+      → WorldStands S (record { acts = with_act t c p a; lines = lines; procs = at_one p (passed replay sets) c.procs; ties = untied }) seen2 numbers leaves2
   event_together up_is inside narrow learns = world_next S c d seen seen2 numbers numbers leaves leaves2 p u (own p d.acts) (passed replay sets (c.procs p)) world (λ n is. is)
       refl (put_self p (passed replay sets (c.procs p)) c.procs)
       (λ q ne. own_more_other S.guests t c p a run_now q ne) (λ q ne. put_other p q (passed replay sets (c.procs p)) c.procs ne)

@@ -1,5 +1,5 @@
 -- What the code of one process holds, and what its store may stand for. A process is the fold of its own answers, and needs no world.
-use Rattle.std.specs.Prelude.{◌≡◌, ◌==◌, ◌<◌, ◌≤◌, ◌+◌, ◌-◌, ◌⊎◌, ℕ, List, [], Bool, true, false, Option, IfSome, Ok, if◌then◌else◌, drop, length, map, slice_index}
+use Rattle.std.specs.Prelude.{◌≡◌, ◌<◌, ◌≤◌, ◌+◌, ◌-◌, ◌⊎◌, ℕ, List, [], Bool, true, false, Option, IfSome, Ok, if◌then◌else◌, drop, length, map, slice_index}
 use Rattle.dc_limits.specs.declared.bounds.TheConstants.{LOGGED_EVENTS}
 use Rattle.dc_calls.specs.declared.call.Call.TheVariants.{Exit}
 use Rattle.dc_checkpoint.specs.States.{Form, Reading, State, number_in}
@@ -88,7 +88,7 @@ pub record IsGoing (answers : List Answer) (st : Status) : Type 0 where
   pub from : st.older.position ≤ st.position
   pub within : st.position ≤ length answers
 
--- what it holds is the process at its position, with just the messages that are not known to be committed, and what it has yet to read
+-- what it holds is the process at its position, under the number of its last commit, with just the messages that are not known to be committed, and what it has yet to read
 pub record IsAt (S : System Guest) (p : ℕ) (answers : List Answer) (st : Status) (words : List ℕ) (held : Held) : Type 0 where
   pub kernel_is : IsKernelAt S.guests.count p st.position (at_position S.guests p st.position answers) words held.kernel
   pub kept : (q : ℕ) → q < S.guests.count → (link_to held.kernel.links q).kept ≡ drop (slice_index held.others q) ((at_position S.guests p st.position answers).sent q)
@@ -96,6 +96,7 @@ pub record IsAt (S : System Guest) (p : ℕ) (answers : List Answer) (st : Statu
   pub own_is : held.own ≡ st.own
   pub left_is : held.log_left ≡ S.log_room - length st.older.log
   pub based_is : (s : ℕ) → s < S.guests.count → slice_index held.based s ≡ (at_position S.guests p st.older.position answers).received s
+  pub number_is : held.kernel.commit ≡ st.older.number
 
 -- so it is where its memory is told
 abbrev pub IsProcess : System Guest → ℕ → List Answer → Status → Option (List ℕ) → Held → Type 0
@@ -111,12 +112,13 @@ pub record Stored : Type 0 where
 abbrev pub reading_of : Stored → Reading
 reading_of x = Ok (record { memory = x.words; kernel = text_of x.kernel; log = x.log })
 
--- it is a save: the process at its position with its log, and messages that do not begin after what is known to be committed
+-- it is a save: the process at its position with its log, under its number, and messages that do not begin after what is known to be committed
 pub record IsStoredSave (G : Guests Guest) (p : ℕ) (answers : List Answer) (others : ℕ → ℕ) (s : Save) (x : Stored) : Type 0 where
   pub kernel_ok : IsKernel G.count p x.kernel
   pub kernel_is : IsKernelAt G.count p s.position (at_position G p s.position answers) x.words x.kernel
   pub first : (q : ℕ) → q < G.count → number_of_first (link_to x.kernel.links q) ≤ others q
   pub log_is : map logged_of x.log ≡ s.log
+  pub number_is : x.kernel.commit ≡ s.number
 
 -- what an image stands for is a state, and the save; a refusal is none
 abbrev pub IsSavedAs : Guests Guest → ℕ → List Answer → (ℕ → ℕ) → Save → Reading → Type 0

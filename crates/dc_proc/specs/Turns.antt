@@ -41,8 +41,8 @@ abbrev pub is_none : List LogRecord → Bool
 is_none [] = true
 is_none (x ∷ unread) = false
 
--- by what its protocol asks, at an event of this kind that is answered so; the last says whether any process had an unlogged nondeterministic event since the last
--- commit of all
+-- by what its protocol asks, at an event of this kind that is answered so; the last says whether an unlogged nondeterministic event matters to it that some process
+-- had since its last commit
 abbrev pub since_of : Up → Kind → Answer → Bool → Since
 since_of u kind a any = record {
   own = u.own;

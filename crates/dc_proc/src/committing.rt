@@ -18,8 +18,7 @@ use dc_checkpoint::{CheckFault, Checkpoint};
 use dc_limits::LOGGED_EVENTS;
 
 impl Up {
-    /// Writes the text of its kernel as of the commit of this number, for a commit of all processes together: it counts once that is
-    /// decided.
+    /// Writes the text of its kernel as of the commit of this number, for a joint commit: it counts once that is decided.
     pub fn write_next(&mut self, number: u32, text: &mut [u32])
         requires whole { IsWhole self.old }
         requires long { length text.old ≡ kernel_words self.old.kernel.n }

@@ -8,7 +8,7 @@ ghost use Rattle.dc_model.specs.Guests.{Answer};
 ghost use Rattle.dc_proc.specs.Processes.{Held, IsAt, IsLinkOf, IsSavedAs, reading_of};
 ghost use Rattle.dc_proc.specs.Worlds.{HasLearned, Seen};
 ghost use Rattle.dc_recovery.specs.Core.{Status};
-ghost use Rattle.dc_recovery.specs.Parts.{committed, save_now};
+ghost use Rattle.dc_recovery.specs.Parts.{committed_as, save_as};
 ghost use Rattle.dc_recovery.specs.Systems.{System};
 
 /// What a process of the code keeps of its place in the theory.
@@ -29,10 +29,10 @@ pub fn processes_stand()
         → IsLinkOf (sent ++ message ∷ []) (with_sent link message) }
     ensures saved { (S : System Guest) (p : ℕ) (answers : List Answer) (st : Status) (words : List ℕ) (held : Held) (number : ℕ)
         → IsAt S p answers st words held → let kernel = record held.kernel { commit = number } in IsKernel S.guests.count p kernel
-        → IsSavedAs S.guests p answers (slice_index held.others) (save_now st) (reading_of (record { words = words; kernel = kernel; log = [] })) }
+        → IsSavedAs S.guests p answers (slice_index held.others) (save_as number st) (reading_of (record { words = words; kernel = kernel; log = [] })) }
     ensures committed { (S : System Guest) (p : ℕ) (answers : List Answer) (st : Status) (words : List ℕ) (held : Held) (number : ℕ) (based : List ℕ)
         → IsAt S p answers st words held → ((s : ℕ) → s < S.guests.count → slice_index based s ≡ slice_index held.kernel.received s)
-        → IsAt S p answers (committed st) words (record {
+        → IsAt S p answers (committed_as number st) words (record {
           kernel = record held.kernel { commit = number };
           unread = [];
           own = false;

@@ -1,9 +1,9 @@
 //! The guest of a process steps over the memory of its store.
 
-ghost use Rattle.std.specs.Prelude.{◌≡◌, ◌*◌, ℕ, List, false, IfOk, IfSome, OnErr, OnOk, true};
+ghost use Rattle.std.specs.Prelude.{◌≡◌, ◌&&◌, ◌*◌, ℕ, List, false, IfOk, IfSome, OnErr, OnOk, true};
 ghost use Rattle.dc_events.specs.Kinds.{kind_of};
 ghost use Rattle.dc_guest.specs.Answers.{answer_of, effect_of, may_answer};
-ghost use Rattle.dc_guest.specs.Guest.{after_next, ends, event_of, machine_over, next_of, over};
+ghost use Rattle.dc_guest.specs.Guest.{after_next, ends, event_of, machine_over, next_of, over, stores_next};
 ghost use Rattle.dc_guest.specs.Nexts.{IfRetired, IfWaits, IsSameGuest, NextFits, Waits, called_by};
 ghost use Rattle.dc_media.specs.Told.{Becomes};
 ghost use Rattle.dc_model.specs.Guests.Answer.{Plain};
@@ -11,7 +11,7 @@ ghost use Rattle.dc_checkpoint.specs.Calls.{on};
 ghost use Rattle.dc_proc.specs.Calls.{Stores};
 ghost use Rattle.dc_proc.specs.Events.{HasNextRoom, HasRoom};
 ghost use Rattle.dc_recovery.specs.Parts.{may_store};
-ghost use Rattle.dc_rv32.specs.Machine.{Machine};
+ghost use Rattle.dc_rv32.specs.Machine.{Machine, stores};
 
 use crate::lent::{Lent, Looked};
 use crate::up::Up;
@@ -43,6 +43,7 @@ impl Up {
         ensures same { IsSameGuest self.old.guest self.new.guest }
         ensures kept { OnErr result (self.new ≡ self.old) }
         ensures reached { OnErr result (IfSome (C.contents store.old dev.old) (λ words. next_of (over self.old.guest words) ≡ Next.Retire)) }
+        ensures storing { OnErr result (IfSome (C.contents store.old dev.old) (λ words. stores (machine_over self.old.guest words) ≡ true)) }
     {
         let mut bus = Lent {
             store,
@@ -74,7 +75,7 @@ impl Up {
         ensures rest { self.new ≡ record self.old { guest = self.new.guest } }
         ensures same { IsSameGuest self.old.guest self.new.guest }
         ensures kept { OnErr result (self.new ≡ self.old) }
-        ensures may { OnErr result ((m : Machine) → may_store (event_of next.now m) (answer_of answer.now) ≡ true) }
+        ensures may { OnErr result ((m : Machine) → (stores_next next.now (answer_of answer.now) m && may_store (event_of next.now m) (answer_of answer.now)) ≡ true) }
     {
         let mut bus = Lent {
             store,

@@ -14,7 +14,7 @@ ghost use Rattle.dc_proc.specs.Events.{HasCounts, HasCountsFor, HasNextReceiver,
 ghost use Rattle.dc_proc.specs.Processes.{IsNumbered, IsPaired};
 ghost use Rattle.dc_proc.specs.Turns.{StopsTurn, TakesTurn, acts_with, is_none, makes_eight, shown_of, since_of};
 ghost use Rattle.dc_proc.specs.Ups.{IsSameUp, IsWhole, held};
-ghost use Rattle.dc_protocols.specs.Rules.{at_inputs, is_global, rule_of};
+ghost use Rattle.dc_protocols.specs.Rules.{at_inputs, is_joint, rule_of};
 ghost use Rattle.dc_recovery.specs.Alone.{without_commits};
 
 use crate::shown::Shown;
@@ -27,7 +27,7 @@ use dc_guest::Answer;
 use dc_kernel::Kernel;
 use dc_limits::KEPT_MESSAGES;
 use dc_model::Taken;
-use dc_protocols::{Rule, Since, is_global, rule};
+use dc_protocols::{Rule, Since, is_joint, rule};
 
 /// Whether an answer makes eight uncommitted receipts from one sender.
 fn makes_eight(kernel: &Kernel, based: &[u32], answer: &Answer) -> bool
@@ -59,8 +59,8 @@ impl Up {
         asks(kind) && self.read < self.log.len()
     }
 
-    /// What its protocol asks at an event of this kind that is answered so; `any` says whether any process had an unlogged
-    /// nondeterministic event since the last commit of all.
+    /// What its protocol asks at an event of this kind that is answered so; `any` is what it does not know by itself: whether an
+    /// unlogged nondeterministic event matters to it that some process had since its last commit.
     pub fn asked(&self, kind: Kind, answer: &Answer, any: bool) -> Rule
         requires sender { IsSender self.now.kernel (answer_of answer.now) }
         requires whole { IsWhole self.now }
@@ -76,14 +76,14 @@ impl Up {
         rule(self.protocol, kind, &since)
     }
 
-    /// What its protocol asks of the process itself: where all commit together, no commit.
+    /// What its protocol asks of the process itself: where all fall together, no commit.
     fn rule(&self, kind: Kind, answer: &Answer) -> Rule
         requires sender { IsSender self.now.kernel (answer_of answer.now) }
         requires whole { IsWhole self.now }
-        ensures { result ≡ without_commits (is_global self.now.protocol) (rule_of self.now.protocol kind (since_of self.now kind (answer_of answer.now) false)) }
+        ensures { result ≡ without_commits (is_joint self.now.protocol) (rule_of self.now.protocol kind (since_of self.now kind (answer_of answer.now) false)) }
     {
         let asked = self.asked(kind, answer, false);
-        if is_global(self.protocol) {
+        if is_joint(self.protocol) {
             return Rule {
                 before: false,
                 log: asked.log,
@@ -155,9 +155,9 @@ impl Up {
         ensures ready { OnOk result (C.ready store.new dev.new) }
         ensures paired { OnOk result (IsPaired (held self.new) (C.form store.new) (C.number store.new) (C.logged store.new)) }
         ensures whole { IsWhole self.new }
-        ensures steady { is_global self.old.protocol ≡ true → C.steady store.old dev.old → C.steady store.new dev.new × AreAmong (C.numbers store.old dev.old) (C.numbers store.new dev.new) }
-        ensures uncommitted { is_global self.old.protocol ≡ true → OnOk result ((held self.new).kernel.commit ≡ (held self.old).kernel.commit) }
-        ensures narrows { is_global self.old.protocol ≡ true → Narrows (C.floor store.old) (C.leaves store.old dev.old) (C.leaves store.new dev.new) }
+        ensures steady { is_joint self.old.protocol ≡ true → C.steady store.old dev.old → C.steady store.new dev.new × AreAmong (C.numbers store.old dev.old) (C.numbers store.new dev.new) }
+        ensures uncommitted { is_joint self.old.protocol ≡ true → OnOk result ((held self.new).kernel.commit ≡ (held self.old).kernel.commit) }
+        ensures narrows { is_joint self.old.protocol ≡ true → Narrows (C.floor store.old) (C.leaves store.old dev.old) (C.leaves store.new dev.new) }
         ensures quiet { OnOk result ((held self.new).kernel.commit ≡ (held self.old).kernel.commit → (held self.new).based ≡ (held self.old).based) }
         ensures counts { OnOk result ((turns : ℕ) → HasCountsFor (turns + 1) self.old.kernel → HasCountsFor turns self.new.kernel) }
         ensures numbered { (d most : ℕ) → C.floor store.old ≤ d → self.old.kernel.commit ≤ most → IsNumbered most (C.leaves store.old dev.old d) → IsNumbered (most + 2) (C.leaves store.new dev.new d) }
@@ -190,7 +190,7 @@ impl Up {
     /// Takes the next event with this answer, with all that the protocol asks for: a commit before it, its act, where the process has
     /// none of it yet, a log record of the answer, the event, a commit after it. What it shows is told once all of it was done.
     ///
-    /// Stopped or failed, it was so in one of these, and only `fall` may follow. Where all processes commit together no commit is made.
+    /// Stopped or failed, it was so in one of these, and only `fall` may follow. Where all processes fall together no commit is made.
     /// Where the memory is not told a send may find that it has no room: then nothing is done.
     pub fn turn<C: Checkpoint>(
         &mut self,
@@ -217,9 +217,9 @@ impl Up {
         ensures ready { OnOk result (C.ready store.new dev.new) }
         ensures paired { OnOk result (IsPaired (held self.new) (C.form store.new) (C.number store.new) (C.logged store.new)) }
         ensures whole { IsWhole self.new }
-        ensures steady { is_global self.old.protocol ≡ true → C.steady store.old dev.old → C.steady store.new dev.new × AreAmong (C.numbers store.old dev.old) (C.numbers store.new dev.new) }
-        ensures uncommitted { is_global self.old.protocol ≡ true → OnOk result ((held self.new).kernel.commit ≡ (held self.old).kernel.commit) }
-        ensures narrows { is_global self.old.protocol ≡ true → Narrows (C.floor store.old) (C.leaves store.old dev.old) (C.leaves store.new dev.new) }
+        ensures steady { is_joint self.old.protocol ≡ true → C.steady store.old dev.old → C.steady store.new dev.new × AreAmong (C.numbers store.old dev.old) (C.numbers store.new dev.new) }
+        ensures uncommitted { is_joint self.old.protocol ≡ true → OnOk result ((held self.new).kernel.commit ≡ (held self.old).kernel.commit) }
+        ensures narrows { is_joint self.old.protocol ≡ true → Narrows (C.floor store.old) (C.leaves store.old dev.old) (C.leaves store.new dev.new) }
         ensures quiet { OnOk result ((held self.new).kernel.commit ≡ (held self.old).kernel.commit → (held self.new).based ≡ (held self.old).based) }
         ensures counts { OnOk result ((turns : ℕ) → HasCountsFor (turns + 1) self.old.kernel → HasCountsFor turns self.new.kernel) }
         ensures numbered { (d most : ℕ) → C.floor store.old ≤ d → self.old.kernel.commit ≤ most → IsNumbered most (C.leaves store.old dev.old d) → IsNumbered (most + 2) (C.leaves store.new dev.new d) }

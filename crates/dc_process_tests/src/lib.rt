@@ -10,6 +10,8 @@ mod protocols;
 #[cfg(test)]
 mod recovery;
 #[cfg(test)]
+mod redo;
+#[cfg(test)]
 mod twophase;
 #[cfg(test)]
 mod vista;

@@ -2,8 +2,10 @@ ghost use Rattle.std.specs.Prelude.{◌<◌};
 
 use crate::holding::holds;
 use dc_events::Kind::{self, Clock, Input, Internal, Random, Receive, Send, Visible};
-use dc_protocols::Protocol::{Cand, CandLog, Cbndv2pc, Cbndvs, CbndvsLog, Cpv2pc, Cpvs};
-use dc_protocols::{Protocol, Rule, Since, is_global, rule};
+use dc_protocols::Protocol::{
+    Cand, CandLog, Cbndv2pc, Cbndv2pcCausal, Cbndvs, CbndvsLog, Cpv2pc, Cpvs,
+};
+use dc_protocols::{Protocol, Rule, Since, is_global, is_joint, rule};
 use std::alloc::Global;
 use std::test::Fail;
 
@@ -59,9 +61,25 @@ Cbndv2pc Input 0 0 ff00ff00
 Cbndv2pc Receive 0 0 ff00ff00
 Cbndv2pc Visible cccccccc 0 33003300
 Cbndv2pc Send 0 0 ff00ff00
+Cbndv2pcCausal Internal 0 0 ff00ff00
+Cbndv2pcCausal Clock 0 0 ff00ff00
+Cbndv2pcCausal Random 0 0 ff00ff00
+Cbndv2pcCausal Input 0 0 ff00ff00
+Cbndv2pcCausal Receive 0 0 ff00ff00
+Cbndv2pcCausal Visible cccccccc 0 33003300
+Cbndv2pcCausal Send 0 0 ff00ff00
 ";
 
-const PROTOCOLS: [Protocol; 7] = [Cand, CandLog, Cpvs, Cbndvs, CbndvsLog, Cpv2pc, Cbndv2pc];
+const PROTOCOLS: [Protocol; 8] = [
+    Cand,
+    CandLog,
+    Cpvs,
+    Cbndvs,
+    CbndvsLog,
+    Cpv2pc,
+    Cbndv2pc,
+    Cbndv2pcCausal,
+];
 
 const KINDS: [Kind; 7] = [Internal, Clock, Random, Input, Receive, Visible, Send];
 
@@ -123,8 +141,12 @@ fn two_protocols_commit_globally() -> Result<(), Fail> {
     for protocol in [Cpv2pc, Cbndv2pc] {
         holds(is_global(protocol), "one that is global")?;
     }
-    for protocol in [Cand, CandLog, Cpvs, Cbndvs, CbndvsLog] {
+    for protocol in [Cand, CandLog, Cpvs, Cbndvs, CbndvsLog, Cbndv2pcCausal] {
         holds(!is_global(protocol), "one that is not global")?;
+    }
+    for protocol in PROTOCOLS {
+        let is = is_global(protocol) || protocol == Cbndv2pcCausal;
+        holds(is_joint(protocol) == is, "whether all fall together")?;
     }
     Ok(())
 }

@@ -5,6 +5,7 @@ ghost use Rattle.dc_checkpoint.specs.States.{IsFit};
 ghost use Rattle.dc_kernel.specs.Faults.{kernel_fault};
 ghost use Rattle.dc_kernel.specs.Layout.{commit_at, kernel_words, n_at, p_at};
 ghost use Rattle.dc_checkpoint.specs.Handles.{IsSame};
+ghost use Rattle.dc_twophase.specs.Commits.{IsOther};
 ghost use Rattle.dc_twophase.specs.Stores.{AreApart, AreOf, Each, EachPair};
 ghost use Rattle.dc_process_tests.specs.Three.{AreFitThree, AreTexts};
 
@@ -154,7 +155,7 @@ fn commit<C: Checkpoint>(
     requires lent { Each stores.old (λ i c. C.lent c dev.old) }
     requires ready { Each stores.old (λ i c. C.ready c dev.old) }
     requires number { Each stores.old (λ i c. C.number c < 2) }
-    requires decidable { (c : C) (d : C.Device) → C.decidable c d 2 }
+    requires decidable { IsOther members.now 0 → (c : C) (d : C.Device) → C.decidable c d 2 }
     requires texts { AreTexts words.now }
     ensures same { EachPair stores.old stores.new (λ i. IsSame C.Checkpoint) }
     ensures lent { Each stores.new (λ i c. C.lent c dev.new) }
@@ -180,7 +181,7 @@ fn commit_and_recover<C: Checkpoint>(
     requires lent { Each stores.old (λ i c. C.lent c dev.old) }
     requires ready { Each stores.old (λ i c. C.ready c dev.old) }
     requires number { Each stores.old (λ i c. C.number c < 2) }
-    requires decidable { (c : C) (d : C.Device) → C.decidable c d 2 }
+    requires decidable { IsOther members.now 0 → (c : C) (d : C.Device) → C.decidable c d 2 }
     requires texts { AreTexts words.now }
     requires fit { AreFitThree saved.old }
 {
@@ -197,15 +198,15 @@ fn are_at(saved: &[Saved], members: &[bool], number: u32) -> bool {
         == if *member { number } else { 1 })
 }
 
-/// The same for three processes; and whether those that take part are then at a commit of this number.
-fn joint<C: Checkpoint + Drop>(
+/// The same for three processes, of which the first may decide where it takes no part; and whether those that take part are then at a commit of this number.
+pub fn joint<C: Checkpoint + Drop>(
     alloc: Global,
     dev: &mut C::Device,
     members: &[bool],
     number: u32,
 ) -> Option<(Result<(), JointFault>, bool)>
     requires members { length members.now ≡ 3 }
-    requires decidable { (c : C) (d : C.Device) → C.decidable c d 2 }
+    requires decidable { IsOther members.now 0 → (c : C) (d : C.Device) → C.decidable c d 2 }
 {
     let Ok(words) = words_of(alloc) else {
         return None;

@@ -1,17 +1,17 @@
 //! Segments on a device in memory: their calls, contents that nobody wrote so, and every stop.
 
-mod calling;
+pub mod calling;
 mod cases;
 mod contents;
 mod device;
 mod filled;
 mod hostile;
-mod inputs;
-mod rig;
+pub mod inputs;
+pub mod rig;
 mod stopped;
-mod stops;
-mod texts;
-mod trial;
+pub mod stops;
+pub mod texts;
+pub mod trial;
 
 use cases::CALLS;
 use contents::{BASE, FULL_ROWS, LARGE_BASE, LARGE_ROWS, ROWS};

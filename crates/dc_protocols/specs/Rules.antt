@@ -3,7 +3,7 @@ use Rattle.std.specs.Prelude.{Bool, true, false, not, ◌&&◌, ◌||◌}
 use Rattle.dc_events.specs.declared.event.Kind.{Kind}
 use Rattle.dc_events.specs.declared.event.Kind.TheVariants.{Clock, Random, Input, Receive, Visible, Send}
 use Rattle.dc_protocols.specs.declared.protocol.Protocol.{Protocol}
-use Rattle.dc_protocols.specs.declared.protocol.Protocol.TheVariants.{Cand, CandLog, Cpvs, Cbndvs, CbndvsLog, Cpv2pc, Cbndv2pc}
+use Rattle.dc_protocols.specs.declared.protocol.Protocol.TheVariants.{Cand, CandLog, Cpvs, Cbndvs, CbndvsLog, Cpv2pc, Cbndv2pc, Cbndv2pcCausal}
 use Rattle.dc_protocols.specs.declared.protocol.Rule.{Rule}
 use Rattle.dc_protocols.specs.declared.protocol.Since.{Since}
 
@@ -50,6 +50,7 @@ row_of Cbndvs kind since = record { before = at_outputs kind && since.own; log =
 row_of CbndvsLog kind since = record { before = (at_outputs kind && since.own) || (at_inputs kind && not since.own && since.full && not since.replay); log = at_inputs kind && not since.own && not since.replay; after = never }
 row_of Cpv2pc kind since = record { before = at_visible kind; log = never; after = never }
 row_of Cbndv2pc kind since = record { before = at_visible kind && since.any; log = never; after = never }
+row_of Cbndv2pcCausal kind since = record { before = at_visible kind && since.any; log = never; after = never }
 
 -- the rule: in each row the eighth uncommitted receipt from one sender also has a commit after it, where none came before it
 abbrev pub rule_of : Protocol → Kind → Since → Rule
@@ -60,6 +61,15 @@ abbrev pub is_global : Protocol → Bool
 is_global Cpv2pc = true
 is_global Cbndv2pc = true
 is_global _ = false
+
+-- whether only those commit together that matter: the processes on whose unlogged nondeterministic events the visible event depends
+abbrev pub is_causal : Protocol → Bool
+is_causal Cbndv2pcCausal = true
+is_causal _ = false
+
+-- whether all processes fall and recover together
+abbrev pub is_joint : Protocol → Bool
+is_joint protocol = is_global protocol || is_causal protocol
 
 -- whether answers are logged
 abbrev pub has_log : Protocol → Bool

@@ -20,6 +20,8 @@ pub enum Protocol {
     /// CBNDV-2PC, commit between nondeterministic and visible, in two phases: all processes commit before a visible event, where
     /// one of them had a nondeterministic event since the last global commit.
     Cbndv2pc,
+    /// CBNDV-2PC-CAUSAL: as CBNDV-2PC, but only the processes commit on whose unlogged nondeterministic events the visible event depends.
+    Cbndv2pcCausal,
 }
 
 /// What an event finds.
@@ -27,7 +29,8 @@ pub enum Protocol {
 pub struct Since {
     /// The process had an unlogged nondeterministic event since its last commit.
     pub own: bool,
-    /// Some process had an unlogged nondeterministic event since the last global commit.
+    /// Some process had an unlogged nondeterministic event since the last global commit; where only those commit that matter, the
+    /// process depends on such an event.
     pub any: bool,
     /// The log of the process holds 64 records, and has no room for another.
     pub full: bool,
@@ -48,9 +51,16 @@ pub struct Rule {
     pub after: bool,
 }
 
-/// Whether all processes commit together.
+/// Whether all processes commit whenever one does.
 pub fn is_global(protocol: Protocol) -> bool
     ensures { result ≡ rules.is_global protocol }
 {
     matches!(protocol, Protocol::Cpv2pc | Protocol::Cbndv2pc)
+}
+
+/// Whether all processes fall and recover together.
+pub fn is_joint(protocol: Protocol) -> bool
+    ensures { result ≡ rules.is_joint protocol }
+{
+    is_global(protocol) || protocol == Protocol::Cbndv2pcCausal
 }

@@ -16,10 +16,10 @@ use Rattle.dc_recovery.proofs.Steps.{chance_is_last, told_is_last}
 use Rattle.dc_recovery.proofs.Turns.{log_answers}
 use Rattle.dc_recovery.proofs.Sorts.Sort.{Asking, Chance, Sure}
 use Rattle.dc_recovery.proofs.Worlds.{answer_of, sort_here}
-use Rattle.dc_recovery.specs.Answers.{read_answer, answer, drawn, drawn_answer, given, is_empty_log, replays}
+use Rattle.dc_recovery.specs.Answers.{read_answer, answer, drawn, drawn_answer, given, replays}
 use Rattle.dc_recovery.specs.Core.{Core, stands}
 use Rattle.dc_recovery.specs.Invariant.{Holds, Running}
-use Rattle.dc_recovery.specs.Saves.{Logged, answer_at}
+use Rattle.dc_recovery.specs.Saves.{Logged, is_empty_log, answer_at}
 use Rattle.dc_recovery.specs.Systems.{IsSound, System}
 
 plain_is : (a : Answer) → is_plain a ≡ true → a ≡ Plain
@@ -60,8 +60,8 @@ module _ {Mc : Type 0} (S : System Mc) (sound : IsSound S) (schedule : List Entr
     where
       by_sort : Sort e (answer S.guests c p word clock) → answer S.guests c p word clock ≡ drawn S.guests c p word clock
       by_sort (Sure plain ask chance) = plain_is (answer S.guests c p word clock) plain ∙ sym (drawn_plain e ask chance)
-      by_sort (Chance is_told can ask chance hid) = at_end (chance_is_last S sound p (own p c.acts) (c.procs p) (answer S.guests c p word clock) run.ok run.few (answer_of S.guests t c p (answer S.guests c p word clock) now.run told) is_told can)
-      by_sort (Asking is_told can ask chance hid) = at_end (told_is_last S sound p (own p c.acts) (c.procs p) (answer S.guests c p word clock) run.ok run.few (answer_of S.guests t c p (answer S.guests c p word clock) now.run told) is_told
+      by_sort (Chance is_told can ask chance hid) = at_end (chance_is_last S sound 0 p (own p c.acts) (c.procs p) (answer S.guests c p word clock) run.ok run.few (answer_of S.guests t c p (answer S.guests c p word clock) now.run told) is_told can)
+      by_sort (Asking is_told can ask chance hid) = at_end (told_is_last S sound 0 p (own p c.acts) (c.procs p) (answer S.guests c p word clock) run.ok run.few (answer_of S.guests t c p (answer S.guests c p word clock) now.run told) is_told
           (idle e (c.procs p).unread (ap not off) ask))
 
   -- where the log answers

@@ -12,8 +12,8 @@ use Rattle.dc_model.specs.declared.entry.Entry.{Entry}
 use Rattle.dc_model.specs.declared.entry.Entry.TheVariants.{Power, Stop, Turn}
 use Rattle.dc_model.specs.declared.mark.Idle.{Idle}
 use Rattle.dc_model.specs.declared.mark.Mark.{Mark}
-use Rattle.dc_protocols.specs.Rules.{is_global}
-use Rattle.dc_recovery.specs.Core.{Core, stands}
+use Rattle.dc_protocols.specs.Rules.{is_joint}
+use Rattle.dc_recovery.specs.Core.{Core, Start, stands}
 use Rattle.dc_recovery.specs.Invariant.{DrawnBelow, Holds}
 use Rattle.dc_recovery.specs.Systems.{System}
 use Rattle.dc_model.specs.declared.mark.Mark.TheVariants as mark
@@ -40,12 +40,12 @@ get_drop (x ∷ xs) (suc from) i = get_drop xs from i ∙ (let e : suc (from + i
 abbrev pub IsRecent : {Mc : Type 0} → Guests Mc → Bool → List Note → Core → Type 0
 IsRecent G together ns c = (p : ℕ) → (c.procs p).up ≡ true → (k : ℕ) → (stands G c p).visible ≤ k → NotSince together p k ns
 
-pub record Follows {Mc : Type 0} (S : System Mc) (schedule : List Entry) (from : ℕ) (start : Core) (marks : List Mark) (c : Core) : Type 0 where
-  pub now : Holds S schedule (from + length marks) c
-  pub recent : IsRecent S.guests (is_global S.protocol) (notes (drop from schedule) marks) c
-  pub numbered : map (λ x. (x.p, x.k)) c.lines ≡ numbers (notes (drop from schedule) marks) ++ map (λ x. (x.p, x.k)) start.lines
-  pub agree : RepeatsFirst (length start.lines) c.lines
-  pub follow : RepeatsFollow (is_global S.protocol) (notes (drop from schedule) marks)
+pub record Follows {Mc : Type 0} (S : System Mc) (schedule : List Entry) (start : Start) (marks : List Mark) (c : Core) : Type 0 where
+  pub now : Holds S schedule (start.entries + length marks) c
+  pub recent : IsRecent S.guests (is_joint S.protocol) (notes (drop start.entries schedule) marks) c
+  pub numbered : map (λ x. (x.p, x.k)) c.lines ≡ numbers (notes (drop start.entries schedule) marks) ++ map (λ x. (x.p, x.k)) start.core.lines
+  pub agree : RepeatsFirst (length start.core.lines) c.lines
+  pub follow : RepeatsFollow (is_joint S.protocol) (notes (drop start.entries schedule) marks)
 
 -- a mark that notes nothing
 pub quiet_note : (o : Option Entry) (m : Mark) → (m ≡ mark.Stopped) ⊎ (m ≡ mark.Marked) ⊎ (m ≡ mark.Stepped) ⊎ ((i : Idle) × (m ≡ mark.Idle i)) → noted o m ≡ []

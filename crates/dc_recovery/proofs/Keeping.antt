@@ -16,7 +16,7 @@ use Rattle.dc_recovery.proofs.Linked.{front_up, learned_later}
 use Rattle.dc_recovery.proofs.Runs.{sent_longer}
 use Rattle.dc_recovery.proofs.Spans.{received_later}
 use Rattle.dc_recovery.specs.Answers.{answer, is_blocked}
-use Rattle.dc_recovery.specs.Core.{Core, Status, Which, learned, save_of, stands}
+use Rattle.dc_recovery.specs.Core.{Core, Status, Which, learned, save_of, stands, untied}
 use Rattle.dc_recovery.specs.Core.Which.{Newer, Older}
 use Rattle.dc_recovery.specs.Invariant.{Holds, front}
 use Rattle.dc_recovery.specs.Kept.{Keeps}
@@ -58,7 +58,7 @@ module _ {Mc : Type 0} (S : System Mc) (sound : IsSound S) (schedule : List Entr
   grows_same : (d : Core) → d ≡ c → Grows d
   grows_same d e q s = rw e (omega arith)
 
-  grows_falls : (test : ℕ → Bool) → Grows (record { acts = c.acts; lines = c.lines; procs = each test fallen c.procs })
+  grows_falls : (test : ℕ → Bool) → Grows (record { acts = c.acts; lines = c.lines; procs = each test fallen c.procs; ties = untied })
   grows_falls test q s = cond_both (test q) (fallen (c.procs q)) (c.procs q) (λ (st : Status). learned S.guests c q s ≤ (at_position S.guests q st.older.position (own q c.acts)).received s) (λ _. omega arith) (λ _. omega arith)
 
   module _ (p word clock : ℕ) (inside : p < S.guests.count) (m : Mark) (d : Core) where

@@ -1,27 +1,28 @@
 -- The messages that are not known to be committed are few, and what is known never falls.
-use Rattle.std.proofs.Common.{◌≡◌, ◌≢◌, ◌∙◌, ℕ, ◌+◌, ◌<◌, ◌≤◌, suc, List, [], ◌∷◌, ◌++◌, length, refl, ap, subst, sym, arith, ⊎_elim, Bool, true, false, nat_le, length-append}
+use Rattle.std.proofs.Common.{◌≡◌, ◌≢◌, ◌∙◌, ℕ, ◌+◌, ◌<◌, ◌≤◌, suc, List, [], ◌∷◌, ◌++◌, length, refl, ap, subst, sym, arith, ⊎_elim, Bool, true, false, nat_le, length-append, ◌&&◌}
 use Rattle.std.proofs.lemmas.Bool.{eq-eqb, ne_eqb, cases_eq, le-leb, cases_Bool, cond_both, true≢false}
 use Rattle.dc_model.specs.Guests.{Answer, Event, Guests}
 use Rattle.dc_model.specs.Guests.Event.{AtSend}
 use Rattle.dc_model.specs.Process.{at_position, comes, local, oldest, posted}
 use Rattle.dc_model.specs.Runs.{Given, own}
 use Rattle.dc_model.specs.declared.entry.Entry.{Entry}
-use Rattle.dc_protocols.specs.Rules.{is_global}
+use Rattle.dc_protocols.specs.Rules.{is_joint}
 use Rattle.dc_protocols.specs.declared.protocol.Rule.{Rule}
 use Rattle.dc_recovery.proofs.Cuts.{cases_le}
 use Rattle.dc_recovery.proofs.Given.{IsGiven}
-use Rattle.dc_recovery.proofs.Parts.{left_beside, left_other, left_self}
+use Rattle.dc_recovery.proofs.Parts.{turn_beside, turn_other, turn_self}
 use Rattle.dc_recovery.proofs.Runs.{sent_longer}
 use Rattle.dc_recovery.proofs.Spans.{received_later}
-use Rattle.dc_recovery.proofs.Sorts.{beside}
+use Rattle.dc_recovery.proofs.Sorts.{beside, torn_or}
 use Rattle.dc_recovery.proofs.Worlds.{all_up, here_running, oldest_kept, own_after_other, stands_next}
 use Rattle.dc_recovery.specs.Answers.{is_blocked, replays, rule_at}
 use Rattle.dc_recovery.specs.Core.{Core, Status, learned, stands}
 use Rattle.dc_recovery.specs.Invariant.{Holds, LinksOk, Running, UpOk, front}
-use Rattle.dc_recovery.specs.Parts.{Place, fallen, first_of, left_of, passed, second_of, sets_own, torn, torn_log}
+use Rattle.dc_recovery.specs.Parts.{Place, fallen, first_as, left_as, passed, second_of, sets_own, torn_as, torn_log}
 use Rattle.dc_recovery.specs.Parts.Place.{InAfter, InBefore, InEvent, InLog, Nowhere}
 use Rattle.dc_recovery.specs.Saves.{Logged}
 use Rattle.dc_recovery.specs.Systems.{IsSound, System}
+use Rattle.dc_recovery.specs.Ties.{company}
 use Rattle.dc_recovery.specs.Turned.{after_turn, with_act}
 
 -- a process whose older save is no earlier, and whose newer one and position are no later
@@ -41,9 +42,9 @@ pub front_down : (st : Status) → st.up ≡ false → front st ≡ st.newer.pos
 front_down st e = rw e refl
 
 module _ (lo hi : ℕ) where
-  between_first : (b : Bool) (st : Status) → Between lo hi st → Between lo hi (first_of b st)
-  between_first true st h = record { least = h.from; from = h.from; last = h.most; most = h.most }
-  between_first false st h = h
+  between_first : (n : ℕ) (b : Bool) (st : Status) → Between lo hi st → Between lo hi (first_as b n st)
+  between_first n true st h = record { least = h.from; from = h.from; last = h.most; most = h.most }
+  between_first n false st h = h
 
   between_second : (b : Bool) (x : Logged) (st : Status) → Between lo hi st → Between lo hi (second_of b x st)
   between_second true x st h = record { least = h.least; from = h.from; last = h.last; most = h.most }
@@ -58,8 +59,8 @@ module _ (lo hi : ℕ) where
   ends_fallen : (st : Status) → Between lo hi st → Ends lo hi (fallen st)
   ends_fallen st h = (h.least, h.last)
 
-  ends_torn : (st : Status) → Between lo hi st → Ends lo hi (torn st)
-  ends_torn st h = (h.least, h.most)
+  ends_torn : (n : ℕ) (st : Status) → Between lo hi st → Ends lo hi (torn_as n st)
+  ends_torn n st h = (h.least, h.most)
 
   ends_log : (x : Logged) (st : Status) → Between lo hi st → Ends lo hi (torn_log x st)
   ends_log x st h = (h.least, h.last)
@@ -68,19 +69,23 @@ module _ (lo hi : ℕ) where
   ends_more st h = (h.0, let k = h.1 in omega arith)
 
 -- after a turn
-pub ends_left : (lo hi : ℕ) (f : Rule) (rep : Bool) (x : Logged) (st : Status) (w : Place) → Between lo hi st → Ends lo (suc hi) (left_of f rep x st w)
-ends_left lo hi f rep x st Nowhere h = ends lo (suc hi) _ (between_first lo (suc hi) f.after _ (between_passed lo hi rep (sets_own f.log rep x.answer) _ (between_second lo hi f.log x _ (between_first lo hi f.before st h))))
-ends_left lo hi f rep x st InBefore h = ends_more lo hi (torn st) (ends_torn lo hi st h)
-ends_left lo hi f rep x st InLog h = ends_more lo hi (torn_log x (first_of f.before st)) (ends_log lo hi x (first_of f.before st) (between_first lo hi f.before st h))
-ends_left lo hi f rep x st InEvent h = ends_more lo hi (fallen (second_of f.log x (first_of f.before st))) (ends_fallen lo hi _ (between_second lo hi f.log x _ (between_first lo hi f.before st h)))
-ends_left lo hi f rep x st InAfter h = ends_torn lo (suc hi) _ (between_passed lo hi rep (sets_own f.log rep x.answer) _ (between_second lo hi f.log x _ (between_first lo hi f.before st h)))
+pub ends_left : (lo hi : ℕ) (f : Rule) (rep : Bool) (x : Logged) (n m : ℕ) (st : Status) (w : Place) → Between lo hi st → Ends lo (suc hi) (left_as f rep x n m st w)
+ends_left lo hi f rep x n m st Nowhere h = ends lo (suc hi) _ (between_first lo (suc hi) m f.after _ (between_passed lo hi rep (sets_own f.log rep x.answer) _ (between_second lo hi f.log x _ (between_first lo hi n f.before st h))))
+ends_left lo hi f rep x n m st InBefore h = ends_more lo hi (torn_as n st) (ends_torn lo hi n st h)
+ends_left lo hi f rep x n m st InLog h = ends_more lo hi (torn_log x (first_as f.before n st)) (ends_log lo hi x (first_as f.before n st) (between_first lo hi n f.before st h))
+ends_left lo hi f rep x n m st InEvent h = ends_more lo hi (fallen (second_of f.log x (first_as f.before n st))) (ends_fallen lo hi _ (between_second lo hi f.log x _ (between_first lo hi n f.before st h)))
+ends_left lo hi f rep x n m st InAfter h = ends_torn lo (suc hi) m _ (between_passed lo hi rep (sets_own f.log rep x.answer) _ (between_second lo hi f.log x _ (between_first lo hi n f.before st h)))
 
-pub ends_beside : (lo hi : ℕ) (f : Rule) (st : Status) (w : Place) → Between lo hi st → Ends lo hi (beside f st w)
-ends_beside lo hi f st Nowhere h = ends lo hi _ (between_first lo hi f.after _ (between_first lo hi f.before st h))
-ends_beside lo hi f st InBefore h = ends_torn lo hi st h
-ends_beside lo hi f st InLog h = ends lo hi _ (between_first lo hi f.before st h)
-ends_beside lo hi f st InEvent h = ends_fallen lo hi _ (between_first lo hi f.before st h)
-ends_beside lo hi f st InAfter h = ends_torn lo hi _ (between_first lo hi f.before st h)
+ends_torn_or : (lo hi : ℕ) (b : Bool) (n : ℕ) (st : Status) → Between lo hi st → Ends lo hi (torn_or b n st)
+ends_torn_or lo hi true n st h = ends_torn lo hi n st h
+ends_torn_or lo hi false n st h = ends_fallen lo hi st h
+
+pub ends_beside : (lo hi : ℕ) (f : Rule) (b a : Bool) (n m : ℕ) (st : Status) (w : Place) → Between lo hi st → Ends lo hi (beside f b a n m st w)
+ends_beside lo hi f b a n m st Nowhere h = ends lo hi _ (between_first lo hi m (f.after && a) _ (between_first lo hi n (f.before && b) st h))
+ends_beside lo hi f b a n m st InBefore h = ends_torn_or lo hi b n st h
+ends_beside lo hi f b a n m st InLog h = ends lo hi _ (between_first lo hi n (f.before && b) st h)
+ends_beside lo hi f b a n m st InEvent h = ends_fallen lo hi _ (between_first lo hi n (f.before && b) st h)
+ends_beside lo hi f b a n m st InAfter h = ends_torn_or lo hi a m _ (between_first lo hi n (f.before && b) st h)
 
 -- a process that is up
 pub between_now : {Mc : Type 0} (S : System Mc) (p : ℕ) (ds : List Answer) (st : Status) → UpOk S p ds st → Between st.older.position st.position st
@@ -117,16 +122,16 @@ module _ {Mc : Type 0} (S : System Mc) (sound : IsSound S) (schedule : List Entr
   acts_kept InAfter q i h = oldest_kept S.guests t c p a now.run q i h
 
   ends_self : (w : Place) → Ends (c.procs p).older.position (suc (c.procs p).position) ((after_turn S t c p a w).procs p)
-  ends_self w = rw (left_self S.protocol p (rule_at S c p a) (replays (comes S.guests (stands S.guests c p) a) (c.procs p)) (record { position = (c.procs p).position; answer = a }) c.procs w)
-      (ends_left (c.procs p).older.position (c.procs p).position (rule_at S c p a) (replays (comes S.guests (stands S.guests c p) a) (c.procs p)) (record { position = (c.procs p).position; answer = a }) (c.procs p) w (between_now S p (own p c.acts) (c.procs p) here.ok))
+  ends_self w = rw (turn_self S c p a (rule_at S c p a) (replays (comes S.guests (stands S.guests c p) a) (c.procs p)) (record { position = (c.procs p).position; answer = a }) c.procs w)
+      (ends_left (c.procs p).older.position (c.procs p).position (rule_at S c p a) (replays (comes S.guests (stands S.guests c p) a) (c.procs p)) (record { position = (c.procs p).position; answer = a }) ((company S c p a).numbers_before p) ((company S c p a).numbers_after p) (c.procs p) w (between_now S p (own p c.acts) (c.procs p) here.ok))
 
   ends_rest : (w : Place) (q : ℕ) → p ≢ q → Ends (c.procs q).older.position (front (c.procs q)) ((after_turn S t c p a w).procs q)
   ends_rest w q ne = ⊎_elim
-      (λ (g : is_global S.protocol ≡ true). let up_q = all_up S sound schedule t c now p a told up inside q g in let run_q = (now.behind q).running up_q in
-      rw (left_beside S.protocol p (rule_at S c p a) (replays (comes S.guests (stands S.guests c p) a) (c.procs p)) (record { position = (c.procs p).position; answer = a }) c.procs w q g ne, front_up (c.procs q) up_q)
-      (ends_beside (c.procs q).older.position (c.procs q).position (rule_at S c p a) (c.procs q) w (between_now S q (own q c.acts) (c.procs q) run_q.ok)))
-      (λ (g : is_global S.protocol ≡ false). rw (left_other S.protocol p (rule_at S c p a) (replays (comes S.guests (stands S.guests c p) a) (c.procs p)) (record { position = (c.procs p).position; answer = a }) c.procs w q g ne) (omega arith, omega arith))
-      (cases_Bool (is_global S.protocol))
+      (λ (g : is_joint S.protocol ≡ true). let up_q = all_up S sound schedule t c now p a told up inside q g in let run_q = (now.behind q).running up_q in
+      rw (turn_beside S c p a (rule_at S c p a) (replays (comes S.guests (stands S.guests c p) a) (c.procs p)) (record { position = (c.procs p).position; answer = a }) c.procs w q g ne, front_up (c.procs q) up_q)
+      (ends_beside (c.procs q).older.position (c.procs q).position (rule_at S c p a) ((company S c p a).before q) ((company S c p a).after q) ((company S c p a).numbers_before q) ((company S c p a).numbers_after q) (c.procs q) w (between_now S q (own q c.acts) (c.procs q) run_q.ok)))
+      (λ (g : is_joint S.protocol ≡ false). rw (turn_other S c p a (rule_at S c p a) (replays (comes S.guests (stands S.guests c p) a) (c.procs p)) (record { position = (c.procs p).position; answer = a }) c.procs w q g ne) (omega arith, omega arith))
+      (cases_Bool (is_joint S.protocol))
 
   older_later : (w : Place) (q : ℕ) → (c.procs q).older.position ≤ ((after_turn S t c p a w).procs q).older.position
   older_later w q = ⊎_elim
@@ -151,7 +156,7 @@ module _ {Mc : Type 0} (S : System Mc) (sound : IsSound S) (schedule : List Entr
     links_self InLog q = links_by InLog q _ refl
     links_self InEvent q = links_by InEvent q _ refl
     links_self InAfter q = links_by InAfter q _ refl
-    links_self InBefore q = let e : front ((after_turn S t c p a InBefore).procs p) ≡ (c.procs p).position = ap front (left_self S.protocol p (rule_at S c p a) (replays (comes S.guests (stands S.guests c p) a) (c.procs p)) (record { position = (c.procs p).position; answer = a }) c.procs InBefore) in
+    links_self InBefore q = let e : front ((after_turn S t c p a InBefore).procs p) ≡ (c.procs p).position = ap front (turn_self S c p a (rule_at S c p a) (replays (comes S.guests (stands S.guests c p) a) (c.procs p)) (record { position = (c.procs p).position; answer = a }) c.procs InBefore) in
         rw e (let k : length ((at_position S.guests p (c.procs p).position (own p c.acts)).sent q) ≤ learned S.guests c q p + S.most = rw (front_up (c.procs p) up) at (now.links p q) in let l = learned_later InBefore q p in omega arith)
 
     links_rest : (w : Place) (s q : ℕ) → p ≢ s → length ((at_position S.guests s (front ((after_turn S t c p a w).procs s)) (own s (after_turn S t c p a w).acts)).sent q) ≤ learned S.guests (after_turn S t c p a w) q s + S.most

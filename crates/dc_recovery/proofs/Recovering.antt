@@ -1,6 +1,6 @@
 -- What a recovery leaves, and what stands unsaved.
 use Rattle.std.proofs.Common.{◌≡◌, ◌≢◌, ◌∙◌, ℕ, ◌+◌, ◌<◌, List, [], ◌∷◌, length, refl, subst, sym, inl, inr, Bool, true, false, Option, Some, None, slice_get, IsSomeAnd}
-use Rattle.std.proofs.lemmas.Bool.{cond_both}
+use Rattle.std.proofs.lemmas.Bool.{cond_both, or_left}
 use Rattle.dc_model.specs.Guests.{Answer, Event}
 use Rattle.dc_model.specs.Guests.Event.{AtEnd}
 use Rattle.dc_model.specs.Process.{comes}
@@ -8,14 +8,14 @@ use Rattle.dc_model.specs.Runs.{own}
 use Rattle.dc_model.specs.declared.entry.Entry.{Entry}
 use Rattle.dc_model.specs.declared.entry.Entry.TheVariants.{Power, Stop, Turn}
 use Rattle.dc_model.specs.declared.mark.Mark.{Mark}
-use Rattle.dc_protocols.specs.Rules.{is_global}
+use Rattle.dc_protocols.specs.Rules.{is_causal, is_global, is_joint}
 use Rattle.dc_recovery.proofs.Ends.{holds_opened, leads_follow}
 use Rattle.dc_recovery.proofs.Given.{answer_told}
 use Rattle.dc_recovery.proofs.Holding.{joint_turn, rise_joint, rise_own_none, rise_well}
 use Rattle.dc_recovery.proofs.Joints.{saved_of}
 use Rattle.dc_recovery.proofs.Parts.{with_none}
 use Rattle.dc_recovery.specs.Answers.{answer, is_blocked}
-use Rattle.dc_recovery.specs.Core.{Core, Status, Which, opened_core, save_of, stands}
+use Rattle.dc_recovery.specs.Core.{Core, Status, Which, opened_core, opening, save_of, stands, untied}
 use Rattle.dc_recovery.specs.Core.Which.{Newer, Older}
 use Rattle.dc_recovery.specs.Invariant.{Holds}
 use Rattle.dc_recovery.specs.Kept.{saved}
@@ -32,11 +32,14 @@ recovers_well S sound schedule t c now p down k = record {
 }
 
 -- nothing unsaved comes before a visible act, entry by entry
-module _ {Mc : Type 0} (S : System Mc) (sound : IsSound S) (schedule : List Entry) (t : ℕ) (c : Core) (now : Holds S schedule t c) (g : is_global S.protocol ≡ true) (saved : SavedBeforeShown S.guests c) where
+module _ {Mc : Type 0} (S : System Mc) (sound : IsSound S) (schedule : List Entry) (t : ℕ) (c : Core) (now : Holds S schedule t c) (all : is_global S.protocol ≡ true) (saved : SavedBeforeShown S.guests c) where
+  abbrev g : is_joint S.protocol ≡ true
+  g = or_left (is_global S.protocol) (is_causal S.protocol) all
+
   saved_same : (d : Core) → d ≡ c → SavedBeforeShown S.guests d
   saved_same d e = subst (λ (x : Core). SavedBeforeShown S.guests x) (sym e) saved
 
-  saved_falls : (test : ℕ → Bool) → SavedBeforeShown S.guests (record { acts = c.acts; lines = c.lines; procs = each test fallen c.procs })
+  saved_falls : (test : ℕ → Bool) → SavedBeforeShown S.guests (record { acts = c.acts; lines = c.lines; procs = each test fallen c.procs; ties = untied })
   saved_falls test k q = cond_both (test q) (fallen (c.procs q)) (c.procs q) (λ (st : Status). span (logged_at (own q c.acts)) (save_of k st).position (until_shown S.guests c.acts q) ≡ []) (λ _. by_which k) (λ _. saved k q)
     where
       by_which : (k : Which) → span (logged_at (own q c.acts)) (save_of k (fallen (c.procs q))).position (until_shown S.guests c.acts q) ≡ []
@@ -49,7 +52,7 @@ module _ {Mc : Type 0} (S : System Mc) (sound : IsSound S) (schedule : List Entr
 
     saved_takes : (up : (c.procs p).up ≡ true) → comes S.guests (stands S.guests c p) (answer S.guests c p word clock) ≢ AtEnd → Takes S c (record { t = t; p = p; answer = a }) (comes S.guests (stands S.guests c p) a) m d → SavedBeforeShown S.guests d
     saved_takes up live (w, may, mk, is) = subst (λ (x : Core). SavedBeforeShown S.guests x) (sym is)
-        (saved_of S.guests _ (joint_turn S sound schedule t c now p a (answer_told S.guests c p word clock ((now.behind p).running up).ok.within live) up inside g true (λ _. saved) w may))
+        (saved_of S _ (joint_turn S sound schedule t c now p a (answer_told S.guests c p word clock ((now.behind p).running up).ok.within live) up inside g true (λ _. all) (λ _. saved) w may))
 
     saved_block : (up : (c.procs p).up ≡ true) → comes S.guests (stands S.guests c p) (answer S.guests c p word clock) ≢ AtEnd → (b : Bool) → TakesOr b S c (record { t = t; p = p; answer = a }) (comes S.guests (stands S.guests c p) a) m d → SavedBeforeShown S.guests d
     saved_block up live true turned = saved_same d turned.1
@@ -62,7 +65,7 @@ module _ {Mc : Type 0} (S : System Mc) (sound : IsSound S) (schedule : List Entr
 
     saved_up : (b : Bool) → (c.procs p).up ≡ b → RunsOr b S c (record { t = t; p = p; answer = a }) m d → SavedBeforeShown S.guests d
     saved_up true up turned = saved_event up (comes S.guests (stands S.guests c p) a) refl turned
-    saved_up false down (inl (k, mk, is)) = subst (λ (x : Core). SavedBeforeShown S.guests x) (sym is) (saved_of S.guests _ (rise_joint S sound schedule t c now p down k g true))
+    saved_up false down (inl (k, mk, is)) = subst (λ (x : Core). SavedBeforeShown S.guests x) (sym is) (saved_of S _ (rise_joint S sound schedule t c now p down k g true))
     saved_up false down (inr (mk, same)) = saved_same d same
 
   pub saved_next : (entry : Entry) (m : Mark) (d : Core) → Turned S t c entry m d → SavedBeforeShown S.guests d
@@ -71,7 +74,7 @@ module _ {Mc : Type 0} (S : System Mc) (sound : IsSound S) (schedule : List Entr
   saved_next Power m d turned = subst (λ (x : Core). SavedBeforeShown S.guests x) (sym turned.1) (saved_falls (λ r. true))
 
 -- and so from an opening
-module _ {Mc : Type 0} (S : System Mc) (sound : IsSound S) (schedule : List Entry) (up : ℕ → Bool) (same : is_global S.protocol ≡ true → (p q : ℕ) → up p ≡ up q) (g : is_global S.protocol ≡ true) where
+module _ {Mc : Type 0} (S : System Mc) (sound : IsSound S) (schedule : List Entry) (up : ℕ → Bool) (same : is_joint S.protocol ≡ true → (p q : ℕ) → up p ≡ up q) (g : is_global S.protocol ≡ true) where
   saved_opened : SavedBeforeShown S.guests (opened_core up)
   saved_opened Older q = refl
   saved_opened Newer q = refl
@@ -80,7 +83,7 @@ module _ {Mc : Type 0} (S : System Mc) (sound : IsSound S) (schedule : List Entr
   saved_entry t c now saved None m d turned = absurd turned
   saved_entry t c now saved (Some entry) m d turned = saved_next S sound schedule t c now g saved entry m d turned
 
-  pub saved_leads : (marks : List Mark) (d : Core) → LeadsTo S schedule 0 (opened_core up) marks d → SavedBeforeShown S.guests d
+  pub saved_leads : (marks : List Mark) (d : Core) → LeadsTo S schedule (opening up) marks d → SavedBeforeShown S.guests d
   saved_leads [] d led = subst (λ (x : Core). SavedBeforeShown S.guests x) (sym led) saved_opened
-  saved_leads (m ∷ marks) d (c, led, turned) = saved_entry (0 + length marks) c (leads_follow S sound schedule 0 (opened_core up) (holds_opened S sound schedule up same) marks c led).now
+  saved_leads (m ∷ marks) d (c, led, turned) = saved_entry (0 + length marks) c (leads_follow S sound schedule (opening up) (holds_opened S sound schedule up same) marks c led).now
       (saved_leads marks c led) (slice_get schedule (0 + length marks)) m d turned

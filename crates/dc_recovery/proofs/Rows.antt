@@ -4,13 +4,13 @@ use Rattle.std.proofs.lemmas.Bool.{true≢false, and_parts, or_cases, or_parts, 
 use Rattle.dc_events.specs.declared.event.Kind.{Kind}
 use Rattle.dc_model.specs.Guests.{Event, is_clock, is_random, is_request, is_send, is_visible}
 use Rattle.dc_model.specs.Guests.Event.{AtClock, AtInput, AtRandom, AtReceive, AtSend, AtVisible}
-use Rattle.dc_protocols.specs.Rules.{at_clock_and_random, at_inputs, at_outputs, at_sends, at_visible, has_log, is_cand, is_global, row_of}
+use Rattle.dc_protocols.specs.Rules.{at_clock_and_random, at_inputs, at_outputs, at_sends, at_visible, has_log, is_cand, is_causal, is_global, is_joint, row_of}
 use Rattle.dc_protocols.specs.declared.protocol.Protocol.{Protocol}
-use Rattle.dc_protocols.specs.declared.protocol.Protocol.TheVariants.{Cand, CandLog, Cbndv2pc, Cbndvs, CbndvsLog, Cpv2pc, Cpvs}
+use Rattle.dc_protocols.specs.declared.protocol.Protocol.TheVariants.{Cand, CandLog, Cbndv2pc, Cbndv2pcCausal, Cbndvs, CbndvsLog, Cpv2pc, Cpvs}
 use Rattle.dc_protocols.specs.declared.protocol.Since.{Since}
-use Rattle.dc_recovery.specs.Answers.{is_empty_log, is_full, since}
+use Rattle.dc_recovery.specs.Answers.{is_full, since}
 use Rattle.dc_recovery.specs.Core.{Status}
-use Rattle.dc_recovery.specs.Saves.{Logged}
+use Rattle.dc_recovery.specs.Saves.{Logged, is_empty_log}
 use Rattle.dc_recovery.specs.Systems.{kind_at}
 use Rattle.dc_events.specs.declared.event.Kind.TheVariants as kind
 
@@ -71,6 +71,7 @@ module _ (k : Kind) (s : Since) where
   no_log_sure Cbndvs e = refl
   no_log_sure Cpv2pc e = refl
   no_log_sure Cbndv2pc e = refl
+  no_log_sure Cbndv2pcCausal e = refl
 
   pub no_after_sure : (pr : Protocol) → at_inputs k ≡ false → at_clock_and_random k ≡ false → (row_of pr k s).after ≡ false
   no_after_sure Cand e c = rw (c, e) refl
@@ -80,6 +81,7 @@ module _ (k : Kind) (s : Since) where
   no_after_sure CbndvsLog e c = refl
   no_after_sure Cpv2pc e c = refl
   no_after_sure Cbndv2pc e c = refl
+  no_after_sure Cbndv2pcCausal e c = refl
 
   pub no_before_told : (pr : Protocol) → at_inputs k ≡ false → at_outputs k ≡ false → (row_of pr k s).before ≡ false
   no_before_told Cand e x = refl
@@ -89,6 +91,7 @@ module _ (k : Kind) (s : Since) where
   no_before_told CbndvsLog e x = rw (x, e) refl
   no_before_told Cpv2pc e x = (or_parts (at_visible k) _ x).0
   no_before_told Cbndv2pc e x = rw (or_parts (at_visible k) _ x).0 refl
+  no_before_told Cbndv2pcCausal e x = rw (or_parts (at_visible k) _ x).0 refl
 
   pub no_before_replay : (pr : Protocol) → at_outputs k ≡ false → s.replay ≡ true → (row_of pr k s).before ≡ false
   no_before_replay Cand x r = refl
@@ -98,6 +101,7 @@ module _ (k : Kind) (s : Since) where
   no_before_replay CbndvsLog x r = rw (x, r) (and_false (at_inputs k && not s.own && s.full))
   no_before_replay Cpv2pc x r = (or_parts (at_visible k) _ x).0
   no_before_replay Cbndv2pc x r = rw (or_parts (at_visible k) _ x).0 refl
+  no_before_replay Cbndv2pcCausal x r = rw (or_parts (at_visible k) _ x).0 refl
 
   pub no_log_replay : (pr : Protocol) → s.replay ≡ true → (row_of pr k s).log ≡ false
   no_log_replay CandLog r = rw r (and_false (at_inputs k))
@@ -107,6 +111,7 @@ module _ (k : Kind) (s : Since) where
   no_log_replay Cbndvs r = refl
   no_log_replay Cpv2pc r = refl
   no_log_replay Cbndv2pc r = refl
+  no_log_replay Cbndv2pcCausal r = refl
 
   -- what is logged is logged with own clear
   pub log_facts : (pr : Protocol) → (is_cand pr ≡ true → s.own ≡ false) → (row_of pr k s).log ≡ true → (has_log pr ≡ true) × (s.own ≡ false)
@@ -117,10 +122,11 @@ module _ (k : Kind) (s : Since) where
   log_facts Cbndvs cand e = absurd (true≢false (sym e))
   log_facts Cpv2pc cand e = absurd (true≢false (sym e))
   log_facts Cbndv2pc cand e = absurd (true≢false (sym e))
+  log_facts Cbndv2pcCausal cand e = absurd (true≢false (sym e))
 
   -- after the commit before, own is clear at what is exposed
   pub exposed_clear : (pr : Protocol) → (is_cand pr ≡ true → s.own ≡ false) → (s.own ≡ true → s.any ≡ true)
-      → (is_global pr ≡ false → at_outputs k ≡ true) → (is_global pr ≡ true → at_visible k ≡ true) → (s.own && not (row_of pr k s).before) ≡ false
+      → (is_joint pr ≡ false → at_outputs k ≡ true) → (is_joint pr ≡ true → at_visible k ≡ true) → (s.own && not (row_of pr k s).before) ≡ false
   exposed_clear Cand cand any out vis = rw (cand refl) refl
   exposed_clear CandLog cand any out vis = rw (cand refl) refl
   exposed_clear Cpvs cand any out vis = rw (out refl) (and_false s.own)
@@ -128,11 +134,13 @@ module _ (k : Kind) (s : Since) where
   exposed_clear CbndvsLog cand any out vis = rw (out refl) (and_not_or s.own _)
   exposed_clear Cpv2pc cand any out vis = rw (vis refl) (and_false s.own)
   exposed_clear Cbndv2pc cand any out vis = rw (vis refl) (own_any s.own s.any any)
+  exposed_clear Cbndv2pcCausal cand any out vis = rw (vis refl) (own_any s.own s.any any)
 
   -- and no process has any, where all commit together
-  pub visible_clear : (pr : Protocol) → is_global pr ≡ true → at_visible k ≡ true → (row_of pr k s).before ≡ false → s.any ≡ false
+  pub visible_clear : (pr : Protocol) → is_joint pr ≡ true → at_visible k ≡ true → (row_of pr k s).before ≡ false → s.any ≡ false
   visible_clear Cpv2pc g vis off = absurd (true≢false (sym vis ∙ off))
   visible_clear Cbndv2pc g vis off = ap (λ (b : Bool). b && s.any) (sym vis) ∙ off
+  visible_clear Cbndv2pcCausal g vis off = ap (λ (b : Bool). b && s.any) (sym vis) ∙ off
   visible_clear Cand g vis off = absurd (true≢false (sym g))
   visible_clear CandLog g vis off = absurd (true≢false (sym g))
   visible_clear Cpvs g vis off = absurd (true≢false (sym g))
@@ -147,6 +155,7 @@ module _ (k : Kind) (s : Since) where
   cand_after CbndvsLog chance c = absurd (true≢false (sym c))
   cand_after Cpv2pc chance c = absurd (true≢false (sym c))
   cand_after Cbndv2pc chance c = absurd (true≢false (sym c))
+  cand_after Cbndv2pcCausal chance c = absurd (true≢false (sym c))
 
   pub asking_after : (pr : Protocol) → at_clock_and_random k ≡ false → (row_of pr k s).after ≡ true → has_log pr ≡ false
   asking_after Cand chance e = refl
@@ -156,6 +165,7 @@ module _ (k : Kind) (s : Since) where
   asking_after CbndvsLog chance e = absurd (true≢false (sym e))
   asking_after Cpv2pc chance e = refl
   asking_after Cbndv2pc chance e = refl
+  asking_after Cbndv2pcCausal chance e = refl
 
   -- where CAND and CAND-LOG ask without a commit after, they log
   pub cand_logs : (pr : Protocol) → at_inputs k ≡ true → s.replay ≡ false → is_cand pr ≡ true → (row_of pr k s).after ≡ false → (row_of pr k s).log ≡ true
@@ -166,6 +176,7 @@ module _ (k : Kind) (s : Since) where
   cand_logs CbndvsLog ask r c e = absurd (true≢false (sym c))
   cand_logs Cpv2pc ask r c e = absurd (true≢false (sym c))
   cand_logs Cbndv2pc ask r c e = absurd (true≢false (sym c))
+  cand_logs Cbndv2pcCausal ask r c e = absurd (true≢false (sym c))
 
   -- a commit after, a log record: at nothing visible
   pub after_unseen : (pr : Protocol) → (row_of pr k s).after ≡ true → at_visible k ≡ false
@@ -179,6 +190,7 @@ module _ (k : Kind) (s : Since) where
       unseen CbndvsLog kind.Visible s e = absurd (true≢false (sym e))
       unseen Cpv2pc kind.Visible s e = absurd (true≢false (sym e))
       unseen Cbndv2pc kind.Visible s e = absurd (true≢false (sym e))
+      unseen Cbndv2pcCausal kind.Visible s e = absurd (true≢false (sym e))
       unseen pr _ s e = refl
 
   pub log_unseen : (pr : Protocol) → (row_of pr k s).log ≡ true → at_inputs k ≡ true
@@ -189,16 +201,25 @@ module _ (k : Kind) (s : Since) where
   log_unseen Cbndvs e = absurd (true≢false (sym e))
   log_unseen Cpv2pc e = absurd (true≢false (sym e))
   log_unseen Cbndv2pc e = absurd (true≢false (sym e))
+  log_unseen Cbndv2pcCausal e = absurd (true≢false (sym e))
 
 -- no log where all commit together
-pub global_no_log : (pr : Protocol) → is_global pr ≡ true → has_log pr ≡ false
+pub global_no_log : (pr : Protocol) → is_joint pr ≡ true → has_log pr ≡ false
 global_no_log Cpv2pc g = refl
 global_no_log Cbndv2pc g = refl
+global_no_log Cbndv2pcCausal g = refl
 global_no_log Cand g = refl
 global_no_log Cpvs g = refl
 global_no_log Cbndvs g = refl
 global_no_log CandLog g = absurd (true≢false (sym g))
 global_no_log CbndvsLog g = absurd (true≢false (sym g))
+
+-- where all commit each time
+pub global_free : (pr : Protocol) → is_global pr ≡ true → is_causal pr ≡ false
+global_free Cpv2pc g = refl
+global_free Cbndv2pc g = refl
+global_free Cbndv2pcCausal g = absurd (true≢false (sym g))
+global_free _ g = refl
 
 pub idle : (e : Event) (es : List Logged) → not (is_request e && not (is_empty_log es)) ≡ true → is_request e ≡ true → es ≡ []
 idle e [] h a = refl
@@ -212,6 +233,7 @@ early_read Cpvs room e st any many none sure on = none refl
 early_read Cbndvs room e st any many none sure on = none refl
 early_read Cpv2pc room e st any many none sure on = none refl
 early_read Cbndv2pc room e st any many none sure on = none refl
+early_read Cbndv2pcCausal room e st any many none sure on = none refl
 early_read CandLog room e st any many none sure on = let k = and_parts (at_inputs (kind_at e) && is_full room st.newer) _ on in
     idle e st.unread k.1 (sym (inputs_are e) ∙ (and_parts (at_inputs (kind_at e)) (is_full room st.newer) k.0).0)
 early_read CbndvsLog room e st any many none sure on = ⊎_elim

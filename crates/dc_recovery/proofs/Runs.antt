@@ -16,7 +16,7 @@ use Rattle.dc_recovery.proofs.Sorts.{Sort}
 use Rattle.dc_recovery.proofs.Sorts.Sort.{Asking, Chance, Sure}
 use Rattle.dc_recovery.specs.Invariant.{DrawnBelow, can_log}
 use Rattle.dc_recovery.specs.Saves.{IsCutWell, answer_at, cut, last_at}
-use Rattle.dc_protocols.specs.Rules.{is_global}
+use Rattle.dc_protocols.specs.Rules.{is_joint}
 use Rattle.dc_recovery.specs.Systems.{IsSound, System, is_output}
 
 -- sorts by what fits
@@ -98,7 +98,7 @@ last_wider few many wider G p (a ∷ ds) = ⊎_elim
     (cases_Bool (few (comes G (local G p ds) a)))
 
 -- where each recovers by itself, all that others see is exposed
-pub outputs_exposed : {Mc : Type 0} (S : System Mc) (sound : IsSound S) → is_global S.protocol ≡ false → (e : Event) → is_output e ≡ true → S.exposes e ≡ true
+pub outputs_exposed : {Mc : Type 0} (S : System Mc) (sound : IsSound S) → is_joint S.protocol ≡ false → (e : Event) → is_output e ≡ true → S.exposes e ≡ true
 outputs_exposed S sound alone e h = ⊎_elim (sound.visible e) (sound.sent alone e) (or_cases (is_visible e) (is_send e) h)
 
 -- a longer part of a process's acts has sent no less

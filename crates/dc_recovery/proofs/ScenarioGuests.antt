@@ -7,7 +7,7 @@ use Rattle.dc_model.specs.declared.entry.Entry.{Entry}
 use Rattle.dc_model.specs.declared.entry.Entry.TheVariants.{Turn}
 use Rattle.dc_model.specs.declared.mark.Mark.{Mark}
 use Rattle.dc_model.specs.declared.visible.Body.TheVariants.{End, Out}
-use Rattle.dc_recovery.specs.Core.{Core, opened_core}
+use Rattle.dc_recovery.specs.Core.{Core, opening}
 use Rattle.dc_recovery.specs.Systems.{System}
 use Rattle.dc_recovery.specs.Turned.{LeadsTo}
 
@@ -53,6 +53,7 @@ programs count lines inputs = record {
   count = count;
   next = λ m. event_of m.lines m.told;
   after = λ m a. record { lines = drop 1 m.lines; told = told_after m.told a };
+  stores = λ m a. true;
   start = λ p. record { lines = lines p; told = [] };
   inputs = inputs;
 }
@@ -63,4 +64,4 @@ turn p word clock = Turn (record { p = p; word = word; clock = clock })
 
 -- a run from the beginning: a core, and that the marks lead to it; marks have the last first, so a run so far has those of later turns dropped
 abbrev pub Led : {Mc : Type 0} → System Mc → List Entry → List Mark → Type 0
-Led S schedule marks = (c : Core) × LeadsTo S schedule 0 (opened_core (λ p. true)) marks c
+Led S schedule marks = (c : Core) × LeadsTo S schedule (opening (λ p. true)) marks c

@@ -10,7 +10,7 @@ use Rattle.dc_model.specs.declared.mark.Mark.TheVariants as mark
 use Rattle.dc_protocols.specs.declared.protocol.Protocol.TheVariants.{Cpvs}
 use Rattle.dc_recovery.proofs.ScenarioGuests.{Led, turn}
 use Rattle.dc_recovery.specs.Answers.{is_blocked, rule_at}
-use Rattle.dc_recovery.specs.Core.{learned, opened_core}
+use Rattle.dc_recovery.specs.Core.{learned, opened_core, opening}
 use Rattle.dc_recovery.specs.Parts.Place.{Nowhere}
 use Rattle.dc_recovery.specs.Systems.{System, system_of}
 use Rattle.dc_recovery.specs.Turned.{LeadsTo, after_turn}
@@ -31,7 +31,7 @@ event_of Receiver = AtReceive
 
 -- process 0 sends to process 1 for ever
 abbrev guests : Guests Role
-guests = record { count = 2; next = event_of; after = λ role a. role; start = λ p. if p == 0 then Sender else Receiver; inputs = λ p. [] }
+guests = record { count = 2; next = event_of; after = λ role a. role; stores = λ role a. true; start = λ p. if p == 0 then Sender else Receiver; inputs = λ p. [] }
 
 -- at most eight messages of one sender may be received and not committed
 abbrev pub system : System Role
@@ -126,7 +126,7 @@ abbrev run_19 : Led system schedule marks
 run_19 = (after_turn system 18 run_18.0 0 Plain Nowhere, (run_18.0, run_18.1, (omega arith, (Nowhere, refl, refl, refl))))
 
 -- the marks lead there
-pub ninth_send : LeadsTo system schedule 0 (opened_core (λ p. true)) marks run_19.0
+pub ninth_send : LeadsTo system schedule (opening (λ p. true)) marks run_19.0
 ninth_send = run_19.1
 
 -- nothing is shown

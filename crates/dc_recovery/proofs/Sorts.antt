@@ -1,6 +1,6 @@
 -- The sorts of events, and small facts on the parts of a turn.
-use Rattle.std.proofs.Common.{◌≡◌, ◌⊎◌, ◌∙◌, ℕ, ◌<◌, ◌≤◌, List, [], ◌∷◌, length, refl, sym, arith, ⊎_elim, Bool, true, false, if◌then◌else◌, nat_lt, Some}
-use Rattle.std.proofs.lemmas.Bool.{eq-eqb, ne_eqb, cases_eq, lt-ltb, le-ltb, cases_Bool, true≢false}
+use Rattle.std.proofs.Common.{◌≡◌, ◌⊎◌, ◌∙◌, ℕ, ◌<◌, ◌≤◌, List, [], ◌∷◌, length, refl, sym, arith, ⊎_elim, Bool, true, false, if◌then◌else◌, nat_lt, Some, ◌||◌, ◌&&◌}
+use Rattle.std.proofs.lemmas.Bool.{eq-eqb, ne_eqb, cases_eq, lt-ltb, le-ltb, cases_Bool, or_cases, true≢false}
 use Rattle.dc_model.specs.Guests.{Answer, Event, is_plain, is_request}
 use Rattle.dc_model.specs.Guests.Answer.{Plain, ReceiveFrom}
 use Rattle.dc_model.specs.Guests.Event.{AtClock, AtEnd, AtInput, AtInternal, AtRandom, AtReceive, AtSend, AtVisible}
@@ -8,12 +8,11 @@ use Rattle.dc_model.specs.Process.{took_from}
 use Rattle.dc_protocols.specs.Rules.{at_outputs}
 use Rattle.dc_protocols.specs.declared.protocol.Rule.{Rule}
 use Rattle.dc_recovery.proofs.Rows.{is_chance}
-use Rattle.dc_recovery.specs.Answers.{is_empty_log}
 use Rattle.dc_recovery.specs.Core.{Status}
 use Rattle.dc_recovery.specs.Invariant.{can_log}
-use Rattle.dc_recovery.specs.Parts.{Place, fallen, first_of, second_of, torn}
+use Rattle.dc_recovery.specs.Parts.{Place, fallen, first_as, second_of, torn_as}
 use Rattle.dc_recovery.specs.Parts.Place.{InAfter, InBefore, InEvent, InLog, Nowhere}
-use Rattle.dc_recovery.specs.Saves.{Logged, answer_at}
+use Rattle.dc_recovery.specs.Saves.{Logged, answer_at, is_empty_log}
 use Rattle.dc_recovery.specs.Systems.{IsSound, System, is_output, kind_at}
 
 -- the answer at the position is there already, or comes last
@@ -29,13 +28,21 @@ grown_old i ds a h = rw (lt-ltb i (length ds) h) refl
 pub grown_new : (i : ℕ) (ds : List Answer) (a : Answer) → i ≡ length ds → grown i ds a ≡ a ∷ ds
 grown_new i ds a h = rw (le-ltb i (length ds) (omega arith)) refl
 
--- the parts of a turn of the others, where all commit and fall together
-abbrev pub beside : Rule → Status → Place → Status
-beside f st Nowhere = first_of f.after (first_of f.before st)
-beside f st InBefore = torn st
-beside f st InLog = first_of f.before st
-beside f st InEvent = fallen (first_of f.before st)
-beside f st InAfter = torn (first_of f.before st)
+-- one that falls, in its commit or beside one
+abbrev pub torn_or : Bool → ℕ → Status → Status
+torn_or commits n st = if commits then torn_as n st else fallen st
+
+pub torn_down : (commits : Bool) (n : ℕ) (st : Status) → (torn_or commits n st).up ≡ false
+torn_down true n st = refl
+torn_down false n st = refl
+
+-- the parts of a turn of the others that fall with its process, some of which commit with it
+abbrev pub beside : Rule → Bool → Bool → ℕ → ℕ → Status → Place → Status
+beside f before after n m st Nowhere = first_as (f.after && after) m (first_as (f.before && before) n st)
+beside f before after n m st InBefore = torn_or before n st
+beside f before after n m st InLog = first_as (f.before && before) n st
+beside f before after n m st InEvent = fallen (first_as (f.before && before) n st)
+beside f before after n m st InAfter = torn_or after m (first_as (f.before && before) n st)
 
 -- three sorts of events
 pub data Sort (e : Event) (a : Answer) : Type 0 where
@@ -44,8 +51,8 @@ pub data Sort (e : Event) (a : Answer) : Type 0 where
   Chance : is_plain a ≡ false → can_log a ≡ false → is_request e ≡ false → is_chance e ≡ true → is_output e ≡ false → Sort e a
 
 -- what no other sees is not exposed
-pub hidden_any : {Mc : Type 0} (S : System Mc) (sound : IsSound S) (e : Event) → is_output e ≡ false → S.exposes e ≡ false
-hidden_any S sound e h = ⊎_elim (λ on. absurd (true≢false (sym (sound.outputs e on) ∙ h))) (λ off. off) (cases_Bool (S.exposes e))
+pub hidden_any : {Mc : Type 0} (S : System Mc) (sound : IsSound S) (e : Event) → is_output e ≡ false → (S.exposes e || S.exposes_sure e) ≡ false
+hidden_any S sound e h = ⊎_elim (λ on. absurd (true≢false (sym (⊎_elim (sound.outputs e) (sound.sure_outputs e) (or_cases (S.exposes e) (S.exposes_sure e) on)) ∙ h))) (λ off. off) (cases_Bool (S.exposes e || S.exposes_sure e))
 
 pub outputs_hidden : (e : Event) → is_output e ≡ false → at_outputs (kind_at e) ≡ false
 outputs_hidden (AtVisible body) h = absurd (true≢false h)
@@ -90,10 +97,10 @@ pub second_unread : (l : Bool) (x : Logged) (st : Status) → (second_of l x st)
 second_unread true x st = refl
 second_unread false x st = refl
 
-pub first_own : (b : Bool) (st : Status) → st.own ≡ false → (first_of b st).own ≡ false
-first_own true st e = refl
-first_own false st e = e
+pub first_own : (b : Bool) (n : ℕ) (st : Status) → st.own ≡ false → (first_as b n st).own ≡ false
+first_own true n st e = refl
+first_own false n st e = e
 
-pub first_unread : (b : Bool) (st : Status) → st.unread ≡ [] → (first_of b st).unread ≡ []
-first_unread true st e = refl
-first_unread false st e = e
+pub first_unread : (b : Bool) (n : ℕ) (st : Status) → st.unread ≡ [] → (first_as b n st).unread ≡ []
+first_unread true n st e = refl
+first_unread false n st e = e

@@ -11,12 +11,12 @@ use Rattle.dc_protocols.specs.Rules.{has_log, is_cand}
 use Rattle.dc_protocols.specs.declared.protocol.Rule.{Rule}
 use Rattle.dc_recovery.proofs.Cuts.{cases_le, hidden, oldest_out}
 use Rattle.dc_recovery.proofs.Rows.{and_yes, or_none}
-use Rattle.dc_recovery.proofs.Saves.{exposed, few_more, few_plain, save_hidden, save_logged, save_new, save_plain}
+use Rattle.dc_recovery.proofs.Saves.{exposed, few_more, few_plain, save_hidden, save_logged, save_new, save_plain, save_sure}
 use Rattle.dc_recovery.proofs.Spans.{noted_plain, noted_told, oldest_next, received_later, span_more, span_none, span_one, span_split}
 use Rattle.dc_recovery.specs.Answers.{answer, makes_most}
 use Rattle.dc_recovery.specs.Core.{Status}
 use Rattle.dc_recovery.specs.Invariant.{AllCanLog, FewOk, IsFew, SaveOk, UpOk, can_log}
-use Rattle.dc_recovery.specs.Parts.{committed, first_of, logged, passed, save_now, second_of, sets_own, third_of, torn, torn_log, with_record}
+use Rattle.dc_recovery.specs.Parts.{committed_as, first_as, logged, passed, save_as, second_of, sets_own, third_as, torn_as, torn_log, with_record}
 use Rattle.dc_recovery.specs.Saves.{Logged, answer_at, logged_at, logged_if, span}
 use Rattle.dc_recovery.specs.Systems.{IsSound, System}
 use Rattle.dc_recovery.proofs.Sorts.{IsAnswer, grown, grown_new, grown_old, second_at, second_older, took_small}
@@ -25,10 +25,10 @@ module _ {Mc : Type 0} (S : System Mc) (sound : IsSound S) where
   abbrev pub SavesOk : ℕ → List Answer → Status → Type 0
   SavesOk p ds st = SaveOk S p ds st.older × SaveOk S p ds st.newer × (st.older.position ≤ st.newer.position)
 
-  pub up_commit : (p : ℕ) (ds : List Answer) (st : Status) → UpOk S p ds st → st.unread ≡ [] → UpOk S p ds (committed st)
-  up_commit p ds st up none = let rest : span (logged_at ds) st.position (length ds) ≡ [] = up.rest ∙ none in record {
+  pub up_commit : (n p : ℕ) (ds : List Answer) (st : Status) → UpOk S p ds st → st.unread ≡ [] → UpOk S p ds (committed_as n st)
+  up_commit n p ds st up none = let rest : span (logged_at ds) st.position (length ds) ≡ [] = up.rest ∙ none in record {
     one = refl;
-    save = save_new S sound p st.position ds up.within rest;
+    save = save_new S sound n p st.position ds up.within rest;
     within = up.within;
     from = omega arith;
     rest = rest;
@@ -41,11 +41,11 @@ module _ {Mc : Type 0} (S : System Mc) (sound : IsSound S) where
   pub each_up : (p : ℕ) (ds : List Answer) (st : Status) → UpOk S p ds st → SavesOk p ds st
   each_up p ds st up = (up.save, subst (SaveOk S p ds) (sym up.one) up.save, rw up.one (omega arith))
 
-  pub each_torn : (p : ℕ) (ds : List Answer) (st : Status) → UpOk S p ds st → st.unread ≡ [] → SavesOk p ds (torn st)
-  each_torn p ds st up none = (up.save, save_new S sound p st.position ds up.within (up.rest ∙ none), up.from)
+  pub each_torn : (n p : ℕ) (ds : List Answer) (st : Status) → UpOk S p ds st → st.unread ≡ [] → SavesOk p ds (torn_as n st)
+  each_torn n p ds st up none = (up.save, save_new S sound n p st.position ds up.within (up.rest ∙ none), up.from)
 
-  pub few_commit : (p : ℕ) (ds : List Answer) (st : Status) → UpOk S p ds st → st.unread ≡ [] → FewOk S p ds (committed st)
-  few_commit p ds st up none j c = ⊎_elim
+  pub few_commit : (n p : ℕ) (ds : List Answer) (st : Status) → UpOk S p ds st → st.unread ≡ [] → FewOk S p ds (committed_as n st)
+  few_commit n p ds st up none j c = ⊎_elim
       (λ k q. let g = received_later S.guests p j st.position q ds k in omega arith)
       (λ k. few_plain S sound p st.position j ds (omega arith) (up.rest ∙ none))
       c
@@ -80,7 +80,7 @@ module _ {Mc : Type 0} (S : System Mc) (sound : IsSound S) where
           one = up.one;
           save = ⊎_elim
               (λ on. save_plain S sound p a ds st.older plain (up.clear (exposed on)) (few_all few h) up.save)
-              (λ off. save_hidden S sound p a ds st.older off up.save)
+              (λ off. save_sure S sound p a ds st.older plain off (few_all few h) up.save)
               (cases_Bool (S.exposes (comes S.guests (local S.guests p ds) a)));
           within = omega arith;
           from = let k = up.from in omega arith;
@@ -122,7 +122,7 @@ module _ {Mc : Type 0} (S : System Mc) (sound : IsSound S) where
         }
 
     -- a told act that is new and not logged
-    pub told_new : st.position ≡ length ds → S.exposes (comes S.guests (local S.guests p ds) a) ≡ false → UpOk S p (a ∷ ds) (passed false true st)
+    pub told_new : st.position ≡ length ds → exposed S sound (comes S.guests (local S.guests p ds) a) ≡ false → UpOk S p (a ∷ ds) (passed false true st)
     told_new h hidden =
         let none : st.unread ≡ [] = sym up.rest ∙ span_none (logged_at ds) st.position (length ds) (omega arith) in record {
           one = up.one;
@@ -141,27 +141,27 @@ module _ {Mc : Type 0} (S : System Mc) (sound : IsSound S) where
         or_true false = refl
 
   -- what a turn's rule says
-  pub record PartsOk (p : ℕ) (ds : List Answer) (st : Status) (a : Answer) (f : Rule) (rep : Bool) : Type 0 where
+  pub record PartsOk (n p : ℕ) (ds : List Answer) (st : Status) (a : Answer) (f : Rule) (rep : Bool) : Type 0 where
     pub early : f.before ≡ true → st.unread ≡ []
-    pub third : UpOk S p (grown st.position ds a) (third_of f rep (record { position = st.position; answer = a }) st)
-    pub late : f.after ≡ true → (third_of f rep (record { position = st.position; answer = a }) st).unread ≡ []
-    pub cand : is_cand S.protocol ≡ true → f.after ≡ false → (third_of f rep (record { position = st.position; answer = a }) st).own ≡ false
-    pub few : f.after ≡ false → FewOk S p (grown st.position ds a) (third_of f rep (record { position = st.position; answer = a }) st)
-    pub log : f.log ≡ true → SavesOk p (grown st.position ds a) (torn_log (record { position = st.position; answer = a }) (first_of f.before st))
+    pub third : UpOk S p (grown st.position ds a) (third_as f rep (record { position = st.position; answer = a }) n st)
+    pub late : f.after ≡ true → (third_as f rep (record { position = st.position; answer = a }) n st).unread ≡ []
+    pub cand : is_cand S.protocol ≡ true → f.after ≡ false → (third_as f rep (record { position = st.position; answer = a }) n st).own ≡ false
+    pub few : f.after ≡ false → FewOk S p (grown st.position ds a) (third_as f rep (record { position = st.position; answer = a }) n st)
+    pub log : f.log ≡ true → SavesOk p (grown st.position ds a) (torn_log (record { position = st.position; answer = a }) (first_as f.before n st))
 
-  module _ (p : ℕ) (ds : List Answer) (st : Status) (a : Answer) (up : UpOk S p ds st) (few : FewOk S p ds st) where
-    pub few_first : (b : Bool) → (b ≡ true → st.unread ≡ []) → FewOk S p ds (first_of b st)
-    few_first true h = few_commit p ds st up (h refl)
+  module _ (n p : ℕ) (ds : List Answer) (st : Status) (a : Answer) (up : UpOk S p ds st) (few : FewOk S p ds st) where
+    pub few_first : (b : Bool) → (b ≡ true → st.unread ≡ []) → FewOk S p ds (first_as b n st)
+    few_first true h = few_commit n p ds st up (h refl)
     few_first false h = few
 
-    pub up_first : (b : Bool) → (b ≡ true → st.unread ≡ []) → UpOk S p ds (first_of b st)
-    up_first true h = up_commit p ds st up (h refl)
+    pub up_first : (b : Bool) → (b ≡ true → st.unread ≡ []) → UpOk S p ds (first_as b n st)
+    up_first true h = up_commit n p ds st up (h refl)
     up_first false h = up
 
-    pub sure_turn : (b : Bool) → (b ≡ true → st.unread ≡ []) → is_plain a ≡ true → (st.position ≡ length ds → S.exposes (comes S.guests (local S.guests p ds) a) ≡ true → (st.own && not b) ≡ false) → IsAnswer st.position ds a → UpOk S p (grown st.position ds a) (passed false false (first_of b st))
+    pub sure_turn : (b : Bool) → (b ≡ true → st.unread ≡ []) → is_plain a ≡ true → (st.position ≡ length ds → S.exposes (comes S.guests (local S.guests p ds) a) ≡ true → (st.own && not b) ≡ false) → IsAnswer st.position ds a → UpOk S p (grown st.position ds a) (passed false false (first_as b n st))
     sure_turn true h plain exposed answer = ⊎_elim
-        (λ there. rw (grown_old st.position ds a there.0) (plain_again p ds (committed st) a (up_first true h) there.0 there.1 plain))
-        (λ last. rw (grown_new st.position ds a last) (plain_new p ds (committed st) a (up_first true h) (few_first true h) last plain (λ _. refl)))
+        (λ there. rw (grown_old st.position ds a there.0) (plain_again p ds (committed_as n st) a (up_first true h) there.0 there.1 plain))
+        (λ last. rw (grown_new st.position ds a last) (plain_new p ds (committed_as n st) a (up_first true h) (few_first true h) last plain (λ _. refl)))
         answer
     sure_turn false h plain exposed answer = ⊎_elim
         (λ there. rw (grown_old st.position ds a there.0) (plain_again p ds st a up there.0 there.1 plain))
@@ -186,15 +186,15 @@ module _ {Mc : Type 0} (S : System Mc) (sound : IsSound S) where
     pub last_is_read : st.position ≡ length ds → st.unread ≡ []
     last_is_read h = sym up.rest ∙ span_none (logged_at ds) st.position (length ds) (omega arith)
 
-    pub asking_new : (b l : Bool) → st.position ≡ length ds → is_plain a ≡ false → can_log a ≡ true → S.exposes (comes S.guests (local S.guests p ds) a) ≡ false → (l ≡ true → (has_log S.protocol ≡ true) × (st.own ≡ false)) → UpOk S p (grown st.position ds a) (passed false (sets_own l false a) (second_of l (record { position = st.position; answer = a }) (first_of b st)))
-    asking_new true true last told asking hidden facts = rw (grown_new st.position ds a last, told) (told_logged p ds (committed st) a (up_first true (λ _. last_is_read last)) (few_first true (λ _. last_is_read last)) last told asking (facts refl).0 refl)
-    asking_new true false last told asking hidden facts = rw (grown_new st.position ds a last, told) (told_new p ds (committed st) a (up_first true (λ _. last_is_read last)) last hidden)
+    pub asking_new : (b l : Bool) → st.position ≡ length ds → is_plain a ≡ false → can_log a ≡ true → exposed S sound (comes S.guests (local S.guests p ds) a) ≡ false → (l ≡ true → (has_log S.protocol ≡ true) × (st.own ≡ false)) → UpOk S p (grown st.position ds a) (passed false (sets_own l false a) (second_of l (record { position = st.position; answer = a }) (first_as b n st)))
+    asking_new true true last told asking hidden facts = rw (grown_new st.position ds a last, told) (told_logged p ds (committed_as n st) a (up_first true (λ _. last_is_read last)) (few_first true (λ _. last_is_read last)) last told asking (facts refl).0 refl)
+    asking_new true false last told asking hidden facts = rw (grown_new st.position ds a last, told) (told_new p ds (committed_as n st) a (up_first true (λ _. last_is_read last)) last hidden)
     asking_new false true last told asking hidden facts = rw (grown_new st.position ds a last, told) (told_logged p ds st a up few last told asking (facts refl).0 (facts refl).1)
     asking_new false false last told asking hidden facts = rw (grown_new st.position ds a last, told) (told_new p ds st a up last hidden)
 
-    pub asking_log : (b : Bool) → st.position ≡ length ds → is_plain a ≡ false → can_log a ≡ true → S.exposes (comes S.guests (local S.guests p ds) a) ≡ false → (has_log S.protocol ≡ true) × (st.own ≡ false) → SavesOk p (grown st.position ds a) (torn_log (record { position = st.position; answer = a }) (first_of b st))
+    pub asking_log : (b : Bool) → st.position ≡ length ds → is_plain a ≡ false → can_log a ≡ true → exposed S sound (comes S.guests (local S.guests p ds) a) ≡ false → (has_log S.protocol ≡ true) × (st.own ≡ false) → SavesOk p (grown st.position ds a) (torn_log (record { position = st.position; answer = a }) (first_as b n st))
     asking_log true last told asking hidden facts = let one = up_first true (λ _. last_is_read last) in rw (grown_new st.position ds a last)
-        (save_hidden S sound p a ds (save_now st) hidden one.save, (told_logged p ds (committed st) a one (few_first true (λ _. last_is_read last)) last told asking facts.0 refl).save, omega arith)
+        (save_hidden S sound p a ds (save_as n st) hidden one.save, (told_logged p ds (committed_as n st) a one (few_first true (λ _. last_is_read last)) last told asking facts.0 refl).save, omega arith)
     asking_log false last told asking hidden facts = rw (grown_new st.position ds a last, up.one)
         (save_hidden S sound p a ds st.older hidden up.save, (told_logged p ds st a up few last told asking facts.0 facts.1).save, omega arith)
 
@@ -235,9 +235,9 @@ module _ {Mc : Type 0} (S : System Mc) (sound : IsSound S) where
       there_cases h (inl k) = ⊎_elim (λ m. inl (inl m)) (λ m. inr (omega arith)) (cases_le j st.position)
       there_cases h (inr k) = inl (inr k)
 
-  module _ (p : ℕ) (ds : List Answer) (st : Status) (a : Answer) (up : UpOk S p ds st) (few : FewOk S p ds st) (answer : IsAnswer st.position ds a) where
-    pub few_third : (b l rep sets : Bool) → (b ≡ true → st.unread ≡ []) → (makes_most S p ds st a && not b) ≡ false → FewOk S p (grown st.position ds a) (passed rep sets (second_of l (record { position = st.position; answer = a }) (first_of b st)))
-    few_third true l rep sets h off = few_event p ds (committed st) a l rep sets (record { position = st.position; answer = a }) (up_commit p ds st up (h refl)) (few_commit p ds st up (h refl)) answer (λ q. let k = took_small a q in omega arith)
+  module _ (n p : ℕ) (ds : List Answer) (st : Status) (a : Answer) (up : UpOk S p ds st) (few : FewOk S p ds st) (answer : IsAnswer st.position ds a) where
+    pub few_third : (b l rep sets : Bool) → (b ≡ true → st.unread ≡ []) → (makes_most S p ds st a && not b) ≡ false → FewOk S p (grown st.position ds a) (passed rep sets (second_of l (record { position = st.position; answer = a }) (first_as b n st)))
+    few_third true l rep sets h off = few_event p ds (committed_as n st) a l rep sets (record { position = st.position; answer = a }) (up_commit n p ds st up (h refl)) (few_commit n p ds st up (h refl)) answer (λ q. let k = took_small a q in omega arith)
     few_third false l rep sets h off = few_event p ds st a l rep sets (record { position = st.position; answer = a }) up few answer (light p ds st a (and_yes (makes_most S p ds st a) off) (few st.position (inl (omega arith))))
 
     -- the last receipt that may be uncommitted comes last

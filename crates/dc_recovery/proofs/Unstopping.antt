@@ -1,5 +1,5 @@
 -- A run in which nothing stops.
-use Rattle.std.proofs.Common.{◌≡◌, ◌≢◌, ◌∙◌, ℕ, ◌+◌, zero, suc, List, [], ◌∷◌, ◌++◌, length, refl, ap, subst, sym, arith, ⊎_elim, Bool, true, false, if◌then◌else◌, Option, Some, None, slice_get, map, IsSomeAnd}
+use Rattle.std.proofs.Common.{◌≡◌, ◌≢◌, ◌∙◌, ℕ, ◌+◌, zero, suc, List, [], ◌∷◌, ◌++◌, length, refl, ap, subst, sym, arith, ⊎_elim, Bool, true, false, ◌&&◌, if◌then◌else◌, Option, Some, None, slice_get, map, IsSomeAnd}
 use Rattle.std.proofs.lemmas.Bool.{cases_eq, le-ltb, cases_Bool}
 use Rattle.dc_model.proofs.Own.{oldest_all, own_no, own_yes}
 use Rattle.dc_model.specs.Guests.{Answer, Event}
@@ -12,17 +12,17 @@ use Rattle.dc_model.specs.declared.mark.Idle.{Idle}
 use Rattle.dc_model.specs.declared.mark.Idle.TheVariants.{Ended, LinkFull}
 use Rattle.dc_model.specs.declared.mark.Mark.{Mark}
 use Rattle.dc_model.specs.declared.visible.Visible.{Visible}
-use Rattle.dc_protocols.specs.Rules.{is_global}
-use Rattle.dc_protocols.specs.declared.protocol.Protocol.{Protocol}
+use Rattle.dc_protocols.specs.Rules.{is_joint}
 use Rattle.dc_protocols.specs.declared.protocol.Rule.{Rule}
-use Rattle.dc_recovery.proofs.Parts.{left_beside, left_other, left_self}
+use Rattle.dc_recovery.proofs.Parts.{turn_beside, turn_other, turn_self}
 use Rattle.dc_recovery.proofs.Sorts.{beside}
 use Rattle.dc_recovery.specs.Answers.{answer, is_blocked, replays, rule_at}
-use Rattle.dc_recovery.specs.Core.{Core, Status, opened_core, stands}
-use Rattle.dc_recovery.specs.Parts.{first_of, left, left_of, second_of}
+use Rattle.dc_recovery.specs.Core.{Core, Status, opened_core, opening, stands}
+use Rattle.dc_recovery.specs.Parts.{first_as, left, left_as, second_of}
 use Rattle.dc_recovery.specs.Parts.Place.{InAfter, InBefore, InEvent, InLog, Nowhere}
 use Rattle.dc_recovery.specs.Saves.{Logged}
 use Rattle.dc_recovery.specs.Systems.{System}
+use Rattle.dc_recovery.specs.Ties.{company}
 use Rattle.dc_recovery.specs.Turned.{LeadsTo, Runs, RunsOr, Takes, TakesOr, Turned, after_turn, event_mark, with_act}
 use Rattle.dc_recovery.specs.Unstopped.{AreTurns, IsDetermined, Unstopped, entry_taken, is_taken, taken, taken_or, taken_turns}
 use Rattle.dc_model.specs.declared.mark.Mark.TheVariants as mark
@@ -32,13 +32,13 @@ pub record AllHere (c : Core) : Type 0 where
   pub up : (q : ℕ) → (c.procs q).up ≡ true
   pub end : (q : ℕ) → (c.procs q).position ≡ length (own q c.acts)
 
-first_up : (b : Bool) (st : Status) → (first_of b st).up ≡ st.up
-first_up true st = refl
-first_up false st = refl
+first_up : (n : ℕ) (b : Bool) (st : Status) → (first_as b n st).up ≡ st.up
+first_up n true st = refl
+first_up n false st = refl
 
-first_at : (b : Bool) (st : Status) → (first_of b st).position ≡ st.position
-first_at true st = refl
-first_at false st = refl
+first_at : (n : ℕ) (b : Bool) (st : Status) → (first_as b n st).position ≡ st.position
+first_at n true st = refl
+first_at n false st = refl
 
 second_up : (b : Bool) (x : Logged) (st : Status) → (second_of b x st).up ≡ st.up
 second_up true x st = refl
@@ -48,28 +48,28 @@ second_at : (b : Bool) (x : Logged) (st : Status) → (second_of b x st).positio
 second_at true x st = refl
 second_at false x st = refl
 
-whole_up : (f : Rule) (rep : Bool) (x : Logged) (st : Status) → (left_of f rep x st Nowhere).up ≡ st.up
-whole_up f rep x st = first_up f.after _ ∙ second_up f.log x _ ∙ first_up f.before st
+whole_up : (f : Rule) (rep : Bool) (x : Logged) (n m : ℕ) (st : Status) → (left_as f rep x n m st Nowhere).up ≡ st.up
+whole_up f rep x n m st = first_up m f.after _ ∙ second_up f.log x _ ∙ first_up n f.before st
 
-whole_at : (f : Rule) (rep : Bool) (x : Logged) (st : Status) → (left_of f rep x st Nowhere).position ≡ suc st.position
-whole_at f rep x st = first_at f.after _ ∙ ap suc (second_at f.log x _ ∙ first_at f.before st)
+whole_at : (f : Rule) (rep : Bool) (x : Logged) (n m : ℕ) (st : Status) → (left_as f rep x n m st Nowhere).position ≡ suc st.position
+whole_at f rep x n m st = first_at m f.after _ ∙ ap suc (second_at f.log x _ ∙ first_at n f.before st)
 
-beside_up : (f : Rule) (st : Status) → (beside f st Nowhere).up ≡ st.up
-beside_up f st = first_up f.after _ ∙ first_up f.before st
+beside_up : (f : Rule) (b a : Bool) (n m : ℕ) (st : Status) → (beside f b a n m st Nowhere).up ≡ st.up
+beside_up f b a n m st = first_up m (f.after && a) _ ∙ first_up n (f.before && b) st
 
-beside_at : (f : Rule) (st : Status) → (beside f st Nowhere).position ≡ st.position
-beside_at f st = first_at f.after _ ∙ first_at f.before st
+beside_at : (f : Rule) (b a : Bool) (n m : ℕ) (st : Status) → (beside f b a n m st Nowhere).position ≡ st.position
+beside_at f b a n m st = first_at m (f.after && a) _ ∙ first_at n (f.before && b) st
 
-module _ (pr : Protocol) (f : Rule) (rep : Bool) (x : Logged) (p : ℕ) (procs : ℕ → Status) where
-  rest_part : {A : Type 0} (part : Status → A) → ((st : Status) → part (beside f st Nowhere) ≡ part st) → (q : ℕ) → p ≢ q → part (left f rep x pr p procs Nowhere q) ≡ part (procs q)
+module _ {Mc : Type 0} (S : System Mc) (c : Core) (p : ℕ) (a : Answer) (f : Rule) (rep : Bool) (x : Logged) (procs : ℕ → Status) where
+  rest_part : {A : Type 0} (part : Status → A) → ((b d : Bool) (n m : ℕ) (st : Status) → part (beside f b d n m st Nowhere) ≡ part st) → (q : ℕ) → p ≢ q → part (left f rep x (company S c p a) p procs Nowhere q) ≡ part (procs q)
   rest_part part same q ne = ⊎_elim
-      (λ (g : is_global pr ≡ true). ap part (left_beside pr p f rep x procs Nowhere q g ne) ∙ same (procs q))
-      (λ (g : is_global pr ≡ false). ap part (left_other pr p f rep x procs Nowhere q g ne))
-      (cases_Bool (is_global pr))
+      (λ (g : is_joint S.protocol ≡ true). ap part (turn_beside S c p a f rep x procs Nowhere q g ne) ∙ same ((company S c p a).before q) ((company S c p a).after q) ((company S c p a).numbers_before q) ((company S c p a).numbers_after q) (procs q))
+      (λ (g : is_joint S.protocol ≡ false). ap part (turn_other S c p a f rep x procs Nowhere q g ne))
+      (cases_Bool (is_joint S.protocol))
 
-  up_all : (q : ℕ) → (left f rep x pr p procs Nowhere q).up ≡ (procs q).up
+  up_all : (q : ℕ) → (left f rep x (company S c p a) p procs Nowhere q).up ≡ (procs q).up
   up_all q = ⊎_elim
-      (λ (same : p ≡ q). subst (λ (y : ℕ). (left f rep x pr p procs Nowhere y).up ≡ (procs y).up) same (ap (λ (st : Status). st.up) (left_self pr p f rep x procs Nowhere) ∙ whole_up f rep x (procs p)))
+      (λ (same : p ≡ q). subst (λ (y : ℕ). (left f rep x (company S c p a) p procs Nowhere y).up ≡ (procs y).up) same (ap (λ (st : Status). st.up) (turn_self S c p a f rep x procs Nowhere) ∙ whole_up f rep x ((company S c p a).numbers_before p) ((company S c p a).numbers_after p) (procs p)))
       (λ (ne : p ≢ q). rest_part (λ st. st.up) (beside_up f) q ne)
       (cases_eq p q)
 
@@ -83,15 +83,15 @@ module _ {Mc : Type 0} (S : System Mc) (t : ℕ) (c : Core) (here : AllHere c) (
   end_next : (q : ℕ) → ((after_turn S t c p a Nowhere).procs q).position ≡ length (own q (this ∷ c.acts))
   end_next q = ⊎_elim
       (λ (same : p ≡ q). subst (λ (y : ℕ). ((after_turn S t c p a Nowhere).procs y).position ≡ length (own y (this ∷ c.acts))) same
-      (ap (λ (st : Status). st.position) (left_self S.protocol p (rule_at S c p a) (replays (comes S.guests (stands S.guests c p) a) (c.procs p)) (record { position = (c.procs p).position; answer = a }) c.procs Nowhere)
-      ∙ whole_at (rule_at S c p a) _ _ (c.procs p) ∙ ap suc (here.end p) ∙ sym (ap (λ (ds : List Answer). length ds) (own_yes this c.acts p refl))))
-      (λ (ne : p ≢ q). rest_part S.protocol (rule_at S c p a) (replays (comes S.guests (stands S.guests c p) a) (c.procs p)) (record { position = (c.procs p).position; answer = a }) p c.procs (λ st. st.position) (beside_at (rule_at S c p a)) q ne
+      (ap (λ (st : Status). st.position) (turn_self S c p a (rule_at S c p a) (replays (comes S.guests (stands S.guests c p) a) (c.procs p)) (record { position = (c.procs p).position; answer = a }) c.procs Nowhere)
+      ∙ whole_at (rule_at S c p a) _ _ _ _ (c.procs p) ∙ ap suc (here.end p) ∙ sym (ap (λ (ds : List Answer). length ds) (own_yes this c.acts p refl))))
+      (λ (ne : p ≢ q). rest_part S c p a (rule_at S c p a) (replays (comes S.guests (stands S.guests c p) a) (c.procs p)) (record { position = (c.procs p).position; answer = a }) c.procs (λ st. st.position) (beside_at (rule_at S c p a)) q ne
       ∙ here.end q ∙ sym (ap (λ (ds : List Answer). length ds) (own_no this c.acts q ne)))
       (cases_eq p q)
 
   pub here_next : AllHere (after_turn S t c p a Nowhere)
   here_next = record {
-    up = λ q. up_all S.protocol (rule_at S c p a) (replays (comes S.guests (stands S.guests c p) a) (c.procs p)) (record { position = (c.procs p).position; answer = a }) p c.procs q ∙ here.up q;
+    up = λ q. up_all S c p a (rule_at S c p a) (replays (comes S.guests (stands S.guests c p) a) (c.procs p)) (record { position = (c.procs p).position; answer = a }) c.procs q ∙ here.up q;
     end = λ q. subst (λ (ts : List Given). ((after_turn S t c p a Nowhere).procs q).position ≡ length (own q ts)) (sym act_new) (end_next q);
   }
 
@@ -188,7 +188,7 @@ pub record Lead {Mc : Type 0} (S : System Mc) (schedule : List Entry) (marks : L
 
 module _ {Mc : Type 0} (S : System Mc) (schedule : List Entry) (only : AreTurns schedule) where
   abbrev Leads : List Mark → Core → Type 0
-  Leads marks c = LeadsTo S schedule 0 (opened_core (λ p. true)) marks c
+  Leads marks c = LeadsTo S schedule (opening (λ p. true)) marks c
 
   open_lead : Lead S schedule [] (opened_core (λ p. true))
   open_lead = record { here = record { up = λ q. refl; end = λ q. refl }; lines = refl; turns = refl }

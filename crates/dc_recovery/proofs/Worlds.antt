@@ -1,6 +1,6 @@
 -- The world through one turn: acts, lines, and what lies behind each process.
-use Rattle.std.proofs.Common.{◌≡◌, ◌≢◌, ◌∙◌, ℕ, ◌<◌, ◌≤◌, zero, suc, List, [], ◌∷◌, ◌++◌, length, refl, ap, subst, sym, arith, ⊎_elim, inl, inr, true, false, if◌then◌else◌, Some, slice_get}
-use Rattle.std.proofs.lemmas.Bool.{cases_eq, cases_lt, lt-ltb, le-ltb, cases_Bool, true≢false, and_parts, or_cases, or_parts, or_left, or_right}
+use Rattle.std.proofs.Common.{◌≡◌, ◌≢◌, ◌∙◌, ℕ, ◌<◌, ◌≤◌, zero, suc, List, [], ◌∷◌, ◌++◌, length, refl, ap, subst, sym, arith, ⊎_elim, inl, inr, Bool, true, false, if◌then◌else◌, Some, slice_get}
+use Rattle.std.proofs.lemmas.Bool.{cond_both, cases_eq, cases_lt, lt-ltb, le-ltb, cases_Bool, true≢false, and_parts, or_cases, or_parts, or_left, or_right}
 use Rattle.std.proofs.lemmas.Option.{slice_get_within}
 use Rattle.dc_model.proofs.Own.{oldest_all, own_no, own_yes}
 use Rattle.dc_model.proofs.Thinning.{visibles_distinct, unseen}
@@ -11,13 +11,13 @@ use Rattle.dc_model.specs.Process.{Local, at_position, comes, fits, local, moved
 use Rattle.dc_model.specs.Runs.{Given, IsMail, IsRun, own, state, visibles}
 use Rattle.dc_model.specs.declared.entry.Entry.{Entry}
 use Rattle.dc_model.specs.declared.visible.Visible.{Visible}
-use Rattle.dc_protocols.specs.Rules.{is_global, row_of}
+use Rattle.dc_protocols.specs.Rules.{is_causal, is_global, is_joint, row_of}
 use Rattle.dc_protocols.specs.declared.protocol.Rule.{Rule}
 use Rattle.dc_protocols.specs.declared.protocol.Since.{Since}
 use Rattle.dc_recovery.proofs.Cuts.{before_read, hidden, oldest_in, oldest_more, sent_before}
 use Rattle.dc_recovery.proofs.Given.{IsDrawnAt, IsGiven, IsMailUp}
 use Rattle.dc_recovery.proofs.Lines.{LinesOk, lines_again, lines_new, there}
-use Rattle.dc_recovery.proofs.Parts.{left_beside, left_other, left_self}
+use Rattle.dc_recovery.proofs.Parts.{turn_beside, turn_other, turn_self}
 use Rattle.dc_recovery.proofs.Rows.{after_unseen, global_no_log, inputs_are, log_unseen, visibles_are}
 use Rattle.dc_recovery.proofs.Runs.{drawn_later, run_fits, sort_of}
 use Rattle.dc_recovery.proofs.Spans.{oldest_next}
@@ -25,12 +25,13 @@ use Rattle.dc_recovery.proofs.Sorts.{IsAnswer, Sort, grown}
 use Rattle.dc_recovery.proofs.Steps.{PartsOk}
 use Rattle.dc_recovery.proofs.Turns.{behind_after, behind_beside, parts_ok}
 use Rattle.dc_recovery.proofs.Sorts.Sort.{Asking, Chance, Sure}
-use Rattle.dc_recovery.specs.Answers.{any_own, makes_most, replays, rule_at, since}
+use Rattle.dc_recovery.specs.Answers.{any_at, any_of, any_own, makes_most, replays, rule_at, since, stores_at}
 use Rattle.dc_recovery.specs.Core.{Core, Status, stands}
 use Rattle.dc_recovery.specs.Invariant.{Behind, DrawnBelow, Holds, Running}
 use Rattle.dc_recovery.specs.Parts.{Place, may_stop, may_store}
 use Rattle.dc_recovery.specs.Parts.Place.{InAfter, InBefore, InEvent, InLog, Nowhere}
 use Rattle.dc_recovery.specs.Systems.{IsSound, System, kind_at}
+use Rattle.dc_recovery.specs.Ties.{company}
 use Rattle.dc_recovery.specs.Turned.{after_turn, has_act, with_act}
 
 -- a turn's acts and lines
@@ -153,7 +154,7 @@ module _ {Mc : Type 0} (S : System Mc) (sound : IsSound S) (schedule : List Entr
   event = comes S.guests (stands S.guests c p) a
 
   abbrev pub turn_since : Since
-  turn_since = since S.log_room event (c.procs p) (any_own S.guests.count c.procs) (makes_most S p (own p c.acts) (c.procs p) a)
+  turn_since = since S.log_room event (c.procs p) (any_at S c p) (makes_most S p (own p c.acts) (c.procs p) a)
 
   abbrev pub rule : Rule
   rule = rule_at S c p a
@@ -170,11 +171,11 @@ module _ {Mc : Type 0} (S : System Mc) (sound : IsSound S) (schedule : List Entr
       (λ h. unseen_most S p (own p c.acts) (c.procs p) event a (sort_here S.guests t c p a now.run told) (and_parts (makes_most S p (own p c.acts) (c.procs p) a) _ h).0)
       (or_cases (row_of S.protocol (kind_at event) turn_since).after _ on)
 
-  pub lines_after : (w : Place) → may_stop rule event a w ≡ true → LinesOk (next w).lines (visibles S.guests (next w).acts)
+  pub lines_after : (w : Place) → may_stop rule (stores_at S.guests c p a) event a w ≡ true → LinesOk (next w).lines (visibles S.guests (next w).acts)
   lines_after Nowhere may = lines_whole S.guests t c p a now.run lines_now told
   lines_after InBefore may = lines_now
   lines_after InLog may = lines_hidden S.guests t c p a now.run lines_now told (unseen_asking event (sym (inputs_are event) ∙ log_unseen (kind_at event) turn_since S.protocol may))
-  lines_after InEvent may = lines_hidden S.guests t c p a now.run lines_now told (unseen_store event a may)
+  lines_after InEvent may = lines_hidden S.guests t c p a now.run lines_now told (unseen_store event a (and_parts (stores_at S.guests c p a) (may_store event a) may).1)
   lines_after InAfter may = lines_hidden S.guests t c p a now.run lines_now told (after_hidden may)
 
   pub run_after : (w : Place) → IsRun S.guests (next w).acts
@@ -209,46 +210,58 @@ module _ {Mc : Type 0} (S : System Mc) (sound : IsSound S) (schedule : List Entr
   here_running = (now.behind p).running up
 
   -- own of one is own of some
-  any_here : (n q : ℕ) → q < n → (c.procs q).own ≡ true → any_own n c.procs ≡ true
-  any_here zero q h on = absurd (omega arith)
-  any_here (suc n) q h on = ⊎_elim
+  own_here : (n q : ℕ) → q < n → (c.procs q).own ≡ true → any_own n c.procs ≡ true
+  own_here zero q h on = absurd (omega arith)
+  own_here (suc n) q h on = ⊎_elim
       (λ (same : n ≡ q). or_left (c.procs n).own (any_own n c.procs) (subst (λ (y : ℕ). (c.procs y).own ≡ true) (sym same) on))
-      (λ (ne : n ≢ q). or_right (c.procs n).own (any_own n c.procs) (any_here n q (omega arith) on))
+      (λ (ne : n ≢ q). or_right (c.procs n).own (any_own n c.procs) (own_here n q (omega arith) on))
       (cases_eq n q)
 
-  pub parts_here : PartsOk S sound p (own p c.acts) (c.procs p) a rule (replays event (c.procs p))
-  parts_here = parts_ok S sound p (own p c.acts) (c.procs p) a here_running.ok here_running.few here_running.cand (answer_of S.guests t c p a now.run told)
-      event (any_own S.guests.count c.procs) (λ on. any_here S.guests.count p inside on)
+  of_here : (n q : ℕ) (test : ℕ → Bool) → q < n → test q ≡ true → any_of n test ≡ true
+  of_here zero q test h on = absurd (omega arith)
+  of_here (suc n) q test h on = ⊎_elim
+      (λ (same : n ≡ q). or_left (test n) (any_of n test) (subst (λ (y : ℕ). test y ≡ true) (sym same) on))
+      (λ (ne : n ≢ q). or_right (test n) (any_of n test) (of_here n q test (omega arith) on))
+      (cases_eq n q)
+
+  any_here : (c.procs p).own ≡ true → any_at S c p ≡ true
+  any_here on = cond_both (is_causal S.protocol) (any_of S.guests.count (c.ties.on p)) (any_own S.guests.count c.procs) (λ (b : Bool). b ≡ true)
+      (λ e. of_here S.guests.count p (c.ties.on p) inside (((now.joint (or_right (is_global S.protocol) (is_causal S.protocol) e)).traced e p up).self p on))
+      (λ _. own_here S.guests.count p inside on)
+
+  pub parts_here : PartsOk S sound ((company S c p a).numbers_before p) p (own p c.acts) (c.procs p) a rule (replays event (c.procs p))
+  parts_here = parts_ok S sound ((company S c p a).numbers_before p) p (own p c.acts) (c.procs p) a here_running.ok here_running.few here_running.cand (answer_of S.guests t c p a now.run told)
+      event (any_at S c p) any_here
       (λ e. ap (λ (l : Local _). comes S.guests l a) (sym (stands_last S.guests t c p a now.run p (omega arith))))
       (sort_here S.guests t c p a now.run told)
 
-  may_before : (w : Place) → may_stop rule event a w ≡ true → w ≡ InBefore → rule.before ≡ true
-  may_before w may e = subst (λ (y : Place). may_stop rule event a y ≡ true) e may
+  may_before : (w : Place) → may_stop rule (stores_at S.guests c p a) event a w ≡ true → w ≡ InBefore → rule.before ≡ true
+  may_before w may e = subst (λ (y : Place). may_stop rule (stores_at S.guests c p a) event a y ≡ true) e may
 
-  may_log : (w : Place) → may_stop rule event a w ≡ true → w ≡ InLog → rule.log ≡ true
-  may_log w may e = subst (λ (y : Place). may_stop rule event a y ≡ true) e may
+  may_log : (w : Place) → may_stop rule (stores_at S.guests c p a) event a w ≡ true → w ≡ InLog → rule.log ≡ true
+  may_log w may e = subst (λ (y : Place). may_stop rule (stores_at S.guests c p a) event a y ≡ true) e may
 
-  may_after : (w : Place) → may_stop rule event a w ≡ true → w ≡ InAfter → rule.after ≡ true
-  may_after w may e = subst (λ (y : Place). may_stop rule event a y ≡ true) e may
+  may_after : (w : Place) → may_stop rule (stores_at S.guests c p a) event a w ≡ true → w ≡ InAfter → rule.after ≡ true
+  may_after w may e = subst (λ (y : Place). may_stop rule (stores_at S.guests c p a) event a y ≡ true) e may
 
-  behind_self : (w : Place) → may_stop rule event a w ≡ true → Behind S p (own p (next w).acts) ((next w).procs p)
-  behind_self w may = rw (own_after w, left_self S.protocol p rule (replays event (c.procs p)) (record { position = (c.procs p).position; answer = a }) c.procs w)
-      (behind_after S sound p (own p c.acts) (c.procs p) a rule (replays event (c.procs p)) here_running.ok parts_here w (may_before w may) (may_log w may) (may_after w may))
+  behind_self : (w : Place) → may_stop rule (stores_at S.guests c p a) event a w ≡ true → Behind S p (own p (next w).acts) ((next w).procs p)
+  behind_self w may = rw (own_after w, turn_self S c p a rule (replays event (c.procs p)) (record { position = (c.procs p).position; answer = a }) c.procs w)
+      (behind_after S sound ((company S c p a).numbers_before p) ((company S c p a).numbers_after p) p (own p c.acts) (c.procs p) a rule (replays event (c.procs p)) here_running.ok parts_here w (may_before w may) (may_log w may) (may_after w may))
 
-  pub all_up : (q : ℕ) → is_global S.protocol ≡ true → (c.procs q).up ≡ true
+  pub all_up : (q : ℕ) → is_joint S.protocol ≡ true → (c.procs q).up ≡ true
   all_up q g = (now.joint g).together q p ∙ up
 
-  pub all_read : (q : ℕ) → is_global S.protocol ≡ true → (c.procs q).unread ≡ []
+  pub all_read : (q : ℕ) → is_joint S.protocol ≡ true → (c.procs q).unread ≡ []
   all_read q g = ((now.behind q).running (all_up q g)).ok.no_log (global_no_log S.protocol g)
 
   behind_rest : (w : Place) (q : ℕ) → p ≢ q → Behind S q (own q (next w).acts) ((next w).procs q)
   behind_rest w q ne = ⊎_elim
-      (λ (g : is_global S.protocol ≡ true). rw (own_after_other w q ne, left_beside S.protocol p rule (replays event (c.procs p)) (record { position = (c.procs p).position; answer = a }) c.procs w q g ne)
-      (behind_beside S sound q (own q c.acts) (c.procs q) rule ((now.behind q).running (all_up q g)) (all_read q g) w))
-      (λ (g : is_global S.protocol ≡ false). rw (own_after_other w q ne, left_other S.protocol p rule (replays event (c.procs p)) (record { position = (c.procs p).position; answer = a }) c.procs w q g ne) (now.behind q))
-      (cases_Bool (is_global S.protocol))
+      (λ (g : is_joint S.protocol ≡ true). rw (own_after_other w q ne, turn_beside S c p a rule (replays event (c.procs p)) (record { position = (c.procs p).position; answer = a }) c.procs w q g ne)
+      (behind_beside S sound ((company S c p a).numbers_before q) ((company S c p a).numbers_after q) q (own q c.acts) (c.procs q) rule ((company S c p a).before q) ((company S c p a).after q) ((now.behind q).running (all_up q g)) (all_read q g) w))
+      (λ (g : is_joint S.protocol ≡ false). rw (own_after_other w q ne, turn_other S c p a rule (replays event (c.procs p)) (record { position = (c.procs p).position; answer = a }) c.procs w q g ne) (now.behind q))
+      (cases_Bool (is_joint S.protocol))
 
-  pub behind_turn : (w : Place) → may_stop rule event a w ≡ true → (q : ℕ) → Behind S q (own q (next w).acts) ((next w).procs q)
+  pub behind_turn : (w : Place) → may_stop rule (stores_at S.guests c p a) event a w ≡ true → (q : ℕ) → Behind S q (own q (next w).acts) ((next w).procs q)
   behind_turn w may q = ⊎_elim
       (λ (same : p ≡ q). subst (λ (y : ℕ). Behind S y (own y (next w).acts) ((next w).procs y)) same (behind_self w may))
       (λ (ne : p ≢ q). behind_rest w q ne)

@@ -1,15 +1,15 @@
 -- What a process is answered, and what its protocol asks for there.
-use Rattle.std.specs.Prelude.{◌==◌, ◌+◌, ◌%◌, ℕ, zero, suc, List, [], ◌∷◌, Bool, true, false, not, ◌&&◌, ◌||◌, if◌then◌else◌, length, slice_get, nat_le, Option, Some, None}
+use Rattle.std.specs.Prelude.{◌==◌, ◌+◌, ◌%◌, ℕ, zero, suc, List, [], ◌∷◌, Bool, false, not, ◌&&◌, ◌||◌, if◌then◌else◌, length, slice_get, nat_le, Option, Some, None}
 use Rattle.dc_model.specs.Guests.{Event, Answer, Guests, input_answer, is_request, receive_answer}
 use Rattle.dc_model.specs.Guests.Event.{AtClock, AtRandom, AtInput, AtReceive, AtSend}
 use Rattle.dc_model.specs.Guests.Answer.{Plain, Clock, Random, InputNone, ReceiveNone, ReceiveFrom}
 use Rattle.dc_model.specs.Process.{at_position, comes}
 use Rattle.dc_model.specs.Runs.{own}
-use Rattle.dc_protocols.specs.Rules.{rule_of}
+use Rattle.dc_protocols.specs.Rules.{is_causal, rule_of}
 use Rattle.dc_protocols.specs.declared.protocol.Rule.{Rule}
 use Rattle.dc_protocols.specs.declared.protocol.Since.{Since}
 use Rattle.dc_recovery.specs.Core.{Core, Status, learned, stands}
-use Rattle.dc_recovery.specs.Saves.{Logged, Save, answer_at}
+use Rattle.dc_recovery.specs.Saves.{Logged, Save, answer_at, is_empty_log}
 use Rattle.dc_recovery.specs.Systems.{System, kind_at}
 
 -- the answer that a turn's word and clock draw; the word names the sender, who must be up and have sent the message by its position
@@ -39,10 +39,9 @@ abbrev pub is_blocked : {Mc : Type 0} → System Mc → Core → ℕ → Event �
 is_blocked S c p (AtSend q message) = nat_le (learned S.guests c q p + S.most) (length ((stands S.guests c p).sent q))
 is_blocked S c p _ = false
 
--- nothing is left to read
-abbrev pub is_empty_log : List Logged → Bool
-is_empty_log [] = true
-is_empty_log (x ∷ log) = false
+-- whether p stores to memory in its event with this answer
+abbrev pub stores_at : {Mc : Type 0} → Guests Mc → Core → ℕ → Answer → Bool
+stores_at G c p a = G.stores (stands G c p).machine a
 
 -- the answer comes from the log
 abbrev pub replays : Event → Status → Bool
@@ -67,6 +66,15 @@ abbrev pub any_own : ℕ → (ℕ → Status) → Bool
 any_own zero procs = false
 any_own (suc n) procs = (procs n).own || any_own n procs
 
+-- some process below n is one of these
+abbrev pub any_of : ℕ → (ℕ → Bool) → Bool
+any_of zero test = false
+any_of (suc n) test = test n || any_of n test
+
+-- some unlogged nondeterministic event since the last commit matters to p: any at all, or, where only those commit that matter, one on which p depends
+abbrev pub any_at : {Mc : Type 0} → System Mc → Core → ℕ → Bool
+any_at S c p = if is_causal S.protocol then any_of S.guests.count (c.ties.on p) else any_own S.guests.count c.procs
+
 -- what an event finds
 abbrev pub since : ℕ → Event → Status → Bool → Bool → Since
 since room e st any most = record { own = st.own; any = any; full = is_full room st.newer; eighth = most; replay = replays e st }
@@ -74,4 +82,4 @@ since room e st any most = record { own = st.own; any = any; full = is_full room
 -- what the protocol asks at the event that comes where p stands
 abbrev pub rule_at : {Mc : Type 0} → System Mc → Core → ℕ → Answer → Rule
 rule_at S c p a = let e = comes S.guests (stands S.guests c p) a in
-    rule_of S.protocol (kind_at e) (since S.log_room e (c.procs p) (any_own S.guests.count c.procs) (makes_most S p (own p c.acts) (c.procs p) a))
+    rule_of S.protocol (kind_at e) (since S.log_room e (c.procs p) (any_at S c p) (makes_most S p (own p c.acts) (c.procs p) a))

@@ -1,15 +1,15 @@
 -- The recovery invariant: each save can be brought forward to where its process is, and a run lies behind what was shown.
-use Rattle.std.specs.Prelude.{◌≡◌, ◌≤◌, ◌<◌, ◌+◌, ◌⊎◌, ℕ, List, [], ◌∷◌, Bool, true, false, if◌then◌else◌, length, reverse, slice_get}
+use Rattle.std.specs.Prelude.{◌≡◌, ◌≤◌, ◌<◌, ◌+◌, ◌⊎◌, ℕ, List, [], ◌∷◌, Bool, true, false, if◌then◌else◌, length, max, reverse, slice_get}
 use Rattle.dc_model.specs.Drawn.{draws}
-use Rattle.dc_model.specs.Guests.{Answer, Guests}
+use Rattle.dc_model.specs.Guests.{Answer}
 use Rattle.dc_model.specs.Guests.Answer.{InputNone, InputNext, InputEnd, ReceiveNone, ReceiveFrom}
 use Rattle.dc_model.specs.Process.{at_position}
 use Rattle.dc_model.specs.Runs.{Given, IsRun, own, visibles}
 use Rattle.dc_model.specs.World.{act_of, thin}
 use Rattle.dc_model.specs.declared.entry.Entry.{Entry}
-use Rattle.dc_protocols.specs.Rules.{has_log, is_cand, is_global}
-use Rattle.dc_recovery.specs.Core.{Core, Status, learned}
-use Rattle.dc_recovery.specs.Saves.{IsClosed, Logged, Save, log_end, logged_at, reach, span}
+use Rattle.dc_protocols.specs.Rules.{has_log, is_cand, is_causal, is_joint}
+use Rattle.dc_recovery.specs.Core.{Core, Status, learned, stands}
+use Rattle.dc_recovery.specs.Saves.{IsCovered, Logged, Save, is_empty_log, log_end, logged_at, reach, span}
 use Rattle.dc_recovery.specs.Systems.{System}
 
 -- an answer to a request for input or for a message
@@ -68,13 +68,30 @@ pub record Behind {Mc : Type 0} (S : System Mc) (p : ℕ) (answers : List Answer
   pub order : st.older.position ≤ st.newer.position
   pub running : st.up ≡ true → Running S p answers st
 
--- where all commit and recover together: all are up or all down; what each received by its position, or by its save, the others sent by theirs
-pub record Joint {Mc : Type 0} (G : Guests Mc) (c : Core) : Type 0 where
+-- how far a process would come again from its older save
+abbrev pub sure_of : {Mc : Type 0} → System Mc → Core → ℕ → ℕ
+sure_of S c q = reach S q (own q c.acts) (c.procs q).older
+
+-- where only those commit that matter: whoever had an unlogged nondeterministic event since its last commit depends on itself, was told something since its
+-- save, and has no act to repeat; whoever received what its sender is not sure to send again depends on the sender, and so does whoever will receive it; only
+-- what there is depends, or is depended on; a message carries nothing on which its sender does not depend
+pub record Traced {Mc : Type 0} (S : System Mc) (c : Core) : Type 0 where
+  pub self : (p : ℕ) → (c.procs p).own ≡ true → c.ties.on p p ≡ true
+  pub told : (p : ℕ) → (c.procs p).own ≡ true → is_empty_log (span (logged_at (own p c.acts)) (c.procs p).older.position (length (own p c.acts))) ≡ false
+  pub last : (p : ℕ) → (c.procs p).own ≡ true → (c.procs p).position ≡ length (own p c.acts)
+  pub got : (p s : ℕ) → c.ties.on p s ≡ false → (stands S.guests c p).received s ≤ length ((at_position S.guests s (sure_of S c s) (own s c.acts)).sent p)
+  pub mail : (s r k : ℕ) → length ((at_position S.guests s (sure_of S c s) (own s c.acts)).sent r) ≤ k → k < length ((stands S.guests c s).sent r) → c.ties.carried s r k s ≡ true
+  pub inside : (p q : ℕ) → c.ties.on p q ≡ true → (p < S.guests.count) × (q < S.guests.count)
+  pub kept : (s r k q : ℕ) → c.ties.carried s r k q ≡ true → c.ties.on s q ≡ true
+
+-- where all recover together: all are up or all down; what each received by its position, or by its save, the others sent by theirs, or will surely send again
+pub record Joint {Mc : Type 0} (S : System Mc) (c : Core) : Type 0 where
   pub together : (p q : ℕ) → (c.procs p).up ≡ (c.procs q).up
-  pub older : IsClosed G (λ q. (c.procs q).older.position) c.acts
-  pub newer : IsClosed G (λ q. (c.procs q).newer.position) c.acts
-  pub closed : (p : ℕ) → (c.procs p).up ≡ true → IsClosed G (λ q. (c.procs q).position) c.acts
-  pub beyond : (q : ℕ) → G.count ≤ q → (c.procs q).own ≡ false
+  pub older : IsCovered S.guests (λ q. (c.procs q).older.position) (λ q. reach S q (own q c.acts) (c.procs q).older) c.acts
+  pub newer : IsCovered S.guests (λ q. (c.procs q).newer.position) (λ q. reach S q (own q c.acts) (c.procs q).newer) c.acts
+  pub ahead : (p : ℕ) → (c.procs p).up ≡ true → IsCovered S.guests (λ q. (c.procs q).position) (λ q. max (c.procs q).position (sure_of S c q)) c.acts
+  pub beyond : (q : ℕ) → S.guests.count ≤ q → (c.procs q).own ≡ false
+  pub traced : is_causal S.protocol ≡ true → (p : ℕ) → (c.procs p).up ≡ true → Traced S c
 
 -- how far a process has come that is up, or that a store may stand for
 abbrev pub front : Status → ℕ
@@ -96,4 +113,4 @@ pub record Holds {Mc : Type 0} (S : System Mc) (schedule : List Entry) (turn : �
   pub shown : thin (reverse c.lines) ≡ reverse (visibles S.guests c.acts)
   pub behind : (p : ℕ) → Behind S p (own p c.acts) (c.procs p)
   pub links : LinksOk S c
-  pub joint : is_global S.protocol ≡ true → Joint S.guests c
+  pub joint : is_joint S.protocol ≡ true → Joint S c

@@ -4,7 +4,7 @@ use Rattle.dc_model.specs.Guests.{Event, Answer, is_plain}
 use Rattle.dc_model.specs.Guests.Event.{AtInternal, AtInput, AtReceive}
 use Rattle.dc_model.specs.Guests.Answer.{InputNext, ReceiveFrom}
 use Rattle.dc_model.specs.World.{put}
-use Rattle.dc_protocols.specs.Rules.{is_global}
+use Rattle.dc_protocols.specs.Rules.{is_joint}
 use Rattle.dc_protocols.specs.declared.protocol.Protocol.{Protocol}
 use Rattle.dc_protocols.specs.declared.protocol.Rule.{Rule}
 use Rattle.dc_recovery.specs.Core.{Status}
@@ -16,21 +16,35 @@ use Rattle.dc_recovery.specs.Saves.{Logged, Save}
 abbrev pub fallen : Status → Status
 fallen st = record { up = false; position = 0; unread = []; own = false; older = st.older; newer = st.newer }
 
--- where it is, with nothing logged since
+-- where it is, with nothing logged since, under this number
+abbrev pub save_as : ℕ → Status → Save
+save_as number st = record { position = st.position; log = []; number = number }
+
+-- after a commit under this number
+abbrev pub committed_as : ℕ → Status → Status
+committed_as number st = record { up = st.up; position = st.position; unread = []; own = false; older = save_as number st; newer = save_as number st }
+
+-- stopped in such a commit: its store stands for the save before it or for the new one
+abbrev pub torn_as : ℕ → Status → Status
+torn_as number st = record { up = false; position = 0; unread = []; own = false; older = st.older; newer = save_as number st }
+
+-- the number after that of its last commit
+abbrev pub number_after : Status → ℕ
+number_after st = suc st.older.number
+
+-- a save, a commit and a commit that was cut off, each under that number
 abbrev pub save_now : Status → Save
-save_now st = record { position = st.position; log = [] }
+save_now st = save_as (number_after st) st
 
--- after a commit
 abbrev pub committed : Status → Status
-committed st = record { up = st.up; position = st.position; unread = []; own = false; older = save_now st; newer = save_now st }
+committed st = committed_as (number_after st) st
 
--- stopped in a commit: its store stands for the save before it or for the new one
 abbrev pub torn : Status → Status
-torn st = record { up = false; position = 0; unread = []; own = false; older = st.older; newer = save_now st }
+torn st = torn_as (number_after st) st
 
 -- a save with one record more at the end of its log
 abbrev pub with_record : Logged → Save → Save
-with_record x s = record { position = s.position; log = s.log ++ x ∷ [] }
+with_record x s = record { position = s.position; log = s.log ++ x ∷ []; number = s.number }
 
 -- after a log record
 abbrev pub logged : Logged → Status → Status
@@ -63,43 +77,61 @@ may_store AtInput (InputNext bytes) = true
 may_store AtReceive (ReceiveFrom s message) = true
 may_store _ a = false
 
--- where a device call may be stopped: in the commit before, the log record, the event, the commit after, each where there is one
-abbrev pub may_stop : Rule → Event → Answer → Place → Bool
-may_stop rule e a Nowhere = true
-may_stop rule e a InBefore = rule.before
-may_stop rule e a InLog = rule.log
-may_stop rule e a InEvent = may_store e a
-may_stop rule e a InAfter = rule.after
+-- where a device call may be stopped: in the commit before, the log record, the event, the commit after, each where there is one, and in the event where that stores
+abbrev pub may_stop : Rule → Bool → Event → Answer → Place → Bool
+may_stop rule stores e a Nowhere = true
+may_stop rule stores e a InBefore = rule.before
+may_stop rule stores e a InLog = rule.log
+may_stop rule stores e a InEvent = stores && may_store e a
+may_stop rule stores e a InAfter = rule.after
 
 -- an event that is told something that is neither logged nor comes from the log
 abbrev pub sets_own : Bool → Bool → Answer → Bool
 sets_own log replay a = not (is_plain a) && (not log && not replay)
 
--- after the commit before, if there is one
-abbrev pub first_of : Bool → Status → Status
-first_of before st = if before then committed st else st
+-- after the commit before, if there is one, under this number
+abbrev pub first_as : Bool → ℕ → Status → Status
+first_as before number st = if before then committed_as number st else st
 
 -- after the log record, if there is one
 abbrev pub second_of : Bool → Logged → Status → Status
 second_of log x st = if log then logged x st else st
 
 -- after commit, log record and event
-abbrev pub third_of : Rule → Bool → Logged → Status → Status
-third_of rule replay x st = passed replay (sets_own rule.log replay x.answer) (second_of rule.log x (first_of rule.before st))
+abbrev pub third_as : Rule → Bool → Logged → ℕ → Status → Status
+third_as rule replay x number st = passed replay (sets_own rule.log replay x.answer) (second_of rule.log x (first_as rule.before number st))
 
--- what a turn leaves of its process, by where it was stopped
+-- what a turn leaves of its process, by where it was stopped, where its commits take these numbers
+abbrev pub left_as : Rule → Bool → Logged → ℕ → ℕ → Status → Place → Status
+left_as rule replay x one two st Nowhere = first_as rule.after two (third_as rule replay x one st)
+left_as rule replay x one two st InBefore = torn_as one st
+left_as rule replay x one two st InLog = torn_log x (first_as rule.before one st)
+left_as rule replay x one two st InEvent = fallen (second_of rule.log x (first_as rule.before one st))
+left_as rule replay x one two st InAfter = torn_as two (third_as rule replay x one st)
+
+-- the same, where each commit takes the number after the last
+abbrev pub first_of : Bool → Status → Status
+first_of before st = first_as before (number_after st) st
+
+abbrev pub third_of : Rule → Bool → Logged → Status → Status
+third_of rule replay x st = third_as rule replay x (number_after st) st
+
 abbrev pub left_of : Rule → Bool → Logged → Status → Place → Status
-left_of rule replay x st Nowhere = first_of rule.after (third_of rule replay x st)
-left_of rule replay x st InBefore = torn st
-left_of rule replay x st InLog = torn_log x (first_of rule.before st)
-left_of rule replay x st InEvent = fallen (second_of rule.log x (first_of rule.before st))
-left_of rule replay x st InAfter = torn (third_of rule replay x st)
+left_of rule replay x st w = left_as rule replay x (number_after st) (number_after (third_of rule replay x st)) st w
 
 -- of all processes
 
--- the processes that commit, fall and recover with p: p alone, or all
+-- the processes that fall and recover with p: p alone, or all
 abbrev pub is_with : Protocol → ℕ → ℕ → Bool
-is_with pr p q = is_global pr || p == q
+is_with pr p q = is_joint pr || p == q
+
+-- who falls with the process of a turn; who commits with it before its event, and who after it; and the number that each takes in either commit
+pub record Company : Type 0 where
+  pub falls : ℕ → Bool
+  pub before : ℕ → Bool
+  pub after : ℕ → Bool
+  pub numbers_before : ℕ → ℕ
+  pub numbers_after : ℕ → ℕ
 
 -- a change of each process that passes the test
 abbrev pub each : (ℕ → Bool) → (Status → Status) → (ℕ → Status) → (ℕ → Status)
@@ -109,10 +141,18 @@ each test f procs q = if test q then f (procs q) else procs q
 abbrev pub at_one : ℕ → (Status → Status) → (ℕ → Status) → (ℕ → Status)
 at_one p f procs = put p (f (procs p)) procs
 
--- a commit, if there is one
-abbrev pub commit_if : Bool → Protocol → ℕ → (ℕ → Status) → (ℕ → Status)
-commit_if false pr p procs = procs
-commit_if true pr p procs = each (is_with pr p) committed procs
+-- a commit of these under these numbers
+abbrev pub commits_in : (ℕ → Bool) → (ℕ → ℕ) → (ℕ → Status) → (ℕ → Status)
+commits_in commits numbers procs q = if commits q then committed_as (numbers q) (procs q) else procs q
+
+-- if there is one
+abbrev pub commit_if : Bool → (ℕ → Bool) → (ℕ → ℕ) → (ℕ → Status) → (ℕ → Status)
+commit_if false commits numbers procs = procs
+commit_if true commits numbers procs = commits_in commits numbers procs
+
+-- stopped in a commit of these: all that fall with them fall
+abbrev pub torn_in : (ℕ → Bool) → (ℕ → Bool) → (ℕ → ℕ) → (ℕ → Status) → (ℕ → Status)
+torn_in falls commits numbers procs q = if commits q then torn_as (numbers q) (procs q) else each falls fallen procs q
 
 -- a log record, if there is one
 abbrev pub log_if : Bool → Logged → ℕ → (ℕ → Status) → (ℕ → Status)
@@ -120,21 +160,21 @@ log_if false x p procs = procs
 log_if true x p procs = at_one p (logged x) procs
 
 -- after the commit before
-abbrev pub first : Rule → Protocol → ℕ → (ℕ → Status) → (ℕ → Status)
-first rule pr p procs = commit_if rule.before pr p procs
+abbrev pub first : Rule → Company → (ℕ → Status) → (ℕ → Status)
+first rule company procs = commit_if rule.before company.before company.numbers_before procs
 
 -- after the log record
-abbrev pub second : Rule → Logged → Protocol → ℕ → (ℕ → Status) → (ℕ → Status)
-second rule x pr p procs = log_if rule.log x p (first rule pr p procs)
+abbrev pub second : Rule → Logged → Company → ℕ → (ℕ → Status) → (ℕ → Status)
+second rule x company p procs = log_if rule.log x p (first rule company procs)
 
 -- after the event
-abbrev pub third : Rule → Bool → Logged → Protocol → ℕ → (ℕ → Status) → (ℕ → Status)
-third rule replay x pr p procs = at_one p (passed replay (sets_own rule.log replay x.answer)) (second rule x pr p procs)
+abbrev pub third : Rule → Bool → Logged → Company → ℕ → (ℕ → Status) → (ℕ → Status)
+third rule replay x company p procs = at_one p (passed replay (sets_own rule.log replay x.answer)) (second rule x company p procs)
 
 -- what a turn of p leaves of the processes, by where it was stopped
-abbrev pub left : Rule → Bool → Logged → Protocol → ℕ → (ℕ → Status) → Place → (ℕ → Status)
-left rule replay x pr p procs Nowhere = commit_if rule.after pr p (third rule replay x pr p procs)
-left rule replay x pr p procs InBefore = each (is_with pr p) torn procs
-left rule replay x pr p procs InLog = at_one p (torn_log x) (first rule pr p procs)
-left rule replay x pr p procs InEvent = each (is_with pr p) fallen (second rule x pr p procs)
-left rule replay x pr p procs InAfter = each (is_with pr p) torn (third rule replay x pr p procs)
+abbrev pub left : Rule → Bool → Logged → Company → ℕ → (ℕ → Status) → Place → (ℕ → Status)
+left rule replay x company p procs Nowhere = commit_if rule.after company.after company.numbers_after (third rule replay x company p procs)
+left rule replay x company p procs InBefore = torn_in company.falls company.before company.numbers_before procs
+left rule replay x company p procs InLog = at_one p (torn_log x) (first rule company procs)
+left rule replay x company p procs InEvent = each company.falls fallen (second rule x company p procs)
+left rule replay x company p procs InAfter = torn_in company.falls company.after company.numbers_after (third rule replay x company p procs)

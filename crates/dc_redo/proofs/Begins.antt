@@ -184,8 +184,8 @@ module _ (sh : Shape) where
       let some : 0 < half_bytes sh = omega arith in
       get_or-take (half_bytes sh) (drop at (replicate {A = ℕ} (2 * half_bytes sh) 0)) 0 0 some ∙ get_or-drop at (replicate {A = ℕ} (2 * half_bytes sh) 0) 0 0 ∙ get_or-replicate (2 * half_bytes sh) (at + 0) 0 0 (omega (arith, fits, some))
 
-  zero_shut : (at : ℕ) → at + half_bytes sh ≤ 2 * half_bytes sh → get_or (half (half_bytes sh) at (replicate (2 * half_bytes sh) 0)) 0 0 ≢ 1
-  zero_shut at fits = λ one. absurd (let clash : 0 ≡ 1 = sym (zero_gate at fits) ∙ one in cc)
+  zero_closed : (at : ℕ) → at + half_bytes sh ≤ 2 * half_bytes sh → get_or (half (half_bytes sh) at (replicate (2 * half_bytes sh) 0)) 0 0 ≢ 1
+  zero_closed at fits = λ one. absurd (let clash : 0 ≡ 1 = sym (zero_gate at fits) ∙ one in cc)
 
   pub blank_log : IsLog (half_bytes sh) 0 [] (half (half_bytes sh) (half_bytes sh) (replicate (2 * half_bytes sh) 0)) (replicate (2 * half_bytes sh) 0)
   blank_log =
@@ -195,15 +195,15 @@ module _ (sh : Shape) where
       record {
         place = inl refl;
         room = omega (arith, many);
-        mine = record { stand = tt; closed = zero_shut 0 (omega arith); room = omega (arith, long) };
+        mine = record { stand = tt; closed = zero_closed 0 (omega arith); room = omega (arith, long) };
         other = ap (λ a. half (half_bytes sh) a (replicate (2 * half_bytes sh) 0)) all;
       }
 
   pub blank_none : records_of (half (half_bytes sh) (half_bytes sh) (replicate (2 * half_bytes sh) 0)) ≡ []
-  blank_none = none_read (half (half_bytes sh) (half_bytes sh) (replicate (2 * half_bytes sh) 0)) (zero_shut (half_bytes sh) (omega arith))
+  blank_none = none_read (half (half_bytes sh) (half_bytes sh) (replicate (2 * half_bytes sh) 0)) (zero_closed (half_bytes sh) (omega arith))
 
-  pub blank_shut : is_open (half (half_bytes sh) (half_bytes sh) (replicate (2 * half_bytes sh) 0)) ≡ false
-  blank_shut = ne_eqb (get_or (half (half_bytes sh) (half_bytes sh) (replicate (2 * half_bytes sh) 0)) 0 0) 1 (zero_shut (half_bytes sh) (omega arith))
+  pub blank_closed : is_open (half (half_bytes sh) (half_bytes sh) (replicate (2 * half_bytes sh) 0)) ≡ false
+  blank_closed = ne_eqb (get_or (half (half_bytes sh) (half_bytes sh) (replicate (2 * half_bytes sh) 0)) 0 0) 1 (zero_closed (half_bytes sh) (omega arith))
 
   pub blank_synced : (told : Option Disk) → IfSome told (λ disk. disk ≡ blank (2 * half_bytes sh)) → IsSynced (replicate (2 * half_bytes sh) 0) told
   blank_synced None is = tt

@@ -96,12 +96,12 @@ module _ (sh : Shape) (k : Known) (x c : List ℕ) (agrees : Agrees sh k x) (ful
       other_closes)
 
   pub closing_agrees : get_or c (half_bytes sh - k.at) 0 ≢ 1 → Agrees sh (record k { full = false }) c
-  closing_agrees shut =
+  closing_agrees with_closed =
       let q = half_bytes sh - k.at in
       let new = half (half_bytes sh) q c in
       let here : q + 0 ≡ q = omega arith in
       let gate : get_or new 0 0 ≡ get_or c q 0 = get_or-take (half_bytes sh) (drop q c) 0 0 (omega (arith, small)) ∙ get_or-drop q c 0 0 ∙ ap (λ n. get_or c n 0) here in
-      let closed : is_open new ≡ false = ne_eqb (get_or new 0 0) 1 (λ one. shut (sym gate ∙ one)) in
+      let closed : is_open new ≡ false = ne_eqb (get_or new 0 0) 1 (λ one. with_closed (sym gate ∙ one)) in
       record {
         bodies = agrees.bodies;
         others = new;

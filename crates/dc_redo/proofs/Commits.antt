@@ -138,8 +138,8 @@ flip size at bodies others x log closed some =
 -- of a whole state in the other half, whose first gate is closed
 module _ (sh : Shape) (k : Known) (prepared : Bool) (n : ℕ) (body after : List ℕ) (is : entry_in sh body ≡ Some (Whole prepared n after)) (later : k.number < n)
     (fits : 8 + length body ≡ whole_bytes sh) (text : IsText sh.form (text_in sh after)) (numbered : number_in (text_in sh after) ≡ n) (long : length after ≡ 16 * lines_of sh) (x : List ℕ) (agrees : Agrees sh k x) (closed : k.full ≡ false) where
-  shut_gate : get_or agrees.others 0 0 ≢ 1
-  shut_gate = λ one. let open_ : is_open agrees.others ≡ true = rw one refl in let full_is = agrees.known.full_is in absurd (let clash : true ≡ false = sym open_ ∙ full_is ∙ closed in cc)
+  closed_gate : get_or agrees.others 0 0 ≢ 1
+  closed_gate = λ one. let open_ : is_open agrees.others ≡ true = rw one refl in let full_is = agrees.known.full_is in absurd (let clash : true ≡ false = sym open_ ∙ full_is ∙ closed in cc)
 
   small : 8 ≤ half_bytes sh
   small = omega arith
@@ -148,7 +148,7 @@ module _ (sh : Shape) (k : Known) (prepared : Bool) (n : ℕ) (body after : List
   old_read = all_read agrees.bodies (half (half_bytes sh) k.at x) agrees.log.mine
 
   pub whole_log : IsLog (half_bytes sh) (half_bytes sh - k.at) [] (half (half_bytes sh) k.at x) x
-  whole_log = flip (half_bytes sh) k.at agrees.bodies agrees.others x agrees.log shut_gate small
+  whole_log = flip (half_bytes sh) k.at agrees.bodies agrees.others x agrees.log closed_gate small
 
   pub whole_adding : (piece : List ℕ) → piece ≡ framed body → length body < 2 ^ 32 → IsAdding (half_bytes sh) (half_bytes sh - k.at) 0 piece [] body (half (half_bytes sh) k.at x) x
   whole_adding piece piece_is short = record { log = whole_log; end_is = refl; piece_is = piece_is; short = short; fits = omega (arith, fits) }

@@ -13,6 +13,7 @@ use Rattle.dc_checkpoint.specs.States.{IsLogged, Reading, with_record}
 use Rattle.dc_redo.specs.Entries.{Entry, entry_in, entry_of}
 use Rattle.dc_redo.specs.Entries.Entry.{Logged}
 use Rattle.dc_redo.specs.Frames.{framed, records_of}
+use Rattle.dc_redo.specs.Gathered.{IsEventPiece}
 use Rattle.dc_redo.specs.Images.{EachImage, IsSynced}
 use borrow.Rule.Slice.PartMut.{put_mid}
 use Rattle.std.proofs.lemmas.List.{append-nil, drop_all, map_push}
@@ -202,15 +203,6 @@ module _ (sh : Shape) (k : Known) (rec : LogRecord) (body piece : List ℕ) (is 
       (λ (more : IsLog (half_bytes sh) k.at (agrees.bodies ++ body ∷ []) agrees.others c). keeps_still sh x c (event_number sh k rec body is long again room x agrees c small more) large
       (λ d. log_kept sh d k.at (agrees.bodies ++ body ∷ []) agrees.others c more ∙ kept_more sh d agrees.bodies agrees.others body some none ∙ sym (log_kept sh d k.at agrees.bodies agrees.others x log)) (steady x (own_image b)))
       (images agrees.bodies body agrees.others x (event_adding sh k rec body is long again room x agrees piece piece_is short) (refl, ready.0) c image)
-
--- the piece of an event's record
-pub record IsEventPiece (sh : Shape) (rec : LogRecord) (piece : List ℕ) : Type 0 where
-  pub body : List ℕ
-  pub is : entry_in sh body ≡ Some (Logged (record_text rec))
-  pub long : 8 + length body ≡ event_bytes sh
-  pub again : record_in (record_text rec) ≡ rec
-  pub piece_is : piece ≡ framed body
-  pub short : length body < 2 ^ 32
 
 -- so many words
 pub text_long : (rec : LogRecord) → IsMessage (body_of rec.told) → length (record_text rec) ≡ 21

@@ -171,7 +171,7 @@ gate_closing front x c stand opened room torn = ⊎_elim
     ap (λ k. get_or c k 0) (sym sum) ∙ sym (get_or-drop (span front + 1) c (i - (span front + 1)) 0) ∙ ap (λ (l : List ℕ). get_or l (i - (span front + 1)) 0) torn.back ∙ get_or-drop (span front + 1) x (i - (span front + 1)) 0 ∙ ap (λ k. get_or x k 0) sum)
     (cases_eq i (span front)))
     (cases_lt i (span front)))))
-    (λ shut. inr (record { stand = stand_same front c x torn.length_same torn.front stand; closed = shut; room = omega (arith, room, torn.length_same) }))
+    (λ with_closed. inr (record { stand = stand_same front c x torn.length_same torn.front stand; closed = with_closed; room = omega (arith, room, torn.length_same) }))
     (cases_eq (get_or c (span front) 0) 1)
 
 -- an append, where the content is told

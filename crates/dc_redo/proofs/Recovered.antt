@@ -16,12 +16,12 @@ use Rattle.dc_redo.specs.Handles.{memory_of}
 use Rattle.dc_redo.specs.Frames.{half, is_open, records_of}
 use Rattle.dc_redo.specs.Images.{EachImage, IsSynced}
 use Rattle.dc_redo.specs.Laws.{own_image, same_image}
-use Rattle.dc_redo.specs.Likes.{AreLike, IsCounting, IsEmpty, IsFresh, IsLike, IsShut, shut}
+use Rattle.dc_redo.specs.Likes.{AreLike, IsCounting, IsEmpty, IsFresh, IsLike, IsClosing, with_closed}
 use Rattle.dc_redo.specs.Shapes.{Shape, half_bytes}
 use Rattle.dc_redo.specs.Standing.{StandsFor, halves_reading, is_disk, last_number, memory_in, reading, text_in}
 use Rattle.dc_redo.specs.Whole.{Agrees, IsAtRest, IsLog, IsReady, Known, state_in}
-use Rattle.dc_redo.proofs.Settled.{counting_agrees, counting_high, counting_low, counting_reading, empty_high, empty_log, empty_low, empty_none, empty_shut}
-use Rattle.dc_redo.proofs.Shutting.{settles_still, shut_once, shut_twice, yields_still}
+use Rattle.dc_redo.proofs.Settled.{counting_agrees, counting_high, counting_low, counting_reading, empty_high, empty_log, empty_low, empty_none, empty_closed}
+use Rattle.dc_redo.proofs.Closings.{settles_still, closed_once, closed_twice, yields_still}
 use Rattle.dc_redo.proofs.Waited.{place_reading}
 
 -- the content that was read
@@ -86,39 +86,39 @@ short_rest sh d (Some b) rest =
     let small : is_disk sh b.content ≡ false = grind (arith, short) in
     (rest.0, rw small refl)
 
--- what `shut_both` says
-abbrev pub SaysShut : Option ℕ → Option ℕ → Option Disk → Option Disk → Type 0
-SaysShut low high old new = (x : List ℕ) → IsSynced x old → EachImage new (λ c. IsShut low x c ⊎ IsShut high (shut low x) c)
+-- what `closed_both` says
+abbrev pub SaysClosing : Option ℕ → Option ℕ → Option Disk → Option Disk → Type 0
+SaysClosing low high old new = (x : List ℕ) → IsSynced x old → EachImage new (λ c. IsClosing low x c ⊎ IsClosing high (with_closed low x) c)
 
 module _ (sh : Shape) (d : ℕ) (low high : Option ℕ) (piece : List ℕ) (few : d ≤ last_number) (old new : Option Disk) (rest : IsAtRest (Read sh piece) old) (told : Becomes old new (λ b a. Unit {0})) where
-  like_of : (each : SaysShut low high old new) → ((x : List ℕ) → Read sh piece x → (c : List ℕ) → IsShut low x c → IsLike sh d x c) → ((x : List ℕ) → Read sh piece x → (c : List ℕ) → IsShut high (shut low x) c → IsLike sh d x c) → AreLike sh d old new
+  like_of : (each : SaysClosing low high old new) → ((x : List ℕ) → Read sh piece x → (c : List ℕ) → IsClosing low x c → IsLike sh d x c) → ((x : List ℕ) → Read sh piece x → (c : List ℕ) → IsClosing high (with_closed low x) c → IsLike sh d x c) → AreLike sh d old new
   like_of each once twice = by_told old new rest told each
     where
-      by_told : (o n : Option Disk) → IsAtRest (Read sh piece) o → Becomes o n (λ b a. Unit {0}) → SaysShut low high o n → AreLike sh d o n
+      by_told : (o n : Option Disk) → IsAtRest (Read sh piece) o → Becomes o n (λ b a. Unit {0}) → SaysClosing low high o n → AreLike sh d o n
       by_told o None r t e = tt
       by_told None (Some a) r t e = absurd t
       by_told (Some b) (Some a) r t e = λ c image.
           (b.content, own_image b, ⊎_elim (λ first. once b.content r.1 c first) (λ second. twice b.content r.1 c second) (e b.content (refl, r.0) c image))
 
-  pub counting_like : (k : Known) → IsCounting sh d low high k piece → SaysShut low high old new → AreLike sh d old new
+  pub counting_like : (k : Known) → IsCounting sh d low high k piece → SaysClosing low high old new → AreLike sh d old new
   counting_like k is each = like_of each
       (λ x r c first. let now = counting_still sh piece x r d low high k is in
-      shut_once sh d low high x r.0 few (counting_low sh d low high k x r.0 few now) (counting_high sh d low high k x r.0 few now) c first)
+      closed_once sh d low high x r.0 few (counting_low sh d low high k x r.0 few now) (counting_high sh d low high k x r.0 few now) c first)
       (λ x r c second. let now = counting_still sh piece x r d low high k is in
-      shut_twice sh d low high x r.0 few (counting_low sh d low high k x r.0 few now) (counting_high sh d low high k x r.0 few now) c second)
+      closed_twice sh d low high x r.0 few (counting_low sh d low high k x r.0 few now) (counting_high sh d low high k x r.0 few now) c second)
 
-  pub empty_like : IsEmpty sh d low high piece → SaysShut low high old new → AreLike sh d old new
+  pub empty_like : IsEmpty sh d low high piece → SaysClosing low high old new → AreLike sh d old new
   empty_like is each = like_of each
       (λ x r c first. let now = empty_still sh piece x r d low high is in
-      shut_once sh d low high x r.0 few (empty_low sh d low high x r.0 few now) (empty_high sh d low high x r.0 few now) c first)
+      closed_once sh d low high x r.0 few (empty_low sh d low high x r.0 few now) (empty_high sh d low high x r.0 few now) c first)
       (λ x r c second. let now = empty_still sh piece x r d low high is in
-      shut_twice sh d low high x r.0 few (empty_low sh d low high x r.0 few now) (empty_high sh d low high x r.0 few now) c second)
+      closed_twice sh d low high x r.0 few (empty_low sh d low high x r.0 few now) (empty_high sh d low high x r.0 few now) c second)
 
-  -- once both are shut, the handle may go on
-  pub counting_ready : (k : Known) → IsCounting sh d low high k piece → ((x : List ℕ) → IsSynced x old → IsSynced (shut high (shut low x)) new) → IsReady sh k new
+  -- once both are closed, the handle may go on
+  pub counting_ready : (k : Known) → IsCounting sh d low high k piece → ((x : List ℕ) → IsSynced x old → IsSynced (with_closed high (with_closed low x)) new) → IsReady sh k new
   counting_ready k is done = by_told old new rest told done
     where
-      by_told : (o n : Option Disk) → IsAtRest (Read sh piece) o → Becomes o n (λ b a. Unit {0}) → ((x : List ℕ) → IsSynced x o → IsSynced (shut high (shut low x)) n) → IsReady sh k n
+      by_told : (o n : Option Disk) → IsAtRest (Read sh piece) o → Becomes o n (λ b a. Unit {0}) → ((x : List ℕ) → IsSynced x o → IsSynced (with_closed high (with_closed low x)) n) → IsReady sh k n
       by_told o None r t e = tt
       by_told None (Some a) r t e = absurd t
       by_told (Some b) (Some a) r t e =
@@ -128,7 +128,7 @@ module _ (sh : Shape) (d : ℕ) (low high : Option ℕ) (piece : List ℕ) (few 
 
 -- and what it gives
 pub counting_gives : (sh : Shape) (d : ℕ) (low high : Option ℕ) (piece : List ℕ) (few : d ≤ last_number) (k : Known) (is : IsCounting sh d low high k piece) (text : List ℕ) (log : List LogRecord) → text_in sh is.contents.body ≡ text → log ≡ map record_in is.contents.log
-    → (old new : Option Disk) → IsAtRest (Read sh piece) old → Becomes old new (λ b a. Unit {0}) → ((x : List ℕ) → IsSynced x old → IsSynced (shut high (shut low x)) new)
+    → (old new : Option Disk) → IsAtRest (Read sh piece) old → Becomes old new (λ b a. Unit {0}) → ((x : List ℕ) → IsSynced x old → IsSynced (with_closed high (with_closed low x)) new)
     → IsAtRest (λ x. reading sh d x ≡ Ok (record { memory = memory_in sh k.body; kernel = text; log = log })) new
 unfolding counting_still
 counting_gives sh d low high piece few k is text log text_is log_is old None rest told done = tt
@@ -151,7 +151,7 @@ ready_reading sh d k r (Some b) low is ready = (ready.0, ready.1.stands d low �
 
 -- the first state, where no half counts
 module _ (sh : Shape) (d : ℕ) (low high : Option ℕ) (piece : List ℕ) (few : d ≤ last_number) (is : IsEmpty sh d low high piece) where
-  pub fresh_like : (old mid new : Option Disk) → IsAtRest (Read sh piece) old → Becomes old mid (λ b a. Unit {0}) → Becomes mid new (λ b a. Unit {0}) → ((x : List ℕ) → IsSynced x old → IsSynced (shut high (shut low x)) mid)
+  pub fresh_like : (old mid new : Option Disk) → IsAtRest (Read sh piece) old → Becomes old mid (λ b a. Unit {0}) → Becomes mid new (λ b a. Unit {0}) → ((x : List ℕ) → IsSynced x old → IsSynced (with_closed high (with_closed low x)) mid)
       → ((x others : List ℕ) → IsLog (half_bytes sh) 0 [] others x → records_of others ≡ [] → IsSynced x mid → EachImage new (IsFresh sh x)) → AreLike sh d mid new
   fresh_like old mid None rest told told' done fresh = tt
   fresh_like old None (Some a) rest told told' done fresh = absurd told'
@@ -159,13 +159,13 @@ module _ (sh : Shape) (d : ℕ) (low high : Option ℕ) (piece : List ℕ) (few 
   fresh_like (Some b) (Some m) (Some a) rest told told' done fresh = λ c image.
       let x = b.content in
       let now = empty_still sh piece x rest.1 d low high is in
-      let y = shut high (shut low x) in
+      let y = with_closed high (with_closed low x) in
       let is_y = done x (refl, rest.0) in
       let others = half (half_bytes sh) (half_bytes sh) y in
       let one = fresh y others (empty_log sh d low high x rest.1.0 few now) (empty_none sh d low high x rest.1.0 few now) is_y c image in
       (m.content, own_image m, subst (λ z. IsLike sh d z c) (sym is_y.0) (one.like d few))
 
-  pub fresh_goes : (k : Known) (old mid new : Option Disk) → IsAtRest (Read sh piece) old → Becomes old mid (λ b a. Unit {0}) → Becomes mid new (λ b a. Unit {0}) → ((x : List ℕ) → IsSynced x old → IsSynced (shut high (shut low x)) mid)
+  pub fresh_goes : (k : Known) (old mid new : Option Disk) → IsAtRest (Read sh piece) old → Becomes old mid (λ b a. Unit {0}) → Becomes mid new (λ b a. Unit {0}) → ((x : List ℕ) → IsSynced x old → IsSynced (with_closed high (with_closed low x)) mid)
       → ((x others : List ℕ) → IsLog (half_bytes sh) 0 [] others x → records_of others ≡ [] → is_open others ≡ false → IsSynced x mid → IsReady sh k new) → IsReady sh k new
   fresh_goes k old mid None rest told told' done ready = tt
   fresh_goes k old None (Some a) rest told told' done ready = absurd told'
@@ -173,11 +173,11 @@ module _ (sh : Shape) (d : ℕ) (low high : Option ℕ) (piece : List ℕ) (few 
   fresh_goes k (Some b) (Some m) (Some a) rest told told' done ready =
       let x = b.content in
       let now = empty_still sh piece x rest.1 d low high is in
-      let y = shut high (shut low x) in
+      let y = with_closed high (with_closed low x) in
       let is_y = done x (refl, rest.0) in
-      ready y (half (half_bytes sh) (half_bytes sh) y) (empty_log sh d low high x rest.1.0 few now) (empty_none sh d low high x rest.1.0 few now) (empty_shut sh d low high x rest.1.0 few now) is_y
+      ready y (half (half_bytes sh) (half_bytes sh) y) (empty_log sh d low high x rest.1.0 few now) (empty_none sh d low high x rest.1.0 few now) (empty_closed sh d low high x rest.1.0 few now) is_y
 
-  pub fresh_gives : (r : Reading) → Ok sh.first ≡ r → (k : Known) (old mid new : Option Disk) → IsAtRest (Read sh piece) old → Becomes old mid (λ b a. Unit {0}) → Becomes mid new (λ b a. Unit {0}) → ((x : List ℕ) → IsSynced x old → IsSynced (shut high (shut low x)) mid)
+  pub fresh_gives : (r : Reading) → Ok sh.first ≡ r → (k : Known) (old mid new : Option Disk) → IsAtRest (Read sh piece) old → Becomes old mid (λ b a. Unit {0}) → Becomes mid new (λ b a. Unit {0}) → ((x : List ℕ) → IsSynced x old → IsSynced (with_closed high (with_closed low x)) mid)
       → ((x others : List ℕ) → IsLog (half_bytes sh) 0 [] others x → records_of others ≡ [] → IsSynced x mid → EachImage new (IsFresh sh x)) → IsReady sh k new → IsAtRest (λ x. reading sh d x ≡ r) new
   fresh_gives r first k old mid None rest told told' done fresh ready = tt
   fresh_gives r first k old None (Some a) rest told told' done fresh ready = absurd told'
@@ -185,7 +185,7 @@ module _ (sh : Shape) (d : ℕ) (low high : Option ℕ) (piece : List ℕ) (few 
   fresh_gives r first k (Some b) (Some m) (Some a) rest told told' done fresh ready =
       let x = b.content in
       let now = empty_still sh piece x rest.1 d low high is in
-      let y = shut high (shut low x) in
+      let y = with_closed high (with_closed low x) in
       let one = fresh y (half (half_bytes sh) (half_bytes sh) y) (empty_log sh d low high x rest.1.0 few now) (empty_none sh d low high x rest.1.0 few now) (done x (refl, rest.0)) a.content (own_image a) in
       (ready.0, one.first d ∙ first)
 

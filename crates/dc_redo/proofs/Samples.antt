@@ -108,5 +108,5 @@ framed_one = refl
 too_long : records_of (1 ∷ framed (3 ∷ 0 ∷ 0 ∷ 0 ∷ []) ++ replicate 6 0) ≡ None ∷ []
 too_long = refl
 
-shut : records_of (2 ∷ framed (3 ∷ 0 ∷ 0 ∷ 0 ∷ []) ++ replicate 7 0) ≡ []
-shut = refl
+with_closed : records_of (2 ∷ framed (3 ∷ 0 ∷ 0 ∷ 0 ∷ []) ++ replicate 7 0) ≡ []
+with_closed = refl

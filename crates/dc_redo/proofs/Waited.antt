@@ -238,7 +238,6 @@ module _ (sh : Shape) (d at : ℕ) (front : List (List ℕ)) (x c : List ℕ) (i
       let hc = records_of (half H at c) in
       let o = records_of (half H (H - at) x) in
       let other : records_of (half H (H - at) c) ≡ o = ap records_of waited_other in
-      let tail = read front ++ is.first ∷ is.more in
       let same_reading : halves_reading sh d hc o ≡ halves_reading sh d hx o = ⊎_elim
       (λ same. ap (λ h. halves_reading sh d h o) same)
       (λ all. ap (λ h. halves_reading sh d h o) all ∙ sym (tail_halves sh d front is.first is.more o is.waits) ∙ ap (λ h. halves_reading sh d h o) (sym is.records))
@@ -264,12 +263,12 @@ module _ (sh : Shape) (d at : ℕ) (front : List (List ℕ)) (x c : List ℕ) (i
 
   -- where it is closed, the records end there
   pub waited_log : get_or c (at + span front) 0 ≢ 1 → IsLog (half_bytes sh) at front (half (half_bytes sh) (half_bytes sh - at) x) c
-  waited_log shut_gate =
+  waited_log closed_gate =
       let room = is.room in
       let here : (l : List ℕ) → get_or (half (half_bytes sh) at l) (span front) 0 ≡ get_or l (at + span front) 0 = λ l. get_or-take (half_bytes sh) (drop at l) (span front) 0 (omega (arith, room)) ∙ get_or-drop at l (span front) 0 in
       record {
         place = is.place;
         room = large_now;
-        mine = ⊎_elim (λ same. absurd (shut_gate (sym (here c) ∙ ap (λ (l : List ℕ). get_or l (span front) 0) same ∙ is.opened))) (λ all. all) waited_mine;
+        mine = ⊎_elim (λ same. absurd (closed_gate (sym (here c) ∙ ap (λ (l : List ℕ). get_or l (span front) 0) same ∙ is.opened))) (λ all. all) waited_mine;
         other = waited_other;
       }

@@ -78,7 +78,6 @@ module _ (sh : Shape) (d : ℕ) (piece : List ℕ) (long : length piece ≡ 2 * 
   pub high_counts : (k : Known) (gate : Option ℕ) (saved : Saved) (m : ℕ) (x : Begin) → BeginsSo sh d (take (half_bytes sh) piece) x → BeginsSo sh d (drop (half_bytes sh) piece) (begins.Counts m) → Wins (begins.Counts m) x
       → (up : IsUp sh d (half_bytes sh) (drop (half_bytes sh) piece) gate k saved) → (begun sh d (read up.front)).number ≡ m → length k.touched ≡ lines_of sh → k.full ≡ full_of x → IsCounting sh d (gate_of 0 x) gate k piece
   high_counts k gate saved m x is is' wins up first marks full =
-      let H = half_bytes sh in
       let other = yields_by sh d 0 m piece x (inl refl) large low_long wins is in
       record {
         front = up.front;

@@ -1,18 +1,26 @@
--- The lines that were stored to, with their numbers.
+-- What records are made of: the lines that were stored to, with their numbers, and the pieces of each kind.
 use Rattle.std.specs.Prelude.{◌≡◌, ◌≤◌, ◌<◌, ◌+◌, ◌*◌, ◌^◌, ℕ, Bool, true, false, List, [], ◌∷◌, ◌++◌, length, take, drop, Some, slice_index, if◌then◌else◌}
 use Rattle.std.specs.List.{flat_map}
 use Rattle.dc_checkpoint.specs.States.{IsText, number_in}
+use Rattle.dc_kernel.specs.Records.{record_in, record_text}
+use Rattle.dc_kernel.specs.declared.records.LogRecord.{LogRecord}
 use Rattle.dc_redo.specs.Entries.{Line, entry_in}
-use Rattle.dc_redo.specs.Entries.Entry.{Lines, Whole}
+use Rattle.dc_redo.specs.Entries.Entry.{Decision, Lines, Logged, Whole}
 use Rattle.dc_redo.specs.Frames.{framed}
-use Rattle.dc_redo.specs.Shapes.{Shape, lines_bytes, lines_of, whole_bytes}
+use Rattle.dc_redo.specs.Shapes.{Shape, decision_bytes, event_bytes, lines_bytes, lines_of, whole_bytes}
 use Rattle.dc_redo.specs.Standing.{memory_in, text_in}
 
 -- a line of a body
 abbrev pub line_of : ℕ → List ℕ → Line
 line_of i body = record { at = i; words = take 16 (drop (16 * i) body) }
 
--- the marked ones, from a number on
+-- the numbers of the marked ones, from a number on
+abbrev pub marked : ℕ → List Bool → List ℕ
+marked i [] = []
+marked i (true ∷ touched) = i ∷ marked (i + 1) touched
+marked i (false ∷ touched) = marked (i + 1) touched
+
+-- the marked ones
 abbrev pub gathered : ℕ → List Bool → List ℕ → List Line
 gathered i [] body = []
 gathered i (true ∷ touched) body = line_of i body ∷ gathered (i + 1) touched body
@@ -52,3 +60,19 @@ pub record IsWholePiece (sh : Shape) (prepared : Bool) (n : ℕ) (body_now piece
 -- a whole state as words
 abbrev pub whole_text : Shape → Bool → ℕ → List ℕ → List ℕ
 whole_text sh prepared number body = (if prepared then 2 else 1) ∷ number ∷ text_in sh body ++ memory_in sh body
+
+-- the piece of an event's record
+pub record IsEventPiece (sh : Shape) (rec : LogRecord) (piece : List ℕ) : Type 0 where
+  pub body : List ℕ
+  pub is : entry_in sh body ≡ Some (Logged (record_text rec))
+  pub long : 8 + length body ≡ event_bytes sh
+  pub again : record_in (record_text rec) ≡ rec
+  pub piece_is : piece ≡ framed body
+  pub short : length body < 2 ^ 32
+
+-- that of a decision's record
+pub record IsDecisionPiece (sh : Shape) (g : ℕ) (piece : List ℕ) : Type 0 where
+  pub body : List ℕ
+  pub is : entry_in sh body ≡ Some (Decision g)
+  pub long : 8 + length body ≡ decision_bytes
+  pub piece_is : piece ≡ framed body

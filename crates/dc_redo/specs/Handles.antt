@@ -27,7 +27,7 @@ known_of marks = record {
   decided = marks.decided;
   full = marks.full;
   body = marks.body.items;
-  touched = marks.touched.items;
+  touched = marks.touched.flags.items;
 }
 
 -- with another word, in a line that is marked

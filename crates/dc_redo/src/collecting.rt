@@ -117,7 +117,7 @@ impl Frame {
         requires half { length half.now ≡ self.now.half }
         requires words { self.now.half ≤ 4 * length words.old }
         requires body { length marks.old.body.items ≡ 16 * self.now.lines }
-        requires marked { length marks.old.touched.items ≡ self.now.lines }
+        requires marked { length marks.old.touched.flags.items ≡ self.now.lines }
         requires process { (saved.old.kernel.n ≡ self.now.n) × (saved.old.kernel.p ≡ self.now.p) }
         requires room { LOGGED_EVENTS ≤ vec_capacity saved.old.log }
         requires counts { (begun (shape_of self.now) d (records_of half.now)).status ≡ Going }
@@ -129,7 +129,7 @@ impl Frame {
         ensures records { IfOk result (λ gate. All (IsRecord self.now.n) saved.new.log.items) }
         ensures full { marks.new.full ≡ marks.old.full }
         ensures within { IfOk result (λ gate. IfSome gate (λ g. g + 8 ≤ at + self.now.half)) }
-        ensures long { (length words.new ≡ length words.old) × (length marks.new.body.items ≡ length marks.old.body.items) × (length marks.new.touched.items ≡ length marks.old.touched.items) }
+        ensures long { (length words.new ≡ length words.old) × (length marks.new.body.items ≡ length marks.old.body.items) × (length marks.new.touched.flags.items ≡ length marks.old.touched.flags.items) }
         ensures process { (saved.new.kernel.n ≡ saved.old.kernel.n) × (saved.new.kernel.p ≡ saved.old.kernel.p) }
         ensures room { LOGGED_EVENTS ≤ vec_capacity saved.new.log }
     {

@@ -1,12 +1,14 @@
 //! Decides on a number.
 
-ghost use Rattle.std.specs.Prelude.{◌≡◌, ◌⊎◌, ◌*◌, ◌≤◌, ◌<◌, ℕ, OnOk, length};
+ghost use Rattle.std.specs.Prelude.{◌≡◌, ◌⊎◌, ◌*◌, ◌≤◌, ◌<◌, ℕ, OnOk, length, take};
 ghost use Rattle.dc_media.specs.Told.{Becomes};
 ghost use Rattle.dc_checkpoint.specs.States.{Reading};
 ghost use Rattle.dc_redo.specs.Awake.{IsAwake};
 ghost use Rattle.dc_media.specs.Calls.{IsCall};
 ghost use Rattle.dc_media.specs.Devices.{of_disks};
+ghost use Rattle.dc_redo.specs.Gathered.{IsDecisionPiece};
 ghost use Rattle.dc_redo.specs.Handles.{IsLarge, IsSteady, known_of, shape_of};
+ghost use Rattle.dc_redo.specs.Shapes.{decision_bytes};
 ghost use Rattle.dc_redo.specs.Standing.{Numbers, StandsFor};
 ghost use Rattle.dc_redo.specs.Whole.{HasRoom, IsAtRest, IsPrepared, IsReady};
 
@@ -17,6 +19,17 @@ use crate::writing::add;
 use dc_media::{DeviceFault, Disks};
 
 impl Frame {
+    /// Makes the record of a decision.
+    fn put_decision(&self, piece: &mut [u8], g: u32) -> usize
+        requires piece { length piece.old ≡ 2 * self.now.half }
+        ensures long { length piece.new ≡ length piece.old }
+        ensures end { result ≡ decision_bytes }
+        ensures made { IsDecisionPiece (shape_of self.now) g (take result piece.new) }
+    {
+        let end = put_words(piece, BODY_AT, &[DECISION, g]);
+        seal(piece, end)
+    }
+
     /// Decides on the number `g`, behind the last state.
     pub fn decide<D: Disks>(
         &self,
@@ -43,8 +56,7 @@ impl Frame {
         ensures long { length piece.new ≡ length piece.old }
         ensures call { IsCall (of_disks D.Disks) self.now.place dev.old dev.new result }
     {
-        let body_end = put_words(piece, BODY_AT, &[DECISION, g]);
-        let end = seal(piece, body_end);
+        let end = self.put_decision(piece, g);
         add(
             dev,
             self.place,

@@ -1,12 +1,14 @@
 //! Logs an event.
 
-ghost use Rattle.std.specs.Prelude.{◌≡◌, ◌⊎◌, ◌+◌, ◌*◌, ◌≤◌, ◌<◌, ℕ, OnOk, length};
+ghost use Rattle.std.specs.Prelude.{◌≡◌, ◌⊎◌, ◌+◌, ◌*◌, ◌≤◌, ◌<◌, ℕ, OnOk, length, take};
 ghost use Rattle.dc_media.specs.Told.{Becomes};
 ghost use Rattle.dc_kernel.specs.Records.{IsRecord};
 ghost use Rattle.dc_checkpoint.specs.States.{IsLogged, Reading};
 ghost use Rattle.dc_media.specs.Calls.{IsCall};
 ghost use Rattle.dc_media.specs.Devices.{of_disks};
+ghost use Rattle.dc_redo.specs.Gathered.{IsEventPiece};
 ghost use Rattle.dc_redo.specs.Handles.{IsLarge, IsSteady, known_of, shape_of};
+ghost use Rattle.dc_redo.specs.Shapes.{event_bytes};
 ghost use Rattle.dc_redo.specs.Standing.{Numbers, StandsFor};
 ghost use Rattle.dc_redo.specs.Whole.{HasRoom, IsReady};
 
@@ -19,6 +21,21 @@ use dc_limits::LOGGED_EVENTS;
 use dc_media::{DeviceFault, Disks};
 
 impl Frame {
+    /// Makes the record of an event.
+    fn put_event(&self, piece: &mut [u8], words: &mut [u32], rec: &LogRecord) -> usize
+        requires record { IsRecord self.now.n rec.now }
+        requires piece { length piece.old ≡ 2 * self.now.half }
+        requires words { length words.old ≡ 1 + self.now.event_words }
+        ensures long { (length piece.new ≡ length piece.old) × (length words.new ≡ length words.old) }
+        ensures end { result ≡ event_bytes (shape_of self.now) }
+        ensures made { IsEventPiece (shape_of self.now) rec.now (take result piece.new) }
+    {
+        words[0] = EVENT;
+        rec.encode(&mut words[1..]);
+        let end = put_words(piece, BODY_AT, words);
+        seal(piece, end)
+    }
+
     /// Logs an event.
     pub fn append<D: Disks>(
         &self,
@@ -48,10 +65,7 @@ impl Frame {
         ensures long { (length piece.new ≡ length piece.old) × (length words.new ≡ length words.old) }
         ensures call { IsCall (of_disks D.Disks) self.now.place dev.old dev.new result }
     {
-        words[0] = EVENT;
-        rec.encode(&mut words[1..]);
-        let body_end = put_words(piece, BODY_AT, words);
-        let end = seal(piece, body_end);
+        let end = self.put_event(piece, words, rec);
         add(
             dev,
             self.place,

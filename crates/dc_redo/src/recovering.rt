@@ -16,7 +16,7 @@ ghost use Rattle.dc_redo.specs.Entries.{body_of};
 ghost use Rattle.dc_redo.specs.Frames.{is_open, records_of};
 ghost use Rattle.dc_redo.specs.Handles.{IsLarge, known_of, shape_of};
 ghost use Rattle.dc_redo.specs.Images.{EachImage, IsSynced};
-ghost use Rattle.dc_redo.specs.Likes.{AreLike, IsCounting, IsEmpty, IsFresh, IsShut, shut};
+ghost use Rattle.dc_redo.specs.Likes.{AreLike, IsCounting, IsEmpty, IsFresh, IsClosing, with_closed};
 ghost use Rattle.dc_redo.specs.Shapes.{half_bytes, lines_of, whole_bytes};
 ghost use Rattle.dc_redo.specs.Standing.{memory_in, reading, text_in};
 ghost use Rattle.dc_redo.specs.Whole.{HasRoom, IsAtRest, IsLog, IsReady, known_state};
@@ -46,8 +46,8 @@ pub struct Gates {
 /// Closes a gate, where there is one.
 fn close_gate<D: Disks>(dev: &mut D, p: u32, gate: Option<u64>) -> Result<(), DeviceFault>
     requires room { IfSome gate (λ at. at + 1 ≤ D.extent dev.old p) }
-    ensures done { OnOk result ((x : List ℕ) → IsSynced x (D.told dev.old p) → IsSynced (shut gate x) (D.told dev.new p)) }
-    ensures images { (x : List ℕ) → IsSynced x (D.told dev.old p) → EachImage (D.told dev.new p) (IsShut gate x) }
+    ensures done { OnOk result ((x : List ℕ) → IsSynced x (D.told dev.old p) → IsSynced (with_closed gate x) (D.told dev.new p)) }
+    ensures images { (x : List ℕ) → IsSynced x (D.told dev.old p) → EachImage (D.told dev.new p) (IsClosing gate x) }
     ensures told { Becomes (D.told dev.old p) (D.told dev.new p) (λ b a. Unit {0}) }
     ensures call { IsCall (of_disks D.Disks) p dev.old dev.new result }
 {
@@ -66,8 +66,8 @@ fn close_gates<D: Disks>(
 ) -> Result<(), DeviceFault>
     requires low { IfSome low (λ at. at + 1 ≤ D.extent dev.old p) }
     requires high { IfSome high (λ at. at + 1 ≤ D.extent dev.old p) }
-    ensures done { OnOk result ((x : List ℕ) → IsSynced x (D.told dev.old p) → IsSynced (shut high (shut low x)) (D.told dev.new p)) }
-    ensures like { (x : List ℕ) → IsSynced x (D.told dev.old p) → EachImage (D.told dev.new p) (λ c. IsShut low x c ⊎ IsShut high (shut low x) c) }
+    ensures done { OnOk result ((x : List ℕ) → IsSynced x (D.told dev.old p) → IsSynced (with_closed high (with_closed low x)) (D.told dev.new p)) }
+    ensures like { (x : List ℕ) → IsSynced x (D.told dev.old p) → EachImage (D.told dev.new p) (λ c. IsClosing low x c ⊎ IsClosing high (with_closed low x) c) }
     ensures told { Becomes (D.told dev.old p) (D.told dev.new p) (λ b a. Unit {0}) }
     ensures call { IsCall (of_disks D.Disks) p dev.old dev.new result }
 {
@@ -102,8 +102,8 @@ impl Frame {
     /// Goes on from the first state.
     pub fn begun(&self, marks: &mut Marks)
         requires body { length marks.old.body.items ≡ 16 * self.now.lines }
-        ensures known { known_of marks.new ≡ known_state 0 0 (whole_bytes (shape_of self.now)) (number_in self.now.kernel.items) false (body_of (shape_of self.now) self.now.memory.items self.now.kernel.items) marks.new.touched.items }
-        ensures long { (length marks.new.body.items ≡ length marks.old.body.items) × (length marks.new.touched.items ≡ length marks.old.touched.items) }
+        ensures known { known_of marks.new ≡ known_state 0 0 (whole_bytes (shape_of self.now)) (number_in self.now.kernel.items) false (body_of (shape_of self.now) self.now.memory.items self.now.kernel.items) marks.new.touched.flags.items }
+        ensures long { (length marks.new.body.items ≡ length marks.old.body.items) × (length marks.new.touched.flags.items ≡ length marks.old.touched.flags.items) }
         ensures roomy { HasRoom (shape_of self.now) (known_of marks.new) }
     {
         self.fill(&self.memory, &self.kernel, &mut marks.body);
@@ -128,7 +128,7 @@ impl Frame {
         requires piece { length piece.now ≡ 2 * self.now.half }
         requires words { self.now.half ≤ 4 * length words.old }
         requires body { length marks.old.body.items ≡ 16 * self.now.lines }
-        requires marked { length marks.old.touched.items ≡ self.now.lines }
+        requires marked { length marks.old.touched.flags.items ≡ self.now.lines }
         requires floor { marks.old.floor ≤ d }
         requires process { (saved.old.kernel.n ≡ self.now.n) × (saved.old.kernel.p ≡ self.now.p) }
         requires room { LOGGED_EVENTS ≤ vec_capacity saved.old.log }
@@ -142,7 +142,7 @@ impl Frame {
         ensures log { IfOk result (λ gates. gates.counts ≡ true → (length saved.new.log.items ≤ LOGGED_EVENTS) × (saved.new.position ≡ saved.new.kernel.position)) }
         ensures empty { IfOk result (λ gates. gates.counts ≡ false → IsEmpty (shape_of self.now) d gates.low gates.high piece.now) }
         ensures within { IfOk result (λ gates. IfSome gates.low (λ at. at + 1 ≤ 2 * self.now.half) × IfSome gates.high (λ at. at + 1 ≤ 2 * self.now.half)) }
-        ensures long { (length words.new ≡ length words.old) × (length marks.new.body.items ≡ length marks.old.body.items) × (length marks.new.touched.items ≡ length marks.old.touched.items) }
+        ensures long { (length words.new ≡ length words.old) × (length marks.new.body.items ≡ length marks.old.body.items) × (length marks.new.touched.flags.items ≡ length marks.old.touched.flags.items) }
         ensures process { (saved.new.kernel.n ≡ saved.old.kernel.n) × (saved.new.kernel.p ≡ saved.old.kernel.p) }
         ensures room { LOGGED_EVENTS ≤ vec_capacity saved.new.log }
     {
@@ -210,7 +210,7 @@ impl Frame {
         requires piece { length piece.old ≡ 2 * self.now.half }
         requires words { self.now.half ≤ 4 * length words.old }
         requires body { length marks.old.body.items ≡ 16 * self.now.lines }
-        requires marked { length marks.old.touched.items ≡ self.now.lines }
+        requires marked { length marks.old.touched.flags.items ≡ self.now.lines }
         requires process { (saved.old.kernel.n ≡ self.now.n) × (saved.old.kernel.p ≡ self.now.p) }
         requires room { LOGGED_EVENTS ≤ vec_capacity saved.old.log }
         ensures like { AreLike (shape_of self.now) d (D.told dev.old self.now.place) (D.told dev.new self.now.place) }
@@ -224,7 +224,7 @@ impl Frame {
         ensures records { OnOk result (All (IsRecord self.now.n) saved.new.log.items) }
         ensures log { OnOk result ((length saved.new.log.items ≤ LOGGED_EVENTS) × (saved.new.position ≡ saved.new.kernel.position)) }
         ensures refused { (fault : StoreFault) → IsErrOf result (check.Refused fault) → IsAtRest (λ x. reading (shape_of self.now) d x ≡ Err fault) (D.told dev.new self.now.place) }
-        ensures long { (length piece.new ≡ length piece.old) × (length words.new ≡ length words.old) × (length marks.new.body.items ≡ length marks.old.body.items) × (length marks.new.touched.items ≡ length marks.old.touched.items) }
+        ensures long { (length piece.new ≡ length piece.old) × (length words.new ≡ length words.old) × (length marks.new.body.items ≡ length marks.old.body.items) × (length marks.new.touched.flags.items ≡ length marks.old.touched.flags.items) }
         ensures process { (saved.new.kernel.n ≡ saved.old.kernel.n) × (saved.new.kernel.p ≡ saved.old.kernel.p) }
         ensures room { LOGGED_EVENTS ≤ vec_capacity saved.new.log }
         ensures counts { IsCounted (stores_on D.Disks) self.now.place dev.old dev.new result }

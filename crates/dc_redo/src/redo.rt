@@ -39,7 +39,7 @@ pub struct Redo<D: Disks> {
     entry: Vec<u32>,
     device: PhantomData<D>,
     ghost long: { length marks.body.items ≡ 16 * frame.lines },
-    ghost marked: { length marks.touched.items ≡ frame.lines },
+    ghost marked: { length marks.touched.flags.items ≡ frame.lines },
     ghost room: { length piece.items ≡ 2 * frame.half },
     ghost record_room: { length words.items ≡ 1 + frame.event_words },
     ghost entry_room: { 4 * length entry.items ≡ frame.half },
@@ -83,7 +83,7 @@ impl<D: Disks> Redo<D> {
         requires large { D.extent dev.old self.old.frame.place ≡ 2 * self.old.frame.half }
         requires blank { IfSome (D.told dev.old self.old.frame.place) (λ disk. disk ≡ blank (2 * self.old.frame.half)) }
         ensures same { self.new.frame ≡ self.old.frame }
-        ensures known { known_of self.new.marks ≡ known_state 0 0 (whole_bytes (shape_of self.old.frame)) (number_in self.old.frame.kernel.items) false (body_of (shape_of self.old.frame) self.old.frame.memory.items self.old.frame.kernel.items) self.new.marks.touched.items }
+        ensures known { known_of self.new.marks ≡ known_state 0 0 (whole_bytes (shape_of self.old.frame)) (number_in self.old.frame.kernel.items) false (body_of (shape_of self.old.frame) self.old.frame.memory.items self.old.frame.kernel.items) self.new.marks.touched.flags.items }
         ensures roomy { HasRoom (shape_of self.old.frame) (known_of self.new.marks) }
         ensures images { (x : List ℕ) × EachImage (D.told dev.new self.old.frame.place) (IsFresh (shape_of self.old.frame) x) }
         ensures ready { OnOk result (IsReady (shape_of self.old.frame) (known_of self.new.marks) (D.told dev.new self.old.frame.place)) }

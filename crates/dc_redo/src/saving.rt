@@ -1,10 +1,11 @@
 //! Makes the memory and the text of the kernel, as they stand in the host, the next state.
 
-ghost use Rattle.std.specs.Prelude.{◌≡◌, ◌⊎◌, ◌+◌, ◌*◌, ◌/◌, ◌≤◌, ◌<◌, ◌^◌, ◌-◌, ℕ, List, Ok, OnOk, Some, false, true, length, replicate, slice_get, take};
+ghost use Rattle.std.specs.Prelude.{◌≡◌, ◌⊎◌, ◌+◌, ◌*◌, ◌/◌, ◌≤◌, ◌<◌, ◌^◌, ◌-◌, ◌++◌, ℕ, List, Ok, OnOk, Some, false, true, length, replicate, slice_get, take};
 ghost use Rattle.dc_checkpoint.specs.States.{IsText, number_in, unlogged};
 ghost use Rattle.dc_media.specs.Calls.{IsCall};
 ghost use Rattle.dc_media.specs.Devices.{of_disks};
-ghost use Rattle.dc_redo.specs.Gathered.{IsBody, IsLinesPiece, IsWholePiece, gathered};
+ghost use Rattle.dc_redo.specs.Gathered.{IsBody, IsLinesPiece, IsWholePiece, gathered, line_of, line_words, marked};
+ghost use Rattle.dc_redo.specs.Pieces.{Holds};
 ghost use Rattle.dc_redo.specs.Handles.{IsLarge, known_of, shape_of};
 ghost use Rattle.dc_redo.specs.Saves.{GoesOn, Saves, body_state};
 ghost use Rattle.dc_redo.specs.Shapes.{left_bytes, lines_bytes, lines_of, whole_bytes};
@@ -19,40 +20,38 @@ use crate::writing::add;
 use dc_kernel::COMMIT_AT;
 use dc_media::{DeviceFault, Disks};
 
-/// How many lines are marked.
-fn count_of(touched: &[bool]) -> u32
-    requires few { length touched.now < 2 ^ 32 }
-    ensures { (body : List ℕ) → result ≡ length (gathered 0 touched.now body) }
+/// Puts a line behind the words that a piece holds: its number, and its words.
+fn put_line(piece: &mut [u8], at: usize, line: u32, body: &[u32]) -> usize
+    requires room { at + 68 ≤ length piece.old }
+    requires line { 16 * line + 16 ≤ length body.now }
+    ensures long { length piece.new ≡ length piece.old }
+    ensures end { result ≡ at + 68 }
+    ensures holds { (so_far : List ℕ) → Holds so_far at piece.old → Holds (so_far ++ line_words (line_of line body.now)) result piece.new }
 {
-    let mut count = 0;
-    for i in 0..touched.len() {
-        if touched[i] {
-            count += 1;
-        }
-    }
-    count
+    let first = 16 * line as usize;
+    let words_at = put_words(piece, at, &[line]);
+    put_words(piece, words_at, &body[first..first + 16])
 }
 
 impl Frame {
     /// Makes the record of the lines that are marked.
     fn put_lines(&self, marks: &Marks, piece: &mut [u8], number: u32, prepared: bool) -> usize
         requires piece { length piece.old ≡ 2 * self.now.half }
-        requires marked { length marks.now.touched.items ≡ self.now.lines }
+        requires marked { length marks.now.touched.flags.items ≡ self.now.lines }
         requires body { IsBody (shape_of self.now) number marks.now.body.items }
-        requires first { slice_get marks.now.touched.items (self.now.size / 16) ≡ Some true }
-        requires fits { lines_bytes (length (gathered 0 marks.now.touched.items marks.now.body.items)) ≤ self.now.half }
+        requires sorted { marks.now.touched.lines.items ≡ marked 0 marks.now.touched.flags.items }
+        requires first { slice_get marks.now.touched.flags.items (self.now.size / 16) ≡ Some true }
+        requires fits { lines_bytes (length (gathered 0 marks.now.touched.flags.items marks.now.body.items)) ≤ self.now.half }
         ensures long { length piece.new ≡ length piece.old }
-        ensures end { result ≡ lines_bytes (length (gathered 0 marks.now.touched.items marks.now.body.items)) }
-        ensures made { IsLinesPiece (shape_of self.now) prepared number (gathered 0 marks.now.touched.items marks.now.body.items) (take result piece.new) }
+        ensures end { result ≡ lines_bytes (length (gathered 0 marks.now.touched.flags.items marks.now.body.items)) }
+        ensures made { IsLinesPiece (shape_of self.now) prepared number (gathered 0 marks.now.touched.flags.items marks.now.body.items) (take result piece.new) }
     {
         let kind = if prepared { PREPARED_LINES } else { LINES };
-        let count = count_of(&marks.touched);
+        let lines = &marks.touched.lines;
+        let count = marks.touched.count();
         let mut end = put_words(piece, BODY_AT, &[kind, number, count]);
-        for line in 0..marks.touched.len() {
-            if marks.touched[line] {
-                end = put_words(piece, end, &[line as u32]);
-                end = put_words(piece, end, &marks.body[16 * line..16 * line + 16]);
-            }
+        for i in 0..lines.len() {
+            end = put_line(piece, end, lines[i], &marks.body);
         }
         seal(piece, end)
     }
@@ -67,17 +66,18 @@ impl Frame {
         prepared: bool,
     ) -> Result<(), DeviceFault>
         requires piece { length piece.old ≡ 2 * self.now.half }
-        requires marked { length marks.now.touched.items ≡ self.now.lines }
+        requires marked { length marks.now.touched.flags.items ≡ self.now.lines }
         requires body { IsBody (shape_of self.now) number marks.now.body.items }
-        requires first { slice_get marks.now.touched.items (self.now.size / 16) ≡ Some true }
+        requires sorted { marks.now.touched.lines.items ≡ marked 0 marks.now.touched.flags.items }
+        requires first { slice_get marks.now.touched.flags.items (self.now.size / 16) ≡ Some true }
         requires later { marks.now.number < number }
-        requires fits { marks.now.end + lines_bytes (length (gathered 0 marks.now.touched.items marks.now.body.items)) + left_bytes (shape_of self.now) ≤ self.now.half }
+        requires fits { marks.now.end + lines_bytes (length (gathered 0 marks.now.touched.flags.items marks.now.body.items)) + left_bytes (shape_of self.now) ≤ self.now.half }
         requires large { IsLarge D.Disks self.now dev.old }
         requires roomy { HasRoom (shape_of self.now) (known_of marks.now) }
         requires ready { IsReady (shape_of self.now) (known_of marks.now) (D.told dev.old self.now.place) }
         ensures long { length piece.new ≡ length piece.old }
         ensures saves { Saves (shape_of self.now) marks.now.floor prepared number (body_state (shape_of self.now) marks.now.body.items) (D.told dev.old self.now.place) (D.told dev.new self.now.place) }
-        ensures goes { OnOk result (GoesOn (shape_of self.now) (known_state marks.now.at marks.now.floor (marks.now.end + lines_bytes (length (gathered 0 marks.now.touched.items marks.now.body.items))) number marks.now.full marks.now.body.items (replicate (lines_of (shape_of self.now)) false))
+        ensures goes { OnOk result (GoesOn (shape_of self.now) (known_state marks.now.at marks.now.floor (marks.now.end + lines_bytes (length (gathered 0 marks.now.touched.flags.items marks.now.body.items))) number marks.now.full marks.now.body.items (replicate (lines_of (shape_of self.now)) false))
             prepared number (body_state (shape_of self.now) marks.now.body.items) (D.told dev.new self.now.place)) }
         ensures call { IsCall (of_disks D.Disks) self.now.place dev.old dev.new result }
     {
@@ -153,11 +153,11 @@ impl Frame {
         prepared: bool,
     ) -> Result<(), DeviceFault>
         requires piece { length piece.old ≡ 2 * self.now.half }
-        requires marked { length marks.old.touched.items ≡ self.now.lines }
+        requires marked { length marks.old.touched.flags.items ≡ self.now.lines }
         requires body { IsBody (shape_of self.now) number marks.old.body.items }
-        requires first { slice_get marks.old.touched.items (self.now.size / 16) ≡ Some true }
+        requires first { slice_get marks.old.touched.flags.items (self.now.size / 16) ≡ Some true }
         requires later { marks.old.number < number }
-        requires bytes { bytes ≡ lines_bytes (length (gathered 0 marks.old.touched.items marks.old.body.items)) }
+        requires bytes { bytes ≡ lines_bytes (length (gathered 0 marks.old.touched.flags.items marks.old.body.items)) }
         requires fits { marks.old.end + bytes + left_bytes (shape_of self.now) ≤ self.now.half }
         requires large { IsLarge D.Disks self.now dev.old }
         requires roomy { HasRoom (shape_of self.now) (known_of marks.old) }
@@ -167,9 +167,10 @@ impl Frame {
         ensures goes { OnOk result (GoesOn (shape_of self.now) (known_of marks.new) prepared number (body_state (shape_of self.now) marks.old.body.items) (D.told dev.new self.now.place)) }
         ensures roomy { OnOk result (HasRoom (shape_of self.now) (known_of marks.new)) }
         ensures number { OnOk result ((marks.new.number ≡ number) × (marks.new.logged ≡ 0) × (marks.new.decided ≡ 0)) }
-        ensures same { (marks.new.floor ≡ marks.old.floor) × (marks.new.body.items ≡ marks.old.body.items) × (length marks.new.touched.items ≡ length marks.old.touched.items) }
+        ensures same { (marks.new.floor ≡ marks.old.floor) × (marks.new.body.items ≡ marks.old.body.items) × (length marks.new.touched.flags.items ≡ length marks.old.touched.flags.items) }
         ensures call { IsCall (of_disks D.Disks) self.now.place dev.old dev.new result }
     {
+        marks.touched.sort();
         self.add_lines(dev, marks, piece, number, prepared)?;
         let end = marks.end + bytes;
         marks.restart(marks.at, end, number, marks.full);
@@ -186,7 +187,7 @@ impl Frame {
         prepared: bool,
     ) -> Result<(), DeviceFault>
         requires piece { length piece.old ≡ 2 * self.now.half }
-        requires marked { length marks.old.touched.items ≡ self.now.lines }
+        requires marked { length marks.old.touched.flags.items ≡ self.now.lines }
         requires body { IsBody (shape_of self.now) number marks.old.body.items }
         requires later { marks.old.number < number }
         requires large { IsLarge D.Disks self.now dev.old }
@@ -197,7 +198,7 @@ impl Frame {
         ensures goes { OnOk result (GoesOn (shape_of self.now) (known_of marks.new) prepared number (body_state (shape_of self.now) marks.old.body.items) (D.told dev.new self.now.place)) }
         ensures roomy { OnOk result (HasRoom (shape_of self.now) (known_of marks.new)) }
         ensures number { OnOk result ((marks.new.number ≡ number) × (marks.new.logged ≡ 0) × (marks.new.decided ≡ 0)) }
-        ensures same { (marks.new.floor ≡ marks.old.floor) × (marks.new.body.items ≡ marks.old.body.items) × (length marks.new.touched.items ≡ length marks.old.touched.items) }
+        ensures same { (marks.new.floor ≡ marks.old.floor) × (marks.new.body.items ≡ marks.old.body.items) × (length marks.new.touched.flags.items ≡ length marks.old.touched.flags.items) }
         ensures call { IsCall (of_disks D.Disks) self.now.place dev.old dev.new result }
     {
         self.clear(dev, marks)?;
@@ -220,13 +221,13 @@ impl Frame {
     ) -> Result<(), DeviceFault>
         requires piece { length piece.old ≡ 2 * self.now.half }
         requires long { length marks.old.body.items ≡ 16 * self.now.lines }
-        requires marked { length marks.old.touched.items ≡ self.now.lines }
+        requires marked { length marks.old.touched.flags.items ≡ self.now.lines }
         requires text { IsText (shape_of self.now).form kernel.now }
         requires later { marks.old.number < number_in kernel.now }
         requires large { IsLarge D.Disks self.now dev.old }
         requires roomy { HasRoom (shape_of self.now) (known_of marks.old) }
         requires ready { IsReady (shape_of self.now) (known_of marks.old) (D.told dev.old self.now.place) }
-        ensures long { (length piece.new ≡ length piece.old) × (length marks.new.body.items ≡ length marks.old.body.items) × (length marks.new.touched.items ≡ length marks.old.touched.items) }
+        ensures long { (length piece.new ≡ length piece.old) × (length marks.new.body.items ≡ length marks.old.body.items) × (length marks.new.touched.flags.items ≡ length marks.old.touched.flags.items) }
         ensures saves { Saves (shape_of self.now) marks.old.floor prepared (number_in kernel.now) (Ok (unlogged (memory_in (shape_of self.now) marks.old.body.items) kernel.now)) (D.told dev.old self.now.place) (D.told dev.new self.now.place) }
         ensures goes { OnOk result (GoesOn (shape_of self.now) (known_of marks.new) prepared (number_in kernel.now) (Ok (unlogged (memory_in (shape_of self.now) marks.old.body.items) kernel.now)) (D.told dev.new self.now.place)) }
         ensures roomy { OnOk result (HasRoom (shape_of self.now) (known_of marks.new)) }
@@ -237,7 +238,7 @@ impl Frame {
     {
         let number = kernel[COMMIT_AT];
         self.store_text(marks, kernel);
-        let count = count_of(&marks.touched);
+        let count = marks.touched.count();
         let bytes = lines_bytes(count);
         if u64::from(marks.end) + bytes + u64::from(self.left()) <= u64::from(self.half) {
             return self.save_lines(dev, marks, piece, bytes as u32, number, prepared);

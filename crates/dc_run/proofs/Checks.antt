@@ -1,5 +1,5 @@
 -- What a check was answered, by what its work was.
-use Rattle.std.proofs.Common.{◌≡◌, ◌∙◌, ◌+◌, ◌<◌, ◌≤◌, inl, inr, zero, suc, ℕ, All, List, [], ◌∷◌, Option, None, Some, IfSome, IsOkAnd, IsSome, Result, Ok, Err, String, true, ap, arith, length, refl, slice_index_or, subst, sym}
+use Rattle.std.proofs.Common.{◌≡◌, ◌∙◌, ◌<◌, inl, inr, zero, suc, ℕ, All, List, [], ◌∷◌, Option, None, Some, IfSome, IsOkAnd, IsSome, Result, Ok, Err, String, true, ap, arith, length, refl, slice_index_or, subst, sym}
 use Rattle.std.proofs.lemmas.List.{length-map}
 use Rattle.std.specs.declared.alloc.Global.{Global}
 use Rattle.dc_acts.specs.Reading.{AreActs, Report}
@@ -25,7 +25,7 @@ use Rattle.dc_run.specs.declared.verdict.Which.{Which}
 use Rattle.dc_run.specs.declared.verdict.Which.TheVariants as which
 use Rattle.dc_run.proofs.Works.{exact_named, exact_refusal, exact_work}
 
--- the acts of a report are of its processes, and few
+-- the acts of a report are of its processes
 one_more : (n : ℕ) (x : Taken) (acts : List Taken) → x.p < n → All (λ y. y.p < n) acts → (k : ℕ) (d : Taken) → k < length (x ∷ acts) → (slice_index_or (x ∷ acts) k d).p < n
 one_more n x acts here all zero d within = here
 one_more n x acts here all (suc k) d within = all k d (omega (arith, within))
@@ -33,13 +33,6 @@ one_more n x acts here all (suc k) d within = all k d (omega (arith, within))
 pub acts_below : (n next : ℕ) (acts : List Taken) → AreActs n next acts → All (λ y. y.p < n) acts
 acts_below n next [] are = λ k d within. absurd (omega (arith, within))
 acts_below n next (x ∷ acts) are = one_more n x acts are.0 (acts_below n (suc x.t) acts are.4)
-
-few_from : (n next : ℕ) (acts : List Taken) → next ≤ 1000000 → AreActs n next acts → next + length acts ≤ 1000000
-few_from n next [] low are = omega (arith, low)
-few_from n next (x ∷ acts) low are = let rest = few_from n (suc x.t) acts (omega (arith, are.3)) are.4 in omega (arith, rest, are.2)
-
-pub acts_few : (n : ℕ) (acts : List Taken) → AreActs n 0 acts → length acts ≤ 1000000
-acts_few n acts are = let few = few_from n 0 acts (omega arith) are in omega (arith, few)
 
 -- a file that a run asks for
 nothing_there : (r : Result Plan Refusal) → IsOkAnd r (λ plan. ⊥) → ⊥

@@ -4,17 +4,19 @@ use Rattle.std.specs.declared.alloc.Global.{Global}
 use Rattle.dc_command.specs.declared.command.CommandFault.{CommandFault}
 use Rattle.dc_command.specs.declared.command.CommandFault.TheVariants as command
 use Rattle.dc_run.specs.Assembling.{program_in}
-use Rattle.dc_command.specs.Command.{asked_of}
-use Rattle.dc_command.specs.Command.Asked.{ToRun, ToAssemble}
-use Rattle.dc_run.specs.Commands.{Asks, IsExact, IsOpenedFor, unasked_by, work_of}
-use Rattle.dc_run.specs.Commands.Work.{Run, Assembly}
+use Rattle.dc_run.specs.Checking.{checked_in}
+use Rattle.dc_command.specs.Command.{Names, asked_of}
+use Rattle.dc_command.specs.Command.Asked.{ToRun, ToCheck, ToAssemble}
+use Rattle.dc_run.specs.Commands.{Asks, IsExact, IsOpenedFor, may_end, unasked_by, work_of}
+use Rattle.dc_run.specs.Commands.Work.{Run, Check, Assembly}
 use Rattle.dc_run.specs.Opening.{Files, AsksToRun, opening_of}
 use Rattle.dc_run.specs.Refusals.{as_verdict}
+use Rattle.dc_run.specs.Settings.{may_have_run, was_opened}
 use Rattle.dc_run.specs.declared.verdict.Verdict.{Verdict}
 use Rattle.dc_run.specs.declared.verdict.Verdict.TheVariants.{LibraryFault, Usage, WantOfMemory}
 use Rattle.dc_run.specs.declared.verdict.Which.{Which}
 use Rattle.dc_run.specs.declared.verdict.Which.TheVariants.{Source}
-use Rattle.dc_run.proofs.Works.{exact_named, for_known, refused_work}
+use Rattle.dc_run.proofs.Works.{exact_named, for_known, opened_named, refused_work}
 
 pub run_exact : (known : Option Files) (words : List (String Global)) (plan : List ℕ) → asked_of words ≡ Some (ToRun plan) → (v refusal : Verdict)
     → IfSome known (λ files. IsExact v refusal (as_verdict (opening_of files plan))) → IfSome known (λ files. IsExact v refusal (work_of files words))
@@ -38,9 +40,26 @@ assembly_asks (Some files) words source asked v which named there = λ is. rw as
 
 -- words that ask for nothing, or no memory to read them
 pub unasked_opened : (known : Option Files) (words : List (String Global)) (fault : CommandFault) (answered : Verdict) → answered ≡ unasked_by fault → (fault ≡ command.Usage → asked_of words ≡ None)
-    → IfSome known (λ files. IsOpenedFor answered (work_of files words))
-unasked_opened known words fault answered same usage = for_known known (λ files here. subst (λ w. IsOpenedFor w (work_of files words)) (sym same) (by files fault usage))
+    → IfSome known (λ files. IsOpenedFor may_end answered (work_of files words))
+unasked_opened known words fault answered same usage = for_known known (λ files here. subst (λ w. IsOpenedFor may_end w (work_of files words)) (sym same) (by files fault usage))
   where
-    by : (files : Files) (f : CommandFault) → (f ≡ command.Usage → asked_of words ≡ None) → IsOpenedFor (unasked_by f) (work_of files words)
-    by files command.Usage none = refused_work Usage (work_of files words) refl (inr (rw (none refl) refl))
-    by files command.Memory none = refused_work WantOfMemory (work_of files words) refl (inl refl)
+    by : (files : Files) (f : CommandFault) → (f ≡ command.Usage → asked_of words ≡ None) → IsOpenedFor may_end (unasked_by f) (work_of files words)
+    by files command.Usage none = refused_work may_end Usage (work_of files words) refl (inr (rw (none refl) refl))
+    by files command.Memory none = refused_work may_end WantOfMemory (work_of files words) refl (inl refl)
+
+-- what was opened is answered by what its work may end with
+module _ (words : List (String Global)) (v : Verdict) where
+  pub run_opened : (known : Option Files) (plan : List ℕ) → asked_of words ≡ Some (ToRun plan) → IfSome known (λ files. IsOpenedFor (λ setting u. may_have_run u) v (as_verdict (opening_of files plan)))
+      → IfSome known (λ files. IsOpenedFor may_end v (work_of files words))
+  run_opened None plan asked is = tt
+  run_opened (Some files) plan asked is = rw asked (opened_named Run (λ setting u. may_have_run u) may_end v (λ setting. refl) (as_verdict (opening_of files plan)) is)
+
+  pub check_opened : (known : Option Files) (names : Names) → asked_of words ≡ Some (ToCheck names) → IfSome known (λ files. IsOpenedFor (λ checked u. was_opened u) v (checked_in files names))
+      → IfSome known (λ files. IsOpenedFor may_end v (work_of files words))
+  check_opened None names asked is = tt
+  check_opened (Some files) names asked is = rw asked (opened_named Check (λ checked u. was_opened u) may_end v (λ checked. refl) (checked_in files names) is)
+
+  pub assembly_opened : (known : Option Files) (source : List ℕ) → asked_of words ≡ Some (ToAssemble source) → IfSome known (λ files. IsOpenedFor (λ program u. was_opened u) v (program_in files source))
+      → IfSome known (λ files. IsOpenedFor may_end v (work_of files words))
+  assembly_opened None source asked is = tt
+  assembly_opened (Some files) source asked is = rw asked (opened_named Assembly (λ program u. was_opened u) may_end v (λ program. refl) (program_in files source) is)

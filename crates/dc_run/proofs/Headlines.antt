@@ -1,5 +1,5 @@
 -- A run with its report keeps the promise.
-use Rattle.std.proofs.Common.{◌≡◌, ◌⊎◌, inl, inr, true, sym, subst, All, IfSome, IsOkAnd, List, [], ◌∷◌, Option, None, Some, Ok, length, refl, ℕ}
+use Rattle.std.proofs.Common.{◌≡◌, ◌∙◌, ◌⊎◌, inl, inr, true, sym, subst, All, IfSome, IsOkAnd, List, [], ◌∷◌, Option, None, Some, Ok, ap, length, refl, ℕ}
 use Rattle.std.proofs.lemmas.List.Elements.{All-cons, All-nil}
 use Rattle.dc_acts.specs.Reports.{report_text}
 use Rattle.dc_course.specs.Courses.{IsCourse, counts_of}
@@ -19,7 +19,7 @@ use Rattle.dc_run.specs.Outcomes.{status_of}
 use Rattle.dc_run.specs.Refusals.{as_verdict}
 use Rattle.dc_course.specs.declared.ending.Ending.{Ending}
 use Rattle.dc_course.specs.declared.ending.Ending.TheVariants as ending
-use Rattle.dc_run.specs.Settings.{is_free, was_opened}
+use Rattle.dc_run.specs.Settings.{is_free, may_have_run, was_opened}
 use Rattle.dc_run.specs.declared.verdict.Verdict.{Verdict}
 use Rattle.dc_run.specs.declared.outcome.Outcome.{Outcome}
 use Rattle.dc_run.specs.declared.verdict.Did.TheVariants.{Run}
@@ -33,13 +33,24 @@ pub with_report : {S : Type 0} (words : keeps.Ghosts S) (setting : Setting) (run
     → o.acts ≡ outcome.acts → o.marks ≡ outcome.marks → o.lines ≡ outcome.lines → IsReported words setting o lent out report
 with_report words setting run outcome o lent out report is kept reports acts marks lines = rw (acts, marks, lines) (rw is (record { ending = run.ending; kept = kept; report_told = rw is at reports }))
 
+-- the report of what it came to, by the run
+pub run_report : (run : Course) (outcome : Outcome) (verdict : Verdict) (sink : SinkCourse)
+    → outcome ≡ record { verdict = verdict_at run.ending; did = Run; acts = run.acts; marks = run.marks; lines = run.lines; difference = None }
+    → Reports outcome.verdict verdict (report_text (status_of outcome.verdict) (length outcome.marks.items) outcome.acts.items outcome.lines) sink
+    → Reports (verdict_at run.ending) verdict (report_text (status_of (verdict_at run.ending)) (length run.marks.items) run.acts.items run.lines) sink
+run_report run outcome verdict sink is reports = rw is at reports
+
 -- wherever the files open it with this setting
+pub opened_so : (known : Option Files) (plan : List ℕ) (setting : Setting) (P : Setting → Type 0) → ((files : Files) → known ≡ Some files → opening_of files plan ≡ Ok setting) → P setting
+    → IfSome known (λ files. IsOkAnd (as_verdict (opening_of files plan)) P)
+opened_so None plan setting P opened holds = tt
+opened_so (Some files) plan setting P opened holds = rw (opened files refl) holds
+
 pub reported_for : {S : Type 0} (words : keeps.Ghosts S) (known : Option Files) (plan : List ℕ) (setting : Setting) (o : Outcome) (lent : Loan S) (out report : SinkCourse)
     → ((files : Files) → known ≡ Some files → opening_of files plan ≡ Ok setting)
     → IsReported words setting o lent out report
     → IfSome known (λ files. IsOkAnd (as_verdict (opening_of files plan)) (λ s. IsReported words s o lent out report))
-reported_for words None plan setting o lent out report opened kept = tt
-reported_for words (Some files) plan setting o lent out report opened kept = rw (opened files refl) kept
+reported_for words known plan setting o lent out report opened kept = opened_so known plan setting (λ s. IsReported words s o lent out report) opened kept
 
 -- an entry of a schedule names processes that are there
 entry_named : (n last : ℕ) (entry : Entry) → IsEntry n last entry → IsOfProcesses n entry
@@ -72,3 +83,22 @@ unreported_so ending.Sink = inl refl
 pub reported_so : (e : Ending) (v : Verdict) (text : List ℕ) (sink : SinkCourse) → Reports (verdict_at e) v text sink → (was_opened v ≡ true) ⊎ (is_free v ≡ true)
 reported_so e v text sink (inl whole) = subst (λ u. (was_opened u ≡ true) ⊎ (is_free u ≡ true)) (sym whole.0) (ended_so e)
 reported_so e v text sink (inr cut) = subst (λ u. (was_opened u ≡ true) ⊎ (is_free u ≡ true)) (sym cut.0) (unreported_so e)
+
+-- and in any case to one that a run may come to
+ended_may : (e : Ending) → may_have_run (verdict_at e) ≡ true
+ended_may ending.Done = refl
+ended_may ending.Unfinished = refl
+ended_may (ending.Device p) = refl
+ended_may (ending.Store p fault) = refl
+ended_may ending.Sink = refl
+
+unreported_may : (e : Ending) → may_have_run (unreported (verdict_at e)) ≡ true
+unreported_may ending.Done = refl
+unreported_may ending.Unfinished = refl
+unreported_may (ending.Device p) = refl
+unreported_may (ending.Store p fault) = refl
+unreported_may ending.Sink = refl
+
+pub reported_may : (e : Ending) (v : Verdict) (text : List ℕ) (sink : SinkCourse) → Reports (verdict_at e) v text sink → may_have_run v ≡ true
+reported_may e v text sink (inl whole) = ap may_have_run whole.0 ∙ ended_may e
+reported_may e v text sink (inr cut) = ap may_have_run cut.0 ∙ unreported_may e

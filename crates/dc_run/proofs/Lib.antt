@@ -3,3 +3,6 @@ mod Commands
 mod Openings
 mod Checks
 mod Headlines
+mod Ends
+mod Given
+mod Passed

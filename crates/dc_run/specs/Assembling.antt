@@ -8,7 +8,7 @@ use Rattle.dc_media.specs.Told.{Becomes}
 use Rattle.dc_words.specs.Results.{◌>>=◌}
 use Rattle.dc_run.specs.Opening.{Files, file_in}
 use Rattle.dc_run.specs.Refusals.{as_verdict}
-use Rattle.dc_run.specs.Settings.{is_free}
+use Rattle.dc_run.specs.Settings.{stands_in}
 use Rattle.dc_run.specs.declared.outcome.Outcome.{Outcome}
 use Rattle.dc_run.specs.declared.verdict.Did.TheVariants.{Assembled}
 use Rattle.dc_run.specs.declared.verdict.Outlet.TheVariants.{Out}
@@ -25,11 +25,11 @@ program_or_fault (Err fault) = Err (AsmRefused fault)
 abbrev pub program_in : Files → List ℕ → Result (List Meant) Verdict
 program_in files name = as_verdict (file_in files Source name) >>= (λ text. program_or_fault (program_of text))
 
--- the file of the told program, or its refusal, where no free verdict takes its place
+-- the file of the told program, or its refusal, where neither want of memory nor a fault of the library takes its place
 abbrev pub IsMade : Result (Vec ℕ Global) Verdict → Result (List Meant) Verdict → Type 0
 IsMade (Ok file) (Ok program) = IsFileOf program file.items
 IsMade (Ok file) (Err refusal) = ⊥
-IsMade (Err v) told = (is_free v ≡ true) ⊎ (told ≡ Err v)
+IsMade (Err v) told = (stands_in v ≡ true) ⊎ (told ≡ Err v)
 
 -- a text went to the sink: all of it, or after a fault a part of its front
 abbrev pub WritesOut : List ℕ → Verdict → Option (List ℕ) → Option (List ℕ) → Type 0

@@ -1,5 +1,5 @@
 -- What a command comes to, by the words and the told files.
-use Rattle.std.specs.Prelude.{◌≡◌, ◌≢◌, ◌⊎◌, true, List, IsOkAnd, IsSome, IsSomeAnd, Result, Ok, Err, String}
+use Rattle.std.specs.Prelude.{◌≡◌, ◌⊎◌, ℕ, Bool, false, true, List, Some, length, IsOkAnd, IsSome, IsSomeAnd, Result, Ok, Err, String}
 use Rattle.std.specs.declared.alloc.Global.{Global}
 use Rattle.dc_asm.specs.declared.forms.Meant.{Meant}
 use Rattle.dc_run.specs.Assembling.{program_in}
@@ -10,11 +10,14 @@ use Rattle.dc_command.specs.declared.command.CommandFault.{CommandFault}
 use Rattle.dc_command.specs.declared.command.CommandFault.TheVariants as command
 use Rattle.dc_words.specs.Results.{◌>>=◌, or_fault}
 use Rattle.dc_course.specs.Headline.{Setting}
+use Rattle.dc_course.specs.Segments.{TellsStores}
+use Rattle.dc_media.specs.declared.keeps.Keeps as keeps
+use Rattle.dc_run.specs.Headline.{SinkCourse}
 use Rattle.dc_run.specs.Opening.{Files, AsksToRun, opening_of}
 use Rattle.dc_run.specs.Refusals.{as_verdict}
-use Rattle.dc_run.specs.Settings.{is_free, was_opened}
+use Rattle.dc_run.specs.Settings.{IsCalm, may_have_run, stands_in, was_opened}
 use Rattle.dc_run.specs.declared.verdict.Verdict.{Verdict}
-use Rattle.dc_run.specs.declared.verdict.Verdict.TheVariants.{Usage, WantOfMemory}
+use Rattle.dc_run.specs.declared.verdict.Verdict.TheVariants.{Done, Unfinished, Usage, WantOfMemory}
 use Rattle.dc_run.specs.declared.verdict.Which.{Which}
 use Rattle.dc_run.specs.declared.verdict.Which.TheVariants.{Source}
 
@@ -69,12 +72,38 @@ abbrev pub IfFound : Files → Asked → (Found → Type 0) → Type 0
 IfFound files (ToCheck names) P = IsOkAnd (found_in files names) P
 IfFound files _ P = Unit {0}
 
--- a refusal is answered exactly where the told files give it first; a free verdict may take its place
+-- a refusal is answered exactly where the told files give it first; want of memory or a fault of the library may stand in for it, and nothing else
 pub record IsExact {A : Type 0} (verdict refusal : Verdict) (told : Result A Verdict) : Type 0 where
   pub only : verdict ≡ refusal → told ≡ Err refusal
-  pub where_told : told ≡ Err refusal → (verdict ≡ refusal) ⊎ (is_free verdict ≡ true)
+  pub where_told : told ≡ Err refusal → (verdict ≡ refusal) ⊎ (stands_in verdict ≡ true)
 
--- where nothing is refused the work is carried out, but for a free verdict
-abbrev pub IsOpenedFor : {A : Type 0} → Verdict → Result A Verdict → Type 0
-IsOpenedFor verdict (Ok work) = (was_opened verdict ≡ true) ⊎ (is_free verdict ≡ true)
-IsOpenedFor verdict (Err refusal) = was_opened verdict ≢ true
+-- where nothing is refused the work comes to one of its ends, but for what may stand in; where something is, nothing was carried out
+abbrev pub IsOpenedFor : {A : Type 0} → (A → Verdict → Bool) → Verdict → Result A Verdict → Type 0
+IsOpenedFor ends verdict (Ok work) = (ends work verdict ≡ true) ⊎ (stands_in verdict ≡ true)
+IsOpenedFor ends verdict (Err refusal) = may_have_run verdict ≡ false
+
+-- the words ask to run a plan
+abbrev pub AsksToRunPlan : List (String Global) → Type 0
+AsksToRunPlan words = (plan : List ℕ) × (asked_of words ≡ Some (ToRun plan))
+
+-- how work may end: a run by its schedule or by a fault of a device, a store or a sink, a check or an assembly by what it writes
+abbrev pub may_end : Work → Verdict → Bool
+may_end (Run setting) verdict = may_have_run verdict
+may_end _ verdict = was_opened verdict
+
+-- work was carried out: a run to the end of its schedule, else what was asked for was written
+abbrev pub IsCarriedOut : Work → Verdict → Type 0
+IsCarriedOut (Run setting) verdict = (verdict ≡ Done) ⊎ (verdict ≡ Unfinished)
+IsCarriedOut _ verdict = verdict ≡ Done
+
+-- the stores that a run was lent told what they held
+abbrev pub TellsFor : {S : Type 0} → keeps.Ghosts S → S → S → Work → Type 0
+TellsFor words before after (Run setting) = TellsStores words (length setting.images) before after
+TellsFor words before after _ = Unit {0}
+
+-- the counts of faults of what a call was lent stay: of the library, of each process's device, of the output and of the report
+pub record AreCalm {S : Type 0} (words : keeps.Ghosts S) (before after : S) (lib_before lib_after : ℕ) (out report : SinkCourse) : Type 0 where
+  pub library : IsCalm lib_before lib_after
+  pub devices : (p : ℕ) → IsCalm (words.faults before p) (words.faults after p)
+  pub output : IsCalm out.faults_before out.faults_after
+  pub reports : IsCalm report.faults_before report.faults_after

@@ -1,5 +1,5 @@
 -- What a call of the program promises of a run that was opened.
-use Rattle.std.specs.Prelude.{◌≡◌, ◌⊎◌, ◌<◌, ℕ, Bool, true, false, List, ◌++◌, length, take, Option}
+use Rattle.std.specs.Prelude.{◌≡◌, ◌⊎◌, ◌<◌, ℕ, List, ◌++◌, length, take, Option}
 use Rattle.dc_acts.specs.Reports.{report_text}
 use Rattle.dc_course.specs.Courses.{IsCourse, counts_of}
 use Rattle.dc_course.specs.Headline.{Account, Setting}
@@ -73,15 +73,6 @@ pub record IsReported {S : Type 0} (words : keeps.Ghosts S) (setting : Setting) 
   pub kept : TellsStores words (length setting.images) lent.before lent.after
       → IsCourse setting (account_of o) ending (output out.before out.after) (counts_of words.stops (capped_by words.calls) lent.before lent.after) (λ core. SegmentsLeft words setting core lent.after)
   pub report_told : Reports (verdict_at ending) o.verdict (report_text (status_of (verdict_at ending)) (length o.marks.items) o.acts.items o.lines) report
-
--- the verdict of a call that may have run a plan
-abbrev pub may_have_run : Verdict → Bool
-may_have_run Done = true
-may_have_run Unfinished = true
-may_have_run (DeviceFault p) = true
-may_have_run (SinkFault outlet) = true
-may_have_run (StoreRefused p fault) = true
-may_have_run _ = false
 
 -- the line of an outcome was written whole, or its sink failed and a part of its front was
 abbrev pub Concludes : List ℕ → SinkCourse → Type 0

@@ -7,3 +7,4 @@ pub mod Settings
 pub mod Assembling
 pub mod Checking
 pub mod Commands
+pub mod Passing

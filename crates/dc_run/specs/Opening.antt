@@ -69,7 +69,7 @@ schedule_in files n (FromSeed start turns) = Ok (generated start turns n)
 
 -- with the plan, the images and the schedule
 abbrev pub setting_with : Plan → List Image → List Entry → Setting
-setting_with plan images schedule = record { protocol = plan.protocol; images = images; inputs = plan.inputs; schedule = schedule; stops = plan.stops }
+setting_with plan images schedule = record { protocol = plan.protocol; images = images; inputs = plan.inputs; schedule = schedule; stops = plan.stops; from = 0 }
 
 -- with the plan and the images
 abbrev pub opening_at_images : Files → Plan → List Image → Result Setting Refusal

@@ -1,5 +1,5 @@
 -- How the code's opening stands to the told files.
-use Rattle.std.specs.Prelude.{◌≡◌, ◌≤◌, ◌⊎◌, ℕ, Option, None, Some, Bool, true, false, not, ◌&&◌, Result, Ok, Err, map}
+use Rattle.std.specs.Prelude.{◌≡◌, ◌≤◌, ◌<◌, ◌-◌, ◌^◌, ◌⊎◌, ℕ, Option, None, Some, Bool, true, false, not, ◌&&◌, Result, Ok, Err, map}
 use Rattle.dc_elf.specs.Loaded.{seen_image}
 use Rattle.dc_words.specs.Lists.{lists_of}
 use Rattle.dc_media.specs.Told.{Becomes, TellsOn}
@@ -8,16 +8,21 @@ use Rattle.dc_run.specs.Opening.{Files}
 use Rattle.dc_run.specs.Refusals.{verdict_of}
 use Rattle.dc_run.specs.declared.refusal.Refusal.{Refusal}
 use Rattle.dc_run.specs.declared.setting.Setting as code
+use Rattle.dc_run.specs.declared.verdict.Outlet.TheVariants.{Report}
 use Rattle.dc_run.specs.declared.verdict.Verdict.{Verdict}
 use Rattle.dc_run.specs.declared.verdict.Verdict.TheVariants.{Done, Unfinished, LibraryFault, DeviceFault, SinkFault, Differs, WantOfMemory, StoreRefused}
 
--- a verdict that no told file decides: want of memory, a fault of the library or of a device, and what a store holds
+-- a verdict that may stand in for a refusal: no told file decides it, and it may come before the refusal is found
+abbrev pub stands_in : Verdict → Bool
+stands_in WantOfMemory = true
+stands_in (LibraryFault which) = true
+stands_in _ = false
+
+-- a verdict that no told file decides: one that may stand in, a fault of a device, and what a store holds
 abbrev pub is_free : Verdict → Bool
-is_free WantOfMemory = true
-is_free (LibraryFault which) = true
 is_free (DeviceFault p) = true
 is_free (StoreRefused p fault) = true
-is_free _ = false
+is_free verdict = stands_in verdict
 
 -- the verdict of a command that was carried out to its end, but for a fault of a sink
 abbrev pub was_opened : Verdict → Bool
@@ -25,6 +30,35 @@ was_opened Done = true
 was_opened Unfinished = true
 was_opened (SinkFault outlet) = true
 was_opened _ = false
+
+-- the verdict of a call that may have run a plan
+abbrev pub may_have_run : Verdict → Bool
+may_have_run Done = true
+may_have_run Unfinished = true
+may_have_run (DeviceFault p) = true
+may_have_run (SinkFault outlet) = true
+may_have_run (StoreRefused p fault) = true
+may_have_run _ = false
+
+-- of these a call that is asked to run a plan says that it ran: only where a device failed it may not have opened the run
+abbrev pub has_run : Verdict → Bool
+has_run Done = true
+has_run Unfinished = true
+has_run (SinkFault outlet) = true
+has_run (StoreRefused p fault) = true
+has_run _ = false
+
+-- a verdict that no other command than a run comes to
+abbrev pub is_of_run : Verdict → Bool
+is_of_run Unfinished = true
+is_of_run (DeviceFault p) = true
+is_of_run (SinkFault Report) = true
+is_of_run (StoreRefused p fault) = true
+is_of_run _ = false
+
+-- a count of faults that stays, below its last value
+abbrev pub IsCalm : ℕ → ℕ → Type 0
+IsCalm before now = (now ≡ before) × (before < 2 ^ 64 - 1)
 
 -- the line that differs, where the verdict is that one does
 abbrev pub differing_line : Verdict → Option ℕ
@@ -45,9 +79,9 @@ pub record LibraryKept (old new : Option Files) (faults_before faults_after : �
   pub tells : TellsOn 0 faults_after old new
   pub later : faults_before ≤ faults_after
 
--- a refusal that no told file decides
+-- a refusal whose verdict may stand in
 abbrev pub is_free_refusal : Refusal → Bool
-is_free_refusal refusal = is_free (verdict_of refusal)
+is_free_refusal refusal = stands_in (verdict_of refusal)
 
 -- the same value or refusal as the told files give, where no free refusal takes its place
 abbrev pub Agrees : {A X : Type 0} → (X → A) → Result X Refusal → Result A Refusal → Type 0
@@ -56,4 +90,4 @@ Agrees view (Err refusal) told = (is_free_refusal refusal ≡ true) ⊎ (told �
 
 -- a setting by the fields that the code has of it
 abbrev pub setting_of : code.Setting → Setting
-setting_of s = record { protocol = s.protocol; images = map seen_image s.images.items; inputs = lists_of s.inputs.items; schedule = s.schedule.items; stops = s.stops.items }
+setting_of s = record { protocol = s.protocol; images = map seen_image s.images.items; inputs = lists_of s.inputs.items; schedule = s.schedule.items; stops = s.stops.items; from = 0 }

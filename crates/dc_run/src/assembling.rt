@@ -8,7 +8,7 @@ ghost use Rattle.dc_run.specs.Checking.{TellsLine};
 ghost use Rattle.dc_run.specs.Commands.{IsExact, IsOpenedFor};
 ghost use Rattle.dc_run.specs.Opening.{Files};
 ghost use Rattle.dc_run.specs.Outcomes.{IsNothing};
-ghost use Rattle.dc_run.specs.Settings.{IsEarly, LibraryKept, is_refusal, was_opened};
+ghost use Rattle.dc_run.specs.Settings.{IsEarly, LibraryKept, is_of_run, is_refusal, was_opened};
 ghost use Rattle.dc_run.specs.declared.verdict.Verdict.{Verdict as Verdicts};
 ghost use Rattle.dc_run.specs.declared.verdict.Which.{Which as Whose};
 
@@ -24,6 +24,7 @@ fn file_of<L: Library>(alloc: Global, source: &str, lib: &mut L) -> Result<Vec<u
     ensures told { (files : Files) → L.files lib.old ≡ Some files → IsMade result (program_in files source.now) }
     ensures some { IfOk result (λ file. (program : List Meant) × IsFileOf program file.items) }
     ensures early { IfErr result IsEarly }
+    ensures runs { IfErr result (λ v. is_of_run v ≡ false) }
     ensures which { (w : Whose) → IsErrOf result (Verdict.LibraryFault w) → w ≡ Which.Source }
     ensures there { (files : Files) (w : Whose) → L.files lib.old ≡ Some files → IsErrOf result (Verdict.LibraryFault w) → IsSome (files source.now) }
     ensures fault { (w : Whose) → IsErrOf result (Verdict.LibraryFault w) → Rose (L.faults lib.old) (L.faults lib.new) }
@@ -50,6 +51,7 @@ fn write_file<O: Sink>(alloc: Global, file: &[u8], out: &mut O) -> Outcome
     ensures device { (p : ℕ) → ¬ (result.verdict ≡ Verdict.DeviceFault p) }
     ensures fault { result.verdict ≡ Verdict.SinkFault Outlet.Out → Rose (O.faults out.old) (O.faults out.new) }
     ensures did { ¬ (result.did ≡ Did.Run) }
+    ensures runs { is_of_run result.verdict ≡ false }
     ensures line { TellsLine result }
     ensures later { O.faults out.old ≤ O.faults out.new }
     ensures tells { TellsOn 0 (O.faults out.new) (O.held out.old) (O.held out.new) }
@@ -72,7 +74,7 @@ pub fn assemble_source<L: Library, O: Sink>(
     out: &mut O,
 ) -> Outcome
     ensures refused { (refusal : Verdicts) → is_refusal refusal ≡ true → IfSome (L.files lib.old) (λ files. IsExact result.verdict refusal (program_in files source.now)) }
-    ensures opened { IfSome (L.files lib.old) (λ files. IsOpenedFor result.verdict (program_in files source.now)) }
+    ensures opened { IfSome (L.files lib.old) (λ files. IsOpenedFor (λ program v. was_opened v) result.verdict (program_in files source.now)) }
     ensures assembled { was_opened result.verdict ≡ true → IfSome (L.files lib.old) (λ files. IsOkAnd (program_in files source.now) (λ program.
         IsAssembled program result (O.held out.old) (O.held out.new))) }
     ensures some { was_opened result.verdict ≡ true → (program : List Meant) × IsAssembled program result (O.held out.old) (O.held out.new) }
@@ -85,6 +87,7 @@ pub fn assemble_source<L: Library, O: Sink>(
     ensures device { (p : ℕ) → ¬ (result.verdict ≡ Verdict.DeviceFault p) }
     ensures unopened { was_opened result.verdict ≡ false → IsNothing result × (out.new ≡ out.old) }
     ensures did { was_opened result.verdict ≡ true → ¬ (result.did ≡ Did.Run) }
+    ensures runs { is_of_run result.verdict ≡ false }
     ensures line { TellsLine result }
     ensures library { LibraryKept (L.files lib.old) (L.files lib.new) (L.faults lib.old) (L.faults lib.new) }
     ensures later { O.faults out.old ≤ O.faults out.new }

@@ -7,7 +7,7 @@ ghost use Rattle.dc_command.specs.Command.{names_view};
 ghost use Rattle.dc_run.specs.Commands.{IsExact, IsOpenedFor};
 ghost use Rattle.dc_run.specs.Opening.{Files};
 ghost use Rattle.dc_run.specs.Outcomes.{IsNothing};
-ghost use Rattle.dc_run.specs.Settings.{Agrees, LibraryKept, is_refusal, setting_of, was_opened};
+ghost use Rattle.dc_run.specs.Settings.{Agrees, LibraryKept, is_of_run, is_refusal, setting_of, was_opened};
 ghost use Rattle.dc_run.specs.declared.verdict.Verdict.{Verdict as Verdicts};
 ghost use Rattle.dc_run.specs.declared.verdict.Which.{Which as Whose};
 
@@ -107,6 +107,7 @@ fn write_passed<O: Sink>(alloc: Global, acts: Acts, visibles: u32, out: &mut O) 
     ensures opened { was_opened result.verdict ≡ true }
     ensures line { TellsLine result }
     ensures own { ¬ (result.verdict ≡ Verdict.SinkFault Outlet.Report) }
+    ensures runs { is_of_run result.verdict ≡ false }
     ensures device { (p : ℕ) → ¬ (result.verdict ≡ Verdict.DeviceFault p) }
     ensures fault { result.verdict ≡ Verdict.SinkFault Outlet.Out → Rose (O.faults out.old) (O.faults out.new) }
     ensures later { O.faults out.old ≤ O.faults out.new }
@@ -130,6 +131,7 @@ fn conclude_check<O: Sink>(alloc: Global, found: Found, out: &mut O) -> Outcome
     ensures difference { (line : ℕ) → result.verdict ≡ Verdict.Differs line → TellsDifference result.difference (found_view found) }
     ensures line { TellsLine result }
     ensures own { ¬ (result.verdict ≡ Verdict.SinkFault Outlet.Report) }
+    ensures runs { is_of_run result.verdict ≡ false }
     ensures device { (p : ℕ) → ¬ (result.verdict ≡ Verdict.DeviceFault p) }
     ensures fault { result.verdict ≡ Verdict.SinkFault Outlet.Out → Rose (O.faults out.old) (O.faults out.new) }
     ensures unopened { was_opened result.verdict ≡ false → IsNothing result × (out.new ≡ out.old) }
@@ -158,7 +160,7 @@ pub fn check_output<L: Library, O: Sink>(
     out: &mut O,
 ) -> Outcome
     ensures refused { (refusal : Verdicts) → is_refusal refusal ≡ true → IfSome (L.files lib.old) (λ files. IsExact result.verdict refusal (checked_in files (names_view names.now))) }
-    ensures opened { IfSome (L.files lib.old) (λ files. IsOpenedFor result.verdict (checked_in files (names_view names.now))) }
+    ensures opened { IfSome (L.files lib.old) (λ files. IsOpenedFor (λ checked v. was_opened v) result.verdict (checked_in files (names_view names.now))) }
     ensures checked { was_opened result.verdict ≡ true → IfSome (L.files lib.old) (λ files. IsOkAnd (checked_in files (names_view names.now)) (λ checked.
         IsChecked checked result (O.held out.old) (O.held out.new))) }
     ensures some { was_opened result.verdict ≡ true → (checked : Passed) × IsChecked checked result (O.held out.old) (O.held out.new) }
@@ -170,6 +172,7 @@ pub fn check_output<L: Library, O: Sink>(
     ensures library_fault { (which : Whose) → result.verdict ≡ Verdict.LibraryFault which → Rose (L.faults lib.old) (L.faults lib.new) }
     ensures output_fault { result.verdict ≡ Verdict.SinkFault Outlet.Out → Rose (O.faults out.old) (O.faults out.new) }
     ensures own { ¬ (result.verdict ≡ Verdict.SinkFault Outlet.Report) }
+    ensures runs { is_of_run result.verdict ≡ false }
     ensures device { (p : ℕ) → ¬ (result.verdict ≡ Verdict.DeviceFault p) }
     ensures unopened { was_opened result.verdict ≡ false → IsNothing result × (out.new ≡ out.old) }
     ensures library { LibraryKept (L.files lib.old) (L.files lib.new) (L.faults lib.old) (L.faults lib.new) }

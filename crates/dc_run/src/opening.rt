@@ -1,9 +1,13 @@
-ghost use Rattle.std.specs.Prelude.{◌≡◌, ◌≤◌, ◌<◌, ◌%◌, ℕ, All, IsErrOf, IsSome, OnOk, Some, IfOk, length, map, string_bytes};
+ghost use Rattle.std.specs.List.{AllByRecursion};
+ghost use Rattle.std.specs.Prelude.{◌≡◌, ◌≤◌, ◌<◌, ◌%◌, ◌^◌, ℕ, All, IsErrOf, IsSome, OnOk, Some, IfOk, length, map, string_bytes};
 ghost use Rattle.dc_media.specs.Causes.{Rose};
 ghost use Rattle.dc_elf.specs.Loaded.{seen_image};
 ghost use Rattle.dc_plan.specs.Allowed.{IsAllowed, IsSourceAllowed};
 ghost use Rattle.dc_plan.specs.Plans.{InFile, plan_view, source_view};
 ghost use Rattle.dc_schedule.specs.Entries.{IsSchedule};
+ghost use Rattle.dc_shows.specs.Typed.{IsGivenRun, IsImage};
+ghost use Rattle.dc_words.specs.Lists.{lists_of};
+ghost use Rattle.dc_words.specs.Words.{AllBelow};
 ghost use Rattle.dc_world.specs.Opened.{CanOpen};
 ghost use Rattle.dc_run.specs.Opening.{AsksAtPlan, AsksForGuest, AsksToRun, Files, IsSourceThere, file_in, guest_in, images_in, opening_at_plan, opening_of, plan_in, schedule_in};
 ghost use Rattle.dc_run.specs.Settings.{Agrees, LibraryKept, setting_of};
@@ -60,6 +64,16 @@ fn plan_at<L: Library>(alloc: Global, lib: &mut L, name: &str) -> Result<Plan, R
     }
 }
 
+/// How many bytes an image has. They are bytes, and its entry is a word.
+fn typed(image: &Image) -> usize
+    ensures entry { image.now.entry < 2 ^ 32 }
+    ensures bytes { AllBelow (2 ^ 8) image.now.memory.items }
+{
+    let _entry = image.entry;
+    let bytes = image.memory.as_slice();
+    bytes.len()
+}
+
 /// The image of guest `p`, whose file has that name, in a memory of this size.
 fn load_guest<L: Library>(
     alloc: Global,
@@ -73,6 +87,7 @@ fn load_guest<L: Library>(
     requires pages { size % 4096 ≡ 0 }
     ensures told { (files : Files) → L.files lib.old ≡ Some files → Agrees seen_image result (guest_in files size p name.now) }
     ensures good { IfOk result CanOpen }
+    ensures typed { IfOk result (λ image. IsImage (seen_image image)) }
     ensures which { (w : Whose) → IsErrOf result (Refusal.Library w) → w ≡ Which.Guest p }
     ensures there { (files : Files) (w : Whose) → L.files lib.old ≡ Some files → IsErrOf result (Refusal.Library w) → IsSome (files name.now) }
     ensures files { OnOk result (L.files lib.new ≡ L.files lib.old) }
@@ -81,7 +96,10 @@ fn load_guest<L: Library>(
 {
     let file = fetch(alloc, lib, Which::Guest(p), name)?;
     match load(alloc, &file, size) {
-        Ok(image) => Ok(image),
+        Ok(image) => {
+            let _long = typed(&image);
+            Ok(image)
+        }
         Err(LoadFault::Refused(fault)) => Err(Refusal::Guest(p, fault)),
         Err(LoadFault::Memory) => Err(Refusal::Memory),
     }
@@ -100,6 +118,7 @@ fn load_guests<L: Library>(
     requires pages { size % 4096 ≡ 0 }
     ensures told { (files : Files) → L.files lib.old ≡ Some files → Agrees (λ images. map seen_image images.items) result (images_in files size 0 (map string_bytes names.now)) }
     ensures good { IfOk result (λ images. All CanOpen images.items) }
+    ensures typed { IfOk result (λ images. AllByRecursion IsImage (map seen_image images.items)) }
     ensures count { IfOk result (λ images. length images.items ≡ length names.now) }
     ensures reached { (files : Files) (w : Whose) → L.files lib.old ≡ Some files → IsErrOf result (Refusal.Library w) →
         (q : ℕ) × (w ≡ Which.Guest q) × AsksForGuest files size (map string_bytes names.now) q }
@@ -172,6 +191,7 @@ fn schedule_from<L: Library>(
 fn open_plan<L: Library>(alloc: Global, lib: &mut L, plan: Plan) -> Result<Setting, Refusal>
     requires { IsAllowed (plan_view plan) }
     ensures told { (files : Files) → L.files lib.old ≡ Some files → Agrees setting_of result (opening_at_plan files (plan_view plan)) }
+    ensures given { IfOk result (λ s. IsGivenRun (map seen_image s.images.items) (lists_of s.inputs.items) s.schedule.items) }
     ensures reached { (files : Files) (w : Whose) → L.files lib.old ≡ Some files → IsErrOf result (Refusal.Library w) → AsksAtPlan files (plan_view plan) w }
     ensures files { OnOk result (L.files lib.new ≡ L.files lib.old) }
     ensures fault { (w : Whose) → IsErrOf result (Refusal.Library w) → Rose (L.faults lib.old) (L.faults lib.new) }
@@ -192,6 +212,7 @@ fn open_plan<L: Library>(alloc: Global, lib: &mut L, plan: Plan) -> Result<Setti
 /// What the files open the run of that plan with, or the first refusal.
 pub fn open<L: Library>(alloc: Global, plan: &str, lib: &mut L) -> Result<Setting, Refusal>
     ensures told { (files : Files) → L.files lib.old ≡ Some files → Agrees setting_of result (opening_of files plan.now) }
+    ensures given { IfOk result (λ s. IsGivenRun (map seen_image s.images.items) (lists_of s.inputs.items) s.schedule.items) }
     ensures reached { (files : Files) (w : Whose) → L.files lib.old ≡ Some files → IsErrOf result (Refusal.Library w) → AsksToRun files plan.now w }
     ensures files { OnOk result (L.files lib.new ≡ L.files lib.old) }
     ensures fault { (w : Whose) → IsErrOf result (Refusal.Library w) → Rose (L.faults lib.old) (L.faults lib.new) }

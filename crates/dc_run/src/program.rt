@@ -13,12 +13,13 @@ ghost use Rattle.dc_run.specs.Assembling.{IsAssembled};
 ghost use Rattle.dc_run.specs.Checking.{Checked, IsChecked, TellsDifference, TellsLine};
 ghost use Rattle.dc_command.specs.Command.{Names, asked_of};
 ghost use Rattle.dc_command.specs.Command.Asked.{ToAssemble, ToCheck, ToRun};
-ghost use Rattle.dc_run.specs.Commands.{Asks, IfAssembly, IfCheck, IfFound, IfRun, IsExact, IsOpenedFor, unasked_by, work_of};
-ghost use Rattle.dc_run.specs.Headline.{IsReported, Reports, course, loan, may_have_run, unopened_by, unreported, verdict_at};
+ghost use Rattle.dc_run.specs.Commands.{AreCalm, Asks, AsksToRunPlan, IfAssembly, IfCheck, IfFound, IfRun, IsCarriedOut, IsExact, IsOpenedFor, TellsFor, may_end, unasked_by, work_of};
+ghost use Rattle.dc_run.specs.Headline.{IsReported, Reports, course, loan, unopened_by, unreported, verdict_at};
 ghost use Rattle.dc_run.specs.Opening.{AsksToRun, opening_of};
 ghost use Rattle.dc_run.specs.Outcomes.{IsNothing, status_of};
+ghost use Rattle.dc_run.specs.Passing.{WritesPassing};
 ghost use Rattle.dc_run.specs.Refusals.{as_verdict};
-ghost use Rattle.dc_run.specs.Settings.{LibraryKept, is_refusal, setting_of, was_opened};
+ghost use Rattle.dc_run.specs.Settings.{LibraryKept, has_run, is_of_run, is_refusal, may_have_run, setting_of, was_opened};
 ghost use Rattle.dc_run.specs.declared.verdict.Verdict.{Verdict as Verdicts};
 ghost use Rattle.dc_run.specs.declared.verdict.Which.{Which as Whose};
 
@@ -58,7 +59,13 @@ pub fn dc<L: Library, K: Keeps, D: Disks, O: Sink, R: Sink>(
     ensures usage { result.verdict ≡ Verdict.Usage → asked_of words.now ≡ None }
     ensures unasked { asked_of words.now ≡ None → (result.verdict ≡ Verdict.Usage) ⊎ (result.verdict ≡ Verdict.WantOfMemory) }
     ensures refused { (refusal : Verdicts) → is_refusal refusal ≡ true → IfSome (L.files lib.old) (λ files. IsExact result.verdict refusal (work_of files words.now)) }
-    ensures opened { IfSome (L.files lib.old) (λ files. IsOpenedFor result.verdict (work_of files words.now)) }
+    ensures opened { IfSome (L.files lib.old) (λ files. IsOpenedFor may_end result.verdict (work_of files words.now)) }
+
+    // What is not refused is carried out, where its stores are told and no count of faults rose, but for want of memory.
+    ensures complete { IfSome (L.files lib.old) (λ files. IfOk (work_of files words.now) (λ work.
+        AreCalm K.Keeps keeps.old keeps.new (L.faults lib.old) (L.faults lib.new) (course (O.held out.old) (O.held out.new) (O.faults out.old) (O.faults out.new))
+        (course (R.held report.old) (R.held report.new) (R.faults report.old) (R.faults report.new)) →
+        TellsFor K.Keeps keeps.old keeps.new work → IsCarriedOut work result.verdict ⊎ (result.verdict ≡ Verdict.WantOfMemory))) }
 
     // Faults, only where the count of the object that was handed in rose, and at a file only where the command asks for it.
     ensures library_fault { (which : Whose) → result.verdict ≡ Verdict.LibraryFault which → Rose (L.faults lib.old) (L.faults lib.new) }
@@ -72,12 +79,19 @@ pub fn dc<L: Library, K: Keeps, D: Disks, O: Sink, R: Sink>(
         IsReported K.Keeps setting result (loan keeps.old keeps.new) (course (O.held out.old) (O.held out.new) (O.faults out.old) (O.faults out.new))
         (course (R.held report.old) (R.held report.new) (R.faults report.old) (R.faults report.new))))) }
 
-    // The same where the files are not told: there is a setting of which it holds. A call that is asked to run a plan says that it ran
-    // where the run came to its end.
+    // What a run wrote on sinks that held nothing and did not fail passes the check of it, wherever files hold it.
+    ensures passes { result.did ≡ Did.Run → IfSome (L.files lib.old) (λ files. IsOkAnd (work_of files words.now) (λ work. IfRun work (λ setting.
+        TellsStores K.Keeps (length setting.images) keeps.old keeps.new → WritesPassing setting (course (O.held out.old) (O.held out.new) (O.faults out.old) (O.faults out.new))
+        (course (R.held report.old) (R.held report.new) (R.faults report.old) (R.faults report.new)) result.acts.items))) }
+
+    // The same where the files are not told: there is a setting of which it holds. Words that ask to run a plan do a run or nothing: a
+    // run wherever the verdict is one of a run and no fault of a device. No other words come to a run, or to a verdict that only runs have.
     ensures ran { result.did ≡ Did.Run → (setting : Settings) ×
         IsReported K.Keeps setting result (loan keeps.old keeps.new) (course (O.held out.old) (O.held out.new) (O.faults out.old) (O.faults out.new))
         (course (R.held report.old) (R.held report.new) (R.faults report.old) (R.faults report.new)) }
-    ensures did { (plan : List ℕ) → asked_of words.now ≡ Some (ToRun plan) → was_opened result.verdict ≡ true → result.did ≡ Did.Run }
+    ensures did { (plan : List ℕ) → asked_of words.now ≡ Some (ToRun plan) → has_run result.verdict ≡ true → result.did ≡ Did.Run }
+    ensures did_run { AsksToRunPlan words.now → (result.did ≡ Did.Run) ⊎ (result.did ≡ Did.Nothing) }
+    ensures runs_alone { (result.did ≡ Did.Run) ⊎ (is_of_run result.verdict ≡ true) → AsksToRunPlan words.now }
     ensures idle { may_have_run result.verdict ≡ false → result.did ≡ Did.Nothing }
 
     // An output that passes: `ok`, the counts of its report's acts and of the visible records that they show; and how another differs.
@@ -104,6 +118,7 @@ pub fn dc<L: Library, K: Keeps, D: Disks, O: Sink, R: Sink>(
     ensures output_later { O.faults out.old ≤ O.faults out.new }
     ensures report_later { R.faults report.old ≤ R.faults report.new }
     ensures keeps { ((plan : List ℕ) → asked_of words.now ≡ Some (ToRun plan) → ⊥) → keeps.new ≡ keeps.old }
+    ensures keeps_refused { may_have_run result.verdict ≡ false → (result.verdict ≡ Verdict.WantOfMemory → ⊥) → keeps.new ≡ keeps.old }
     ensures keeps_later { (p : ℕ) → (K.stops keeps.old p ≤ K.stops keeps.new p) × (K.faults keeps.old p ≤ K.faults keeps.new p) }
     ensures disks { disks.new ≡ disks.old }
 {
@@ -214,7 +229,7 @@ fn run_plan<L: Library, K: Keeps, O: Sink, R: Sink>(
     report: &mut R,
 ) -> Outcome
     ensures refused { (refusal : Verdicts) → is_refusal refusal ≡ true → IfSome (L.files lib.old) (λ files. IsExact result.verdict refusal (as_verdict (opening_of files plan.now))) }
-    ensures opened { IfSome (L.files lib.old) (λ files. IsOpenedFor result.verdict (as_verdict (opening_of files plan.now))) }
+    ensures opened { IfSome (L.files lib.old) (λ files. IsOpenedFor (λ setting v. may_have_run v) result.verdict (as_verdict (opening_of files plan.now))) }
     ensures asked { ¬ (result.verdict ≡ Verdict.Usage) }
     ensures library_fault { (which : Whose) → result.verdict ≡ Verdict.LibraryFault which → Rose (L.faults lib.old) (L.faults lib.new) }
     ensures library_asked { (which : Whose) → IfSome (L.files lib.old) (λ files. result.verdict ≡ Verdict.LibraryFault which → AsksToRun files plan.now which) }
@@ -224,10 +239,14 @@ fn run_plan<L: Library, K: Keeps, O: Sink, R: Sink>(
     ensures headline { result.did ≡ Did.Run → IfSome (L.files lib.old) (λ files. IsOkAnd (as_verdict (opening_of files plan.now)) (λ setting.
         IsReported K.Keeps setting result (loan keeps.old keeps.new) (course (O.held out.old) (O.held out.new) (O.faults out.old) (O.faults out.new))
         (course (R.held report.old) (R.held report.new) (R.faults report.old) (R.faults report.new)))) }
+    ensures passes { result.did ≡ Did.Run → IfSome (L.files lib.old) (λ files. IsOkAnd (as_verdict (opening_of files plan.now)) (λ setting.
+        TellsStores K.Keeps (length setting.images) keeps.old keeps.new → WritesPassing setting (course (O.held out.old) (O.held out.new) (O.faults out.old) (O.faults out.new))
+        (course (R.held report.old) (R.held report.new) (R.faults report.old) (R.faults report.new)) result.acts.items)) }
     ensures ran { result.did ≡ Did.Run → (setting : Settings) ×
         IsReported K.Keeps setting result (loan keeps.old keeps.new) (course (O.held out.old) (O.held out.new) (O.faults out.old) (O.faults out.new))
         (course (R.held report.old) (R.held report.new) (R.faults report.old) (R.faults report.new)) }
-    ensures did { was_opened result.verdict ≡ true → result.did ≡ Did.Run }
+    ensures did { has_run result.verdict ≡ true → result.did ≡ Did.Run }
+    ensures did_run { (result.did ≡ Did.Run) ⊎ (result.did ≡ Did.Nothing) }
     ensures idle { may_have_run result.verdict ≡ false → result.did ≡ Did.Nothing }
     ensures line { TellsLine result }
     ensures unopened { result.did ≡ Did.Nothing → IsNothing result × (out.new ≡ out.old) × (report.new ≡ report.old) }
@@ -236,6 +255,7 @@ fn run_plan<L: Library, K: Keeps, O: Sink, R: Sink>(
     ensures report_tells { TellsOn 0 (R.faults report.new) (R.held report.old) (R.held report.new) }
     ensures output_later { O.faults out.old ≤ O.faults out.new }
     ensures report_later { R.faults report.old ≤ R.faults report.new }
+    ensures keeps_refused { may_have_run result.verdict ≡ false → (result.verdict ≡ Verdict.WantOfMemory → ⊥) → keeps.new ≡ keeps.old }
     ensures keeps_later { (p : ℕ) → (K.stops keeps.old p ≤ K.stops keeps.new p) × (K.faults keeps.old p ≤ K.faults keeps.new p) }
 {
     let setting = match open(alloc, plan, lib) {

@@ -1,5 +1,6 @@
-ghost use Rattle.std.specs.Prelude.{◌≡◌, ◌≤◌, ◌<◌, All, length};
+ghost use Rattle.std.specs.Prelude.{◌≡◌, false, ◌≤◌, ◌<◌, All, length};
 ghost use Rattle.dc_limits.specs.declared.sizes.TheConstants.{PROCESSES};
+ghost use Rattle.dc_protocols.specs.Rules.{is_causal};
 ghost use Rattle.dc_schedule.specs.Entries.{IsSchedule};
 ghost use Rattle.dc_world.specs.Opened.{CanOpen};
 ghost use Rattle.dc_run.specs.Single.{IsSchedule-prop, all_can_open-prop};
@@ -19,6 +20,7 @@ pub struct Setting {
     pub inputs: Vec<Vec<Message>>,
     pub schedule: Vec<Entry>,
     pub stops: Vec<PlannedStop>,
+    ghost seven: { is_causal protocol ≡ false },
     ghost some: { 0 < length images.items },
     ghost few: { length images.items ≤ PROCESSES },
     ghost good: { All CanOpen images.items } by { all_can_open-prop images.items },

@@ -89,6 +89,25 @@ meaning_or_trap (Some i) m = meaning i m
 unfoldable pub stepped : Machine → Machine × Stepped
 stepped m = if nat_lt (length m.memory) (m.pc + 4) then (m, Trap 1) else meaning_or_trap (decoded (word_at m.memory m.pc)) m
 
+-- an instruction that stores
+abbrev pub is_store : Instr → Bool
+is_store (Store op rs1 rs2 imm) = true
+is_store _ = false
+
+-- a word that codes one
+abbrev pub codes_store : Option Instr → Bool
+codes_store None = false
+codes_store (Some i) = is_store i
+
+-- the next step stores, unless it traps
+unfoldable pub stores : Machine → Bool
+stores m = if nat_lt (length m.memory) (m.pc + 4) then false else codes_store (decoded (word_at m.memory m.pc))
+
+-- the same, where the instruction at pc or the cause of the trap there was found
+abbrev pub stores_fetched : Result Instr ℕ → Bool
+stores_fetched (Ok i) = is_store i
+stores_fetched (Err cause) = false
+
 -- the same, where the instruction at pc or the cause of the trap there was found
 abbrev pub after_fetch : Result Instr ℕ → Machine → Machine × Stepped
 after_fetch (Ok i) m = meaning i m

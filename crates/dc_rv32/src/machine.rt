@@ -1,7 +1,7 @@
-ghost use Rattle.std.specs.Prelude.{◌≡◌, ◌≤◌, ◌<◌, ◌+◌, ◌*◌, ◌/◌, ◌%◌, ◌^◌, ℕ, List, length, IfErr, IfOk, IfSome, OnErr, OnOk, slice_index};
+ghost use Rattle.std.specs.Prelude.{◌≡◌, ◌≤◌, ◌<◌, ◌+◌, ◌*◌, ◌/◌, ◌%◌, ◌^◌, ℕ, List, length, IfErr, IfOk, IfSome, OnErr, OnOk, slice_index, true};
 ghost use Rattle.dc_isa.specs.Fields.{extended};
 ghost use Rattle.dc_isa.specs.Table.{Fits};
-ghost use Rattle.dc_rv32.specs.Machine.{after_fetch, is_call, machine_of, meaning, stepped, written, IsCause, UnlessRetired};
+ghost use Rattle.dc_rv32.specs.Machine.{after_fetch, is_call, machine_of, meaning, stepped, written, IsCause, UnlessRetired, is_store, stores, stores_fetched};
 ghost use Rattle.dc_media.specs.Told.{Becomes};
 ghost use Rattle.dc_rv32.specs.Stores.{OnceAtMost};
 
@@ -73,6 +73,7 @@ fn run<B: Bus>(regs: &mut Regs, bus: &mut B, instr: &Instr) -> Result<Stepped, B
     ensures once { OnOk result (OnceAtMost B.made bus.old bus.new) }
     ensures refused { IfErr result (λ why. (i : ℕ) × B.refused bus.old i bus.new why) }
     ensures reached { OnErr result (IfSome (B.told bus.old) (λ words. (meaning instr.now (machine_of regs.old words)).1 ≡ Stepped.Retired)) }
+    ensures storing { OnErr result (is_store instr.now ≡ true) }
     ensures kept { OnErr result (regs.new ≡ regs.old) }
     ensures aligned { OnOk result (regs.old.pc % 4 ≡ 0 → regs.new.pc % 4 ≡ 0) }
     ensures zero { slice_index regs.old.x 0 ≡ 0 → slice_index regs.new.x 0 ≡ 0 }
@@ -123,6 +124,7 @@ fn run<B: Bus>(regs: &mut Regs, bus: &mut B, instr: &Instr) -> Result<Stepped, B
 fn fetch<B: Bus>(regs: &Regs, bus: &B) -> Result<Instr, u32>
     requires live { B.live bus.now }
     ensures fetched { IfSome (B.told bus.now) (λ words. stepped (machine_of regs.now words) ≡ after_fetch result (machine_of regs.now words)) }
+    ensures stores { IfSome (B.told bus.now) (λ words. stores (machine_of regs.now words) ≡ stores_fetched result) }
     ensures fits { IfOk result Fits }
     ensures cause { IfErr result (λ cause. cause ≤ 7) }
 {
@@ -156,6 +158,7 @@ pub fn step<B: Bus>(regs: &mut Regs, bus: &mut B) -> Result<Stepped, B::Stop>
     ensures once { OnOk result (OnceAtMost B.made bus.old bus.new) }
     ensures refused { IfErr result (λ why. (i : ℕ) × B.refused bus.old i bus.new why) }
     ensures reached { OnErr result (IfSome (B.told bus.old) (λ words. (stepped (machine_of regs.old words)).1 ≡ Stepped.Retired)) }
+    ensures storing { OnErr result (IfSome (B.told bus.old) (λ words. stores (machine_of regs.old words) ≡ true)) }
     ensures kept { OnErr result (regs.new ≡ regs.old) }
     ensures aligned { regs.old.pc % 4 ≡ 0 → regs.new.pc % 4 ≡ 0 }
     ensures zero { slice_index regs.old.x 0 ≡ 0 → slice_index regs.new.x 0 ≡ 0 }

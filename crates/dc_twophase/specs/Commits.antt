@@ -5,14 +5,14 @@ use Rattle.dc_checkpoint.specs.Calls.{AreAmong, AreBelow, AreFrom, Narrows}
 use Rattle.dc_checkpoint.specs.Handles.{IsSame}
 use Rattle.dc_checkpoint.specs.States.{IsSaved, Reading}
 use Rattle.dc_checkpoint.specs.declared.checkpoint.Checkpoint as checkpoint
-use Rattle.dc_twophase.specs.Stores.{At, Each, EachPair, Moment}
+use Rattle.dc_twophase.specs.Stores.{At, Each, EachPair, Together}
 
 -- the memory is what it was
 abbrev pub IsSameMemory : {C D : Type 0} → checkpoint.Ghosts C D → D → D → C → C → Type 0
 IsSameMemory store old new b c = Becomes (store.contents b old) (store.contents c new) (λ before after. after ≡ before)
 
 -- under this decided number each stands for what it stood for
-abbrev pub AllOld : {C D : Type 0} → checkpoint.Ghosts C D → Moment C D → Moment C D → ℕ → Type 0
+abbrev pub AllOld : {C D : Type 0} → checkpoint.Ghosts C D → Together C D → Together C D → ℕ → Type 0
 AllOld store old new d = EachPair old.stores new.stores (λ i b c. (reading : Reading) → store.leaves c new.dev d reading → store.leaves b old.dev d reading)
 
 -- the store of this index takes part in a commit of these
@@ -24,15 +24,15 @@ abbrev pub IsOther : List Bool → ℕ → Type 0
 IsOther members i = slice_get members i ≡ Some false
 
 -- under this decided number each that takes part stands for its memory as it was, with its text
-abbrev pub AllNewOf : {C D : Type 0} → checkpoint.Ghosts C D → List Bool → (ℕ → List ℕ) → Moment C D → Moment C D → ℕ → Type 0
+abbrev pub AllNewOf : {C D : Type 0} → checkpoint.Ghosts C D → List Bool → (ℕ → List ℕ) → Together C D → Together C D → ℕ → Type 0
 AllNewOf store members text old new d = EachPair old.stores new.stores (λ i b c. IsMember members i → (reading : Reading) → store.leaves c new.dev d reading → IsSaved (store.contents b old.dev) (text i) reading)
 
 -- under this decided number each stands for its memory as it was, with its text
-abbrev pub AllNew : {C D : Type 0} → checkpoint.Ghosts C D → (ℕ → List ℕ) → Moment C D → Moment C D → ℕ → Type 0
+abbrev pub AllNew : {C D : Type 0} → checkpoint.Ghosts C D → (ℕ → List ℕ) → Together C D → Together C D → ℕ → Type 0
 AllNew store text old new d = EachPair old.stores new.stores (λ i b c. (reading : Reading) → store.leaves c new.dev d reading → IsSaved (store.contents b old.dev) (text i) reading)
 
 -- the decided number is one that stays, is below g and below no store's floor, and no floor is over g
-pub record HasRoom {C D : Type 0} (store : checkpoint.Ghosts C D) (g : ℕ) (now : Moment C D) : Type 0 where
+pub record HasRoom {C D : Type 0} (store : checkpoint.Ghosts C D) (g : ℕ) (now : Together C D) : Type 0 where
   pub stays : At 0 now.stores (λ c. store.steady c now.dev)
   pub below : At 0 now.stores (λ c. AreBelow g (store.numbers c now.dev))
   pub under : Each now.stores (λ i b. store.floor b ≤ g)

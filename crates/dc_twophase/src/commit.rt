@@ -3,7 +3,7 @@ ghost use Rattle.dc_checkpoint.specs.Calls.{AreAll, AreBelow};
 ghost use Rattle.dc_checkpoint.specs.Handles.{IsSame};
 ghost use Rattle.dc_twophase.specs.Commits.{AllNew, AllNewOf, AllOld, HasRoom, IsAside, IsBeside, IsCommitted, IsDecided, IsDeciding, IsIdle, IsMember, IsOther, IsPrepared, IsSameMemory, IsUndecided};
 ghost use Rattle.dc_twophase.specs.Counts.{IsJoint, IsUnrefused};
-ghost use Rattle.dc_twophase.specs.Stores.{AreApart, AreCalls, AreOf, At, AtPair, Each, EachPair, IsCall, IsNoPlace, Takes, on, text_at};
+ghost use Rattle.dc_twophase.specs.Stores.{AreApart, AreCalls, AreOf, At, AtPair, Each, EachPair, CallsOne, IsNoPlace, Takes, on, text_at};
 
 use crate::faults::{JointFault, joint_fault};
 use dc_checkpoint::Checkpoint;
@@ -23,7 +23,7 @@ fn prepare_one<C: Checkpoint>(
     requires ready { At p stores.old (λ c. C.ready c dev.old) }
     requires number { At p stores.old (λ c. C.number c < g) }
     requires text { At p stores.old (Takes C.Checkpoint text.now g) }
-    ensures call { IsCall C.Checkpoint p (on stores.old dev.old) (on stores.new dev.new) }
+    ensures call { CallsOne C.Checkpoint p (on stores.old dev.old) (on stores.new dev.new) }
     ensures undecided { AtPair p stores.old stores.new (IsUndecided C.Checkpoint g dev.old dev.new) }
     ensures prepared { OnOk result (AtPair p stores.old stores.new (IsPrepared C.Checkpoint text.now g dev.old dev.new)) }
     ensures joint { IsJoint C.Checkpoint stores.old dev.old dev.new result }
@@ -46,7 +46,7 @@ fn finish_one<C: Checkpoint>(
     requires process { p < length stores.old }
     requires lent { At p stores.old (λ c. C.lent c dev.old) }
     requires prepared { At p stores.old (λ c. C.prepared c dev.old g) }
-    ensures call { IsCall C.Checkpoint p (on stores.old dev.old) (on stores.new dev.new) }
+    ensures call { CallsOne C.Checkpoint p (on stores.old dev.old) (on stores.new dev.new) }
     ensures decided { AtPair p stores.old stores.new (IsDecided C.Checkpoint g dev.old dev.new) }
     ensures committed { OnOk result (At p stores.new (IsCommitted C.Checkpoint g dev.new)) }
     ensures memory { OnOk result (AtPair p stores.old stores.new (IsSameMemory C.Checkpoint dev.old dev.new)) }
@@ -74,7 +74,7 @@ fn prepare_if<C: Checkpoint>(
     requires ready { At p stores.old (λ c. C.ready c dev.old) }
     requires number { member ≡ true → At p stores.old (λ c. C.number c < g) }
     requires text { member ≡ true → At p stores.old (Takes C.Checkpoint text.now g) }
-    ensures call { IsCall C.Checkpoint p (on stores.old dev.old) (on stores.new dev.new) }
+    ensures call { CallsOne C.Checkpoint p (on stores.old dev.old) (on stores.new dev.new) }
     ensures undecided { AtPair p stores.old stores.new (IsUndecided C.Checkpoint g dev.old dev.new) }
     ensures prepared { OnOk result (member ≡ true → AtPair p stores.old stores.new (IsPrepared C.Checkpoint text.now g dev.old dev.new)) }
     ensures idle { member ≡ false → AtPair p stores.old stores.new (IsIdle C.Checkpoint dev.old dev.new) }
@@ -130,7 +130,7 @@ fn decide_first<C: Checkpoint>(
     requires lent { At 0 stores.old (λ c. C.lent c dev.old) }
     requires awake { At 0 stores.old (λ c. C.ready c dev.old ⊎ C.prepared c dev.old g) }
     requires decidable { At 0 stores.old (λ c. C.decidable c dev.old g) }
-    ensures call { IsCall C.Checkpoint 0 (on stores.old dev.old) (on stores.new dev.new) }
+    ensures call { CallsOne C.Checkpoint 0 (on stores.old dev.old) (on stores.new dev.new) }
     ensures beside { AtPair 0 stores.old stores.new (IsBeside C.Checkpoint dev.old dev.new) }
     ensures deciding { AtPair 0 stores.old stores.new (IsDeciding C.Checkpoint g dev.old dev.new) }
     ensures decided { OnOk result (AtPair 0 stores.old stores.new (λ b c. AreBelow g (C.numbers b dev.old) → AreAll g (C.numbers c dev.new))) }
@@ -158,7 +158,7 @@ fn finish_if<C: Checkpoint>(
     requires process { p < length stores.old }
     requires lent { At p stores.old (λ c. C.lent c dev.old) }
     requires prepared { member ≡ true → At p stores.old (λ c. C.prepared c dev.old g) }
-    ensures call { IsCall C.Checkpoint p (on stores.old dev.old) (on stores.new dev.new) }
+    ensures call { CallsOne C.Checkpoint p (on stores.old dev.old) (on stores.new dev.new) }
     ensures decided { AtPair p stores.old stores.new (IsDecided C.Checkpoint g dev.old dev.new) }
     ensures committed { OnOk result (member ≡ true → At p stores.new (IsCommitted C.Checkpoint g dev.new)) }
     ensures memory { OnOk result (AtPair p stores.old stores.new (IsSameMemory C.Checkpoint dev.old dev.new)) }

@@ -13,10 +13,10 @@ use Rattle.dc_proc.proofs.Texts.{number_is}
 use Rattle.dc_proc.proofs.Together.{commit_acknowledged, commit_refused}
 use Rattle.dc_proc.specs.Processes.{Held, IsAt, IsSavedAs}
 use Rattle.dc_proc.specs.Worlds.{HasLearned, SavesStand, WorldStands, others_of}
-use Rattle.dc_protocols.specs.Rules.{is_global}
+use Rattle.dc_protocols.specs.Rules.{is_joint}
 use Rattle.dc_recovery.proofs.Spans.{received_later}
 use Rattle.dc_recovery.specs.Core.{Core, learned}
-use Rattle.dc_recovery.specs.Parts.{committed, save_now}
+use Rattle.dc_recovery.specs.Parts.{committed, committed_as, number_after, save_now}
 use Rattle.dc_recovery.specs.Systems.{System}
 use Rattle.dc_world.specs.Joints.{numbered, settled}
 use Rattle.dc_world.specs.Processes.{LearnsBelow}
@@ -26,11 +26,11 @@ use Rattle.dc_world.specs.Together.{AllGo, all_committed, all_torn}
 use Rattle.dc_world.specs.declared.slot.Slot.{Slot}
 
 -- where all commit together, what is said under each decided number of the first store is said
-pub stands_together : {C D : Type 0} (g : checkpoint.Ghosts C D) (S : System Guest) (c : Core) (x : Stage C D) → is_global S.protocol ≡ true → WorldStands S c (seen_of g x) (numbers_of g x) (leaves_of g x)
-    → WorldStands S c (seen_of g x) (decided_by (is_global S.protocol) (numbers_of g x)) (leaves_of g x)
+pub stands_together : {C D : Type 0} (g : checkpoint.Ghosts C D) (S : System Guest) (c : Core) (x : Stage C D) → is_joint S.protocol ≡ true → WorldStands S c (seen_of g x) (numbers_of g x) (leaves_of g x)
+    → WorldStands S c (seen_of g x) (decided_by (is_joint S.protocol) (numbers_of g x)) (leaves_of g x)
 stands_together g S c x together is = subst (λ b. WorldStands S c (seen_of g x) (decided_by b (numbers_of g x)) (leaves_of g x)) (sym together) is
 
-pub numbers_stand : {C D : Type 0} (g : checkpoint.Ghosts C D) (S : System Guest) (c : Core) (x : Stage C D) → is_global S.protocol ≡ true → WorldStands S c (seen_of g x) (decided_by (is_global S.protocol) (numbers_of g x)) (leaves_of g x)
+pub numbers_stand : {C D : Type 0} (g : checkpoint.Ghosts C D) (S : System Guest) (c : Core) (x : Stage C D) → is_joint S.protocol ≡ true → WorldStands S c (seen_of g x) (decided_by (is_joint S.protocol) (numbers_of g x)) (leaves_of g x)
     → WorldStands S c (seen_of g x) (numbers_of g x) (leaves_of g x)
 numbers_stand g S c x together is = subst (λ b. WorldStands S c (seen_of g x) (decided_by b (numbers_of g x)) (leaves_of g x)) together is
 
@@ -44,11 +44,12 @@ text_read (Ok s) other = s.kernel
 text_read _ other = other
 
 -- a commit of all, under a number
-module _ {C D : Type 0} (g : checkpoint.Ghosts C D) (S : System Guest) (together : is_global S.protocol ≡ true) (room : S.log_room ≡ 64) (c : Core) (old new : Stage C D) (world : IsWorld g S c old) (go : AllGo S c)
+module _ {C D : Type 0} (g : checkpoint.Ghosts C D) (S : System Guest) (together : is_joint S.protocol ≡ true) (room : S.log_room ≡ 64) (c : Core) (old new : Stage C D) (world : IsWorld g S c old) (go : AllGo S c)
     (number : ℕ) (text : ℕ → List ℕ) (words : ℕ → List ℕ)
     (told : (p : ℕ) → p < S.guests.count → memory_of g (store_of old p) old.dev ≡ Some (words p))
     (text_is : (p : ℕ) → p < S.guests.count → text p ≡ text_of (numbered number (held_in (slot_at old.slots p))).kernel)
-    (kernel_ok : (p : ℕ) → p < S.guests.count → IsKernel S.guests.count p (numbered number (held_in (slot_at old.slots p))).kernel) where
+    (kernel_ok : (p : ℕ) → p < S.guests.count → IsKernel S.guests.count p (numbered number (held_in (slot_at old.slots p))).kernel)
+    (next_is : (p : ℕ) → p < S.guests.count → number ≡ number_after (c.procs p)) where
   abbrev was : ℕ → Held
   was p = held_in (slot_at old.slots p)
 
@@ -66,7 +67,7 @@ module _ {C D : Type 0} (g : checkpoint.Ghosts C D) (S : System Guest) (together
       let one = save_committed S p (own p c.acts) (c.procs p) (words p) (was p) (here p less) number (kernel_ok p less) in (
         one.0,
         at ∙ one.1,
-        record { kernel_ok = one.2.kernel_ok; kernel_is = one.2.kernel_is; first = λ q there. (let a = one.2.first q there in let k = known p q less there in omega (arith, a, k)); log_is = one.2.log_is },
+        record { kernel_ok = one.2.kernel_ok; kernel_is = one.2.kernel_is; first = λ q there. (let a = one.2.first q there in let k = known p q less there in omega (arith, a, k)); log_is = one.2.log_is; number_is = one.2.number_is ∙ next_is p less },
       )
 
   -- its number
@@ -92,7 +93,7 @@ module _ {C D : Type 0} (g : checkpoint.Ghosts C D) (S : System Guest) (together
 
     at_new : (p : ℕ) → p < S.guests.count → IsAt S p (own p c.acts) (committed (c.procs p)) (words p) (h p)
     at_new p less = subst (λ left. IsAt S p (own p c.acts) (committed (c.procs p)) (words p) (record (h p) { log_left = left })) room
-        (at_committed S p (own p c.acts) (c.procs p) (words p) (was p) (here p less) number (settles p) (λ s there. copied p s less there))
+        (subst (λ n. IsAt S p (own p c.acts) (committed_as n (c.procs p)) (words p) (record (h p) { log_left = S.log_room })) (next_is p less) (at_committed S p (own p c.acts) (c.procs p) (words p) (was p) (here p less) number (settles p) (λ s there. copied p s less there)))
 
     grows : (q s : ℕ) → learned S.guests c q s ≤ learned S.guests d q s
     grows q s = received_later S.guests q (c.procs q).older.position (c.procs q).position s (own q c.acts) (go.going q).from
@@ -135,6 +136,7 @@ module _ {C D : Type 0} (g : checkpoint.Ghosts C D) (S : System Guest) (together
       world_committed = record {
         count_is = world.count_is ∙ sym long;
         protocol_is = world.protocol_is ∙ sym protocol;
+        seven = world.seven;
         inputs_are = λ p. world.inputs_are p ∙ rw inputs refl;
         stands = stands_together g S d new together stands;
         up_are = λ p less. (go.going p).up ∙ sym (up_new p less);
@@ -188,6 +190,7 @@ module _ {C D : Type 0} (g : checkpoint.Ghosts C D) (S : System Guest) (together
       world_torn = record {
         count_is = world.count_is ∙ sym long;
         protocol_is = world.protocol_is ∙ sym protocol;
+        seven = world.seven;
         inputs_are = λ p. world.inputs_are p ∙ rw inputs refl;
         stands = stands_together g S (all_torn c) new together (commit_refused S c (seen_of g new) (numbers_of g new) (leaves_of g new) saves);
         up_are = λ p less. sym (down p less);

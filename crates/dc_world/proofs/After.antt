@@ -11,7 +11,7 @@ use Rattle.dc_model.specs.declared.entry.Entry.{Entry}
 use Rattle.dc_proc.proofs.Entries.{world_turn}
 use Rattle.dc_proc.specs.Processes.{Held, IsAt, Stands}
 use Rattle.dc_proc.specs.Worlds.{HasLearned, Seen, WorldStands, others_of}
-use Rattle.dc_protocols.specs.Rules.{is_global}
+use Rattle.dc_protocols.specs.Rules.{is_joint}
 use Rattle.dc_recovery.proofs.Given.{IsGiven}
 use Rattle.dc_recovery.proofs.Single.{turn_alone, turn_others}
 use Rattle.dc_recovery.specs.Alone.{answers_alone, status_alone}
@@ -33,7 +33,7 @@ Hears p known knew old new = (new ≡ learned_held p known old) ⊎ ((new ≡ ol
 abbrev pub Knows : ℕ → Held → Type 0
 Knows p h = (p < length h.others) × (p < length h.kernel.links)
 
-module _ {C D : Type 0} (g : checkpoint.Ghosts C D) (S : System Guest) (sound : IsSound S) (alone : is_global S.protocol ≡ false) (schedule : List Entry) (t : ℕ) (c : Core) (now : Holds S schedule t c)
+module _ {C D : Type 0} (g : checkpoint.Ghosts C D) (S : System Guest) (sound : IsSound S) (alone : is_joint S.protocol ≡ false) (schedule : List Entry) (t : ℕ) (c : Core) (now : Holds S schedule t c)
     (p : ℕ) (a : Answer) (given : IsGiven S.guests c p a) (on : (c.procs p).up ≡ true) (inside : p < S.guests.count) (w : Place) (old new : Stage C D) where
   abbrev d : Core
   d = after_turn S t c p a w

@@ -22,9 +22,9 @@ use Rattle.dc_proc.specs.Turns.{shown_of}
 use Rattle.dc_proc.specs.Ups.{IsFit, held}
 use Rattle.dc_proc.specs.declared.shown.Shown.{Shown}
 use Rattle.dc_proc.specs.declared.up.Up.{Up as Process}
-use Rattle.dc_protocols.specs.Rules.{at_inputs, is_global}
+use Rattle.dc_protocols.specs.Rules.{at_inputs, is_joint}
 use Rattle.dc_recovery.proofs.Given.{IsGiven}
-use Rattle.dc_recovery.specs.Answers.{answer, rule_at}
+use Rattle.dc_recovery.specs.Answers.{answer, rule_at, stores_at}
 use Rattle.dc_recovery.specs.Core.{Core}
 use Rattle.dc_recovery.specs.Invariant.{Holds}
 use Rattle.dc_recovery.specs.Parts.{Place, may_stop}
@@ -48,6 +48,7 @@ pub world_later : {C D : Type 0} (g : checkpoint.Ghosts C D) (S : System Guest) 
 world_later g S c old new same less world = subst (IsWorld g S c) (sym same) (record {
   count_is = world.count_is;
   protocol_is = world.protocol_is;
+  seven = world.seven;
   inputs_are = world.inputs_are;
   stands = world.stands;
   up_are = world.up_are;
@@ -150,7 +151,7 @@ module _ {C D : Type 0} (g : checkpoint.Ghosts C D) (told_contents : (c : C) (de
             }
 
         -- it was stopped there, and the world stands for the core that a stop there leaves
-        pub stopped_as : (w : Place) → w ≢ Nowhere → ((ws : List ℕ) → g.contents c0 old.dev ≡ Some ws → may_stop (rule_at S core turn.p a) (event_of (next_of (over u0.guest ws)) (machine_over u0.guest ws)) a w ≡ true)
+        pub stopped_as : (w : Place) → w ≢ Nowhere → ((ws : List ℕ) → g.contents c0 old.dev ≡ Some ws → may_stop (rule_at S core turn.p a) (stores_at S.guests core turn.p a) (event_of (next_of (over u0.guest ws)) (machine_over u0.guest ws)) a w ≡ true)
             → IsWorld g S (after_turn S old.entries core turn.p a w) new → IsTurned g images core old new (entry.Turn turn) (marked mark.Stopped None)
         stopped_as w ne may stands = record {
           after = after_turn S old.entries core turn.p a w;
@@ -160,7 +161,7 @@ module _ {C D : Type 0} (g : checkpoint.Ghosts C D) (told_contents : (c : C) (de
         }
 
         -- where each commits by itself
-        module _ (alone : is_global old.protocol ≡ false) where
+        module _ (alone : is_joint old.protocol ≡ false) where
           pub answered_whole : (shown : Option Shown) → IfSome (g.contents c0 old.dev) (λ ws. shown ≡ shown_of (effect_of (event_of (next_of (over u0.guest ws)) (machine_over u0.guest ws))) u0.kernel.visible)
               → (c1 : C) → store_of new turn.p ≡ Some c1 → g.ready c1 new.dev → g.told new.dev (g.place c1) → Went g old new turn.p a → IsTurned g images core old new (entry.Turn turn) (marked (taken_mark shown) (visible_shown turn.p shown))
           answered_whole shown shows c1 at1 ready1 told1 went =

@@ -12,12 +12,12 @@ use Rattle.dc_model.specs.declared.entry.Entry.{Entry}
 use Rattle.dc_proc.proofs.Entries.{world_rise}
 use Rattle.dc_proc.specs.Processes.{Held, IsAt, Stands}
 use Rattle.dc_proc.specs.Worlds.{HasLearned, Seen, WorldStands, others_of}
-use Rattle.dc_protocols.specs.Rules.{is_global}
+use Rattle.dc_protocols.specs.Rules.{is_joint}
 use Rattle.dc_recovery.proofs.Holding.{rise_learned, rise_own_none, rise_own_with}
 use Rattle.dc_recovery.proofs.Parts.{each_no, each_yes, with_none, with_self}
 use Rattle.dc_recovery.specs.Core.{Core, Status, Which, save_of}
 use Rattle.dc_recovery.specs.Invariant.{Holds}
-use Rattle.dc_recovery.specs.Parts.{risen}
+use Rattle.dc_recovery.specs.Parts.{is_with, risen}
 use Rattle.dc_recovery.specs.Saves.{reach}
 use Rattle.dc_recovery.specs.Systems.{IsSound, System}
 use Rattle.dc_recovery.specs.Turned.{after_rise}
@@ -27,7 +27,7 @@ use Rattle.dc_world.specs.Processes.{learned_held}
 use Rattle.dc_world.specs.Slots.{held_in, slot_at}
 use Rattle.dc_world.specs.Stages.{Stage, leaves_of, memory_of, seen_of, store_of, words_of}
 
-module _ {C D : Type 0} (g : checkpoint.Ghosts C D) (S : System Guest) (sound : IsSound S) (alone : is_global S.protocol ≡ false) (schedule : List Entry) (t : ℕ) (c : Core) (now : Holds S schedule t c)
+module _ {C D : Type 0} (g : checkpoint.Ghosts C D) (S : System Guest) (sound : IsSound S) (alone : is_joint S.protocol ≡ false) (schedule : List Entry) (t : ℕ) (c : Core) (now : Holds S schedule t c)
     (p : ℕ) (down : (c.procs p).up ≡ false) (inside : p < S.guests.count) (k : Which) (old new : Stage C D) where
   abbrev d : Core
   d = after_rise S c p k
@@ -39,10 +39,10 @@ module _ {C D : Type 0} (g : checkpoint.Ghosts C D) (S : System Guest) (sound : 
   back = risen (save_of k (c.procs p))
 
   at_self : d.procs p ≡ back
-  at_self = each_yes S.protocol p (λ x. risen (save_of k x)) c.procs p (with_self S.protocol p)
+  at_self = each_yes (is_with S.protocol p) (λ x. risen (save_of k x)) c.procs p (with_self S.protocol p)
 
   at_other : (q : ℕ) → p ≢ q → d.procs q ≡ c.procs q
-  at_other q ne = each_no S.protocol p (λ x. risen (save_of k x)) c.procs q (with_none S.protocol p q alone ne)
+  at_other q ne = each_no (is_with S.protocol p) (λ x. risen (save_of k x)) c.procs q (with_none S.protocol p q alone ne)
 
   grows : (q r : ℕ) → others_of S.guests c q r ≤ others_of S.guests d q r
   grows q r = rise_learned S sound schedule t c now p down k r q

@@ -30,7 +30,7 @@ use Rattle.dc_proc.specs.Downs.{RisesAt}
 use Rattle.dc_proc.specs.Events.{HasCountsFor}
 use Rattle.dc_proc.specs.Processes.{Held, IsAt, IsProcess, IsSavedAs, logged_of, reading_of}
 use Rattle.dc_proc.specs.Worlds.{StoresStand, WorldStands, others_of}
-use Rattle.dc_protocols.specs.Rules.{is_global}
+use Rattle.dc_protocols.specs.Rules.{is_joint}
 use Rattle.dc_recovery.proofs.Parts.{with_all}
 use Rattle.dc_recovery.proofs.Saves.{reach_within}
 use Rattle.dc_recovery.proofs.Sound.{sound_system}
@@ -43,6 +43,7 @@ use Rattle.dc_recovery.specs.Parts.{risen}
 use Rattle.dc_recovery.specs.Saves.{Save, cut, log_end, reach}
 use Rattle.dc_recovery.specs.Systems.{IsSound, System}
 use Rattle.dc_recovery.specs.Turned.{Recovers, RunsOr, Turned, after_rise, reaches}
+use Rattle.dc_world.proofs.Alls.{sure_none}
 use Rattle.dc_world.proofs.Acknowledged.{numbers_stand, stands_together}
 use Rattle.dc_world.proofs.Acts.{own_counted}
 use Rattle.dc_world.proofs.Counting.{counts_for, oldest_less, own_less}
@@ -87,7 +88,7 @@ own_past images inputs (x ∷ acts) run q past = step (own_past images inputs ac
         (λ (ne : x.p ≢ q). rw (ne_eqb x.p q ne) none)
         (cases_eq x.p q)
 
-module _ {C D : Type 0} (g : checkpoint.Ghosts C D) (images : List Image) (old new : Stage C D) (together : is_global old.protocol ≡ true) (c : Core) (world : IsWorld g (system images old.inputs old.protocol) c old)
+module _ {C D : Type 0} (g : checkpoint.Ghosts C D) (images : List Image) (old new : Stage C D) (together : is_joint old.protocol ≡ true) (c : Core) (world : IsWorld g (system images old.inputs old.protocol) c old)
     (fewer : (n : ℕ) → numbers_of g new n → numbers_of g old n) (narrow : (q n : ℕ) → numbers_of g new n → (r : Reading) → leaves_of g new q n r → leaves_of g old q n r)
     (steady : IsSomeAnd (store_of new 0) (λ z. g.steady z new.dev)) (long : length new.slots ≡ length old.slots) where
   abbrev S : System Guest
@@ -125,6 +126,7 @@ module _ {C D : Type 0} (g : checkpoint.Ghosts C D) (images : List Image) (old n
   world_stays off slots protocol inputs acts exposed lines left = record {
     count_is = world.count_is ∙ sym long;
     protocol_is = world.protocol_is ∙ sym protocol;
+    seven = world.seven;
     inputs_are = λ q. world.inputs_are q ∙ rw inputs refl;
     stands = stands_together g S c new together (record { each = λ q less on. absurd (true≢false (sym on ∙ world.up_are q less ∙ off q (inside q less))); stores = stores_stand });
     up_are = λ q less. world.up_are q less ∙ ap (λ xs. is_up (slot_at xs q)) (sym slots);
@@ -272,7 +274,7 @@ module _ {C D : Type 0} (g : checkpoint.Ghosts C D) (images : List Image) (old n
             ap (cut_below n reach_of) (sym world.acts_are) ∙ cut_below_is reach_of c.acts n
             ∙ ap reported (cut_agree (upto n reach_of c.acts) (reaches S c p choice) c.acts (λ q. ⊎_elim
             (λ (low : q < n). inl (let h = inside_too q low in let r = reach_is q h in let e = end_is q h in let at = (risen_at q h).kernel_is.position in let x = world.exposed_are q h in
-            upto_low n reach_of c.acts q low ∙ omega (arith, r, e, at, x) ∙ sym (ap (λ (b : Bool). if b then reach S q (own q c.acts) (save q) else length (own q c.acts)) (with_all old.protocol p q together))))
+            let none = sure_none S.guests S.exposes_sure world.seven.1 q (save q).position (own q c.acts) in upto_low n reach_of c.acts q low ∙ omega (arith, r, e, at, x, none) ∙ sym (ap (λ (b : Bool). if b then reach S q (own q c.acts) (save q) else length (own q c.acts)) (with_all old.protocol p q together))))
             (λ (high : n ≤ q). inr (let none = ap (λ xs. length xs) (own_past images old.inputs c.acts now.run q (subst (λ m. m ≤ q) (sym world.count_is) high)) in let z = own_count q c.acts in (omega (arith, none, z), omega (arith, none, z))))
             (cases_lt q n)))
 

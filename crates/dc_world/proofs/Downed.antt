@@ -11,7 +11,7 @@ use Rattle.dc_model.specs.World.{reported}
 use Rattle.dc_proc.proofs.Entries.{world_power}
 use Rattle.dc_proc.proofs.Together.{saves_move}
 use Rattle.dc_proc.specs.Worlds.{WorldStands}
-use Rattle.dc_protocols.specs.Rules.{is_global}
+use Rattle.dc_protocols.specs.Rules.{is_joint}
 use Rattle.dc_recovery.proofs.Linked.{received_kept}
 use Rattle.dc_recovery.proofs.Worlds.{oldest_kept}
 use Rattle.dc_recovery.specs.Core.{Core, learned}
@@ -24,7 +24,7 @@ use Rattle.dc_world.specs.Slots.{based_in, is_up, slot_at}
 use Rattle.dc_world.specs.Stages.{AreDecided, IsWorld, Stage, leaves_of, numbers_of, seen_of, store_of}
 use Rattle.dc_world.specs.Together.{AllGo, after_broken_event}
 
-module _ {C D : Type 0} (g : checkpoint.Ghosts C D) (S : System Guest) (together : is_global S.protocol ≡ true) (c : Core) (old new : Stage C D) (world : IsWorld g S c old)
+module _ {C D : Type 0} (g : checkpoint.Ghosts C D) (S : System Guest) (together : is_joint S.protocol ≡ true) (c : Core) (old new : Stage C D) (world : IsWorld g S c old)
     (fewer : (n : ℕ) → numbers_of g new n → numbers_of g old n) (narrow : (q n : ℕ) → numbers_of g new n → (r : Reading) → leaves_of g new q n r → leaves_of g old q n r)
     (down : (q : ℕ) → q < S.guests.count → is_up (slot_at new.slots q) ≡ false) (based : (q s : ℕ) → q < S.guests.count → s < S.guests.count → slice_index (based_in (slot_at new.slots q)) s ≡ learned S.guests c q s)
     (long : length new.slots ≡ length old.slots) (protocol : new.protocol ≡ old.protocol) (inputs : new.inputs ≡ old.inputs) (exposed : new.exposed ≡ old.exposed) (lines : new.lines ≡ old.lines)
@@ -49,6 +49,7 @@ module _ {C D : Type 0} (g : checkpoint.Ghosts C D) (S : System Guest) (together
   world_downed acts = record {
     count_is = world.count_is ∙ sym long;
     protocol_is = world.protocol_is ∙ sym protocol;
+    seven = world.seven;
     inputs_are = λ q. world.inputs_are q ∙ rw inputs refl;
     stands = stands_together g S (after_power c) new together
         (record {
@@ -79,6 +80,7 @@ module _ {C D : Type 0} (g : checkpoint.Ghosts C D) (S : System Guest) (together
     world_broken acts exposed_still = record {
       count_is = world.count_is ∙ sym long;
       protocol_is = world.protocol_is ∙ sym protocol;
+      seven = world.seven;
       inputs_are = λ q. world.inputs_are q ∙ rw inputs refl;
       stands = stands_together g S d new together (record {
         each = λ q less on. absurd (true≢false (sym on));

@@ -13,7 +13,7 @@ use Rattle.dc_model.specs.declared.mark.Mark.TheVariants as mark
 use Rattle.dc_proc.specs.Carried.{system}
 use Rattle.dc_proc.specs.Processes.{IsSavedAs, reading_of}
 use Rattle.dc_proc.specs.Worlds.{others_of}
-use Rattle.dc_protocols.specs.Rules.{is_global}
+use Rattle.dc_protocols.specs.Rules.{is_joint}
 use Rattle.dc_recovery.specs.Answers.{answer}
 use Rattle.dc_recovery.specs.Core.{Core}
 use Rattle.dc_recovery.specs.Saves.{Save}
@@ -28,7 +28,7 @@ use Rattle.dc_world.specs.Stages.{IsWorld, Stage, leaves_of, store_of}
 use Rattle.dc_world.specs.Turns.{IsTurned, marked}
 
 -- calls of its store that were stopped, or refused, leave no more than what there was
-pub failing : {C D : Type 0} (g : checkpoint.Ghosts C D) (laws : Laws g) (images : List Image) (core : Core) (old new : Stage C D) (alone : is_global old.protocol ≡ false) (world : IsWorld g (system images old.inputs old.protocol) core old)
+pub failing : {C D : Type 0} (g : checkpoint.Ghosts C D) (laws : Laws g) (images : List Image) (core : Core) (old new : Stage C D) (alone : is_joint old.protocol ≡ false) (world : IsWorld g (system images old.inputs old.protocol) core old)
     (turn : Turn) (there : turn.p < length old.slots) (c0 c1 : C) (at0 : store_of old turn.p ≡ Some c0) (stores_are : new.stores ≡ set old.stores turn.p c1) (place_own : (q : ℕ) (x : C) → store_of old q ≡ Some x → g.place x ≡ q)
     (others : (q : ℕ) → q ≢ g.place c0 → g.untouched old.dev new.dev q) (narrow : (r : Reading) → g.leaves c1 new.dev 0 r → g.leaves c0 old.dev 0 r)
     (down : is_up (slot_at old.slots turn.p) ≡ false) (falls : Falls (slot_at old.slots turn.p) (slot_at new.slots turn.p)) (slots_same : (q : ℕ) → turn.p ≢ q → slot_at new.slots q ≡ slot_at old.slots q)
@@ -54,7 +54,7 @@ failing {C} {D} g laws images core old new alone world turn there c0 c1 at0 stor
         (cases_eq turn.p q)
 
 -- a store of a run is not refused by what it holds
-pub no_refusal : {C D : Type 0} (g : checkpoint.Ghosts C D) (images : List Image) (core : Core) (old : Stage C D) (alone : is_global old.protocol ≡ false) (world : IsWorld g (system images old.inputs old.protocol) core old)
+pub no_refusal : {C D : Type 0} (g : checkpoint.Ghosts C D) (images : List Image) (core : Core) (old : Stage C D) (alone : is_joint old.protocol ≡ false) (world : IsWorld g (system images old.inputs old.protocol) core old)
     (p : ℕ) (there : p < length old.slots) (c0 : C) (at0 : store_of old p ≡ Some c0) (r : Reading) (fault : StoreFault) → g.leaves c0 old.dev 0 r → r ≡ Err fault → ⊥
 no_refusal g images core old alone world p there c0 at0 r fault l e = ⊎_elim none none
     ((zero_stands g S core old alone world.stands).stores.one p (subst (λ m. p < m) (sym world.count_is) there) 0 refl r (and_some (λ c. g.leaves c old.dev 0 r) (store_of old p) c0 at0 l))

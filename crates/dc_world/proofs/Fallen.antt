@@ -9,10 +9,10 @@ use Rattle.dc_model.specs.Runs.{own}
 use Rattle.dc_proc.proofs.Entries.{world_fall, world_power}
 use Rattle.dc_proc.proofs.Numbers.{numbered_less, numbered_more}
 use Rattle.dc_proc.specs.Worlds.{IsUp, Seen, WorldStands}
-use Rattle.dc_protocols.specs.Rules.{is_global}
+use Rattle.dc_protocols.specs.Rules.{is_joint}
 use Rattle.dc_recovery.proofs.Parts.{each_no, each_yes, with_none, with_self}
 use Rattle.dc_recovery.specs.Core.{Core, Status, learned}
-use Rattle.dc_recovery.specs.Parts.{fallen}
+use Rattle.dc_recovery.specs.Parts.{fallen, is_with}
 use Rattle.dc_recovery.specs.Systems.{System}
 use Rattle.dc_recovery.specs.Turned.{after_fall, after_power}
 use Rattle.dc_world.proofs.Going.{zero_stands}
@@ -25,17 +25,17 @@ pub seen_moves : (S : System Guest) (c : Core) (seen seen2 : ℕ → Seen) (numb
     → WorldStands S c seen numbers leaves → WorldStands S c seen2 numbers leaves
 seen_moves S c seen seen2 numbers leaves same world = record { each = λ q less on. subst (λ (s : Seen). IsUp S c q s) (sym (same q less on)) (world.each q less on); stores = world.stores }
 
-module _ {C D : Type 0} (g : checkpoint.Ghosts C D) (S : System Guest) (alone : is_global S.protocol ≡ false) (c : Core) (p : ℕ) (inside : p < S.guests.count) (old new : Stage C D) (world : IsWorld g S c old)
+module _ {C D : Type 0} (g : checkpoint.Ghosts C D) (S : System Guest) (alone : is_joint S.protocol ≡ false) (c : Core) (p : ℕ) (inside : p < S.guests.count) (old new : Stage C D) (world : IsWorld g S c old)
     (narrow : (q : ℕ) (r : Reading) → leaves_of g new q 0 r → leaves_of g old q 0 r) (memory_same : (q : ℕ) → p ≢ q → memory_of g (store_of new q) new.dev ≡ memory_of g (store_of old q) old.dev)
     (falls : Falls (slot_at old.slots p) (slot_at new.slots p)) (slots_same : (q : ℕ) → p ≢ q → slot_at new.slots q ≡ slot_at old.slots q) where
   abbrev f : Core
   f = after_fall S.protocol c p
 
   at_self : f.procs p ≡ fallen (c.procs p)
-  at_self = each_yes S.protocol p fallen c.procs p (with_self S.protocol p)
+  at_self = each_yes (is_with S.protocol p) fallen c.procs p (with_self S.protocol p)
 
   at_other : (q : ℕ) → p ≢ q → f.procs q ≡ c.procs q
-  at_other q ne = each_no S.protocol p fallen c.procs q (with_none S.protocol p q alone ne)
+  at_other q ne = each_no (is_with S.protocol p) fallen c.procs q (with_none S.protocol p q alone ne)
 
   up_only : (q : ℕ) → (f.procs q).up ≡ true → p ≢ q
   up_only q on e = absurd (true≢false (sym on ∙ ap (λ r. (f.procs r).up) (sym e) ∙ ap (λ (s : Status). s.up) at_self))
@@ -60,6 +60,7 @@ module _ {C D : Type 0} (g : checkpoint.Ghosts C D) (S : System Guest) (alone : 
   world_fallen long protocol inputs acts exposed lines left = record {
     count_is = world.count_is ∙ sym long;
     protocol_is = world.protocol_is ∙ sym protocol;
+    seven = world.seven;
     inputs_are = λ q. world.inputs_are q ∙ rw inputs refl;
     stands = stands_decided g S f new alone stands_fallen;
     up_are = λ q less. ⊎_elim
@@ -80,13 +81,14 @@ module _ {C D : Type 0} (g : checkpoint.Ghosts C D) (S : System Guest) (alone : 
   }
 
 -- all of them
-module _ {C D : Type 0} (g : checkpoint.Ghosts C D) (S : System Guest) (alone : is_global S.protocol ≡ false) (c : Core) (old new : Stage C D) (world : IsWorld g S c old)
+module _ {C D : Type 0} (g : checkpoint.Ghosts C D) (S : System Guest) (alone : is_joint S.protocol ≡ false) (c : Core) (old new : Stage C D) (world : IsWorld g S c old)
     (narrow : (q : ℕ) (r : Reading) → leaves_of g new q 0 r → leaves_of g old q 0 r) (falls : (q : ℕ) → q < S.guests.count → Falls (slot_at old.slots q) (slot_at new.slots q)) where
   pub world_powered : length new.slots ≡ length old.slots → new.protocol ≡ old.protocol → new.inputs ≡ old.inputs → new.acts ≡ old.acts → new.exposed ≡ old.exposed → new.lines ≡ old.lines → new.left + 1 ≡ old.left
       → IsWorld g S (after_power c) new
   world_powered long protocol inputs acts exposed lines left = record {
     count_is = world.count_is ∙ sym long;
     protocol_is = world.protocol_is ∙ sym protocol;
+    seven = world.seven;
     inputs_are = λ q. world.inputs_are q ∙ rw inputs refl;
     stands = stands_decided g S (after_power c) new alone (seen_moves S (after_power c) (seen_of g old) (seen_of g new) (λ n. n ≡ 0) (leaves_of g new) (λ q less on. absurd (true≢false (sym on)))
         (world_power S c (seen_of g old) (λ n. n ≡ 0) (leaves_of g old) (leaves_of g new) (zero_stands g S c old alone world.stands)
@@ -102,7 +104,7 @@ module _ {C D : Type 0} (g : checkpoint.Ghosts C D) (S : System Guest) (alone : 
   }
 
 -- one that was down stays down
-module _ {C D : Type 0} (g : checkpoint.Ghosts C D) (S : System Guest) (alone : is_global S.protocol ≡ false) (c : Core) (p : ℕ) (inside : p < S.guests.count) (old new : Stage C D) (world : IsWorld g S c old) (down : is_up (slot_at old.slots p) ≡ false)
+module _ {C D : Type 0} (g : checkpoint.Ghosts C D) (S : System Guest) (alone : is_joint S.protocol ≡ false) (c : Core) (p : ℕ) (inside : p < S.guests.count) (old new : Stage C D) (world : IsWorld g S c old) (down : is_up (slot_at old.slots p) ≡ false)
     (narrow : (q : ℕ) (r : Reading) → leaves_of g new q 0 r → leaves_of g old q 0 r) (memory_same : (q : ℕ) → p ≢ q → memory_of g (store_of new q) new.dev ≡ memory_of g (store_of old q) old.dev)
     (falls : Falls (slot_at old.slots p) (slot_at new.slots p)) (slots_same : (q : ℕ) → p ≢ q → slot_at new.slots q ≡ slot_at old.slots q) where
   was : WorldStands S c (seen_of g old) (λ n. n ≡ 0) (leaves_of g old)
@@ -127,6 +129,7 @@ module _ {C D : Type 0} (g : checkpoint.Ghosts C D) (S : System Guest) (alone : 
   world_still long protocol inputs acts exposed lines left = record {
     count_is = world.count_is ∙ sym long;
     protocol_is = world.protocol_is ∙ sym protocol;
+    seven = world.seven;
     inputs_are = λ q. world.inputs_are q ∙ rw inputs refl;
     stands = stands_decided g S c new alone still;
     up_are = λ q less. ⊎_elim

@@ -10,7 +10,7 @@ use Rattle.dc_model.specs.declared.entry.Entry.TheVariants as entry
 use Rattle.dc_model.specs.declared.mark.Mark.TheVariants as mark
 use Rattle.dc_words.specs.Lists.{lists_of}
 use Rattle.dc_proc.specs.Carried.{system}
-use Rattle.dc_protocols.specs.Rules.{is_global}
+use Rattle.dc_protocols.specs.Rules.{is_joint}
 use Rattle.dc_recovery.specs.Core.{Core}
 use Rattle.dc_recovery.specs.Turned.{after_fall}
 use Rattle.dc_twophase.proofs.Laws.{Laws}
@@ -50,7 +50,7 @@ module _ {C D : Type 0} (g : checkpoint.Ghosts C D) where
   handled_down m c0 c1 dev old (Some (Down d)) falls some store lent sized = (store.lent dev lent, falls.size_same ∙ sized ∙ ap (λ n. 4 * n) (sym store.same.size_same))
 
   -- one process fell
-  module _ (laws : Laws g) (stores : List C) (dev : D) (w w1 : Processes) (p : ℕ) (c0 c1 : C) (alone : is_global w.protocol ≡ false) (ready : IsReady g stores dev w) (there : p < length w.slots.items) (at0 : slice_get stores p ≡ Some c0)
+  module _ (laws : Laws g) (stores : List C) (dev : D) (w w1 : Processes) (p : ℕ) (c0 c1 : C) (alone : is_joint w.protocol ≡ false) (ready : IsReady g stores dev w) (there : p < length w.slots.items) (at0 : slice_get stores p ≡ Some c0)
       (well1 : IsWell w1) (rest : w1 ≡ record w { slots = w1.slots }) (long : length w1.slots.items ≡ length w.slots.items) (same : (q : ℕ) → q ≢ p → slot_at w1.slots.items q ≡ slot_at w.slots.items q)
       (falls : Falls (slot_at w.slots.items p) (slot_at w1.slots.items p)) (store : FallsStore (showing_of g) c0 c1) (some : 0 < w.left) where
     pub ready_fallen : IsReady g (set stores p c1) dev (counted w1)

@@ -19,7 +19,7 @@ use Rattle.dc_proc.specs.Turns.{TakesTurn, acts_with}
 use Rattle.dc_proc.specs.Ups.{held}
 use Rattle.dc_proc.specs.Worlds.{WorldStands, others_of}
 use Rattle.dc_proc.specs.declared.up.Up.{Up as Process}
-use Rattle.dc_protocols.specs.Rules.{is_global}
+use Rattle.dc_protocols.specs.Rules.{is_joint}
 use Rattle.dc_protocols.specs.declared.protocol.Protocol.{Protocol}
 use Rattle.dc_recovery.proofs.Given.{IsGiven}
 use Rattle.dc_recovery.proofs.Single.{acts_alone}
@@ -46,11 +46,11 @@ use Rattle.dc_world.specs.declared.slot.Slot.{Slot}
 use Rattle.dc_world.specs.declared.slot.Slot.TheVariants.{Up}
 
 -- where each commits by itself, what is said under each decided number is said under 0
-pub zero_stands : {C D : Type 0} (g : checkpoint.Ghosts C D) (S : System Guest) (c : Core) (x : Stage C D) → is_global S.protocol ≡ false → WorldStands S c (seen_of g x) (decided_by (is_global S.protocol) (numbers_of g x)) (leaves_of g x)
+pub zero_stands : {C D : Type 0} (g : checkpoint.Ghosts C D) (S : System Guest) (c : Core) (x : Stage C D) → is_joint S.protocol ≡ false → WorldStands S c (seen_of g x) (decided_by (is_joint S.protocol) (numbers_of g x)) (leaves_of g x)
     → WorldStands S c (seen_of g x) (λ n. n ≡ 0) (leaves_of g x)
 zero_stands g S c x alone is = subst (λ b. WorldStands S c (seen_of g x) (decided_by b (numbers_of g x)) (leaves_of g x)) alone is
 
-module _ {C D : Type 0} (g : checkpoint.Ghosts C D) (laws : Laws g) (images : List Image) (inputs : List (List (List ℕ))) (pr : Protocol) (alone : is_global pr ≡ false) (schedule : List Entry) (t : ℕ) (c : Core)
+module _ {C D : Type 0} (g : checkpoint.Ghosts C D) (laws : Laws g) (images : List Image) (inputs : List (List (List ℕ))) (pr : Protocol) (alone : is_joint pr ≡ false) (schedule : List Entry) (t : ℕ) (c : Core)
     (now : Holds (system images inputs pr) schedule t c) (old new : Stage C D) (world : IsWorld g (system images inputs pr) c old) (p : ℕ) (inside : p < (system images inputs pr).guests.count)
     (c0 c1 : C) (at0 : store_of old p ≡ Some c0) (u0 u1 : Process) (slot0 : slot_at old.slots p ≡ Some (Up u0)) (words words1 : List ℕ) (told0 : g.contents c0 old.dev ≡ Some words) (told1 : g.contents c1 new.dev ≡ Some words1)
     (a : Answer) (given : IsGiven (system images inputs pr).guests c p a) where

@@ -15,7 +15,7 @@ use Rattle.dc_proc.specs.Turns.{IsStopped, acts_with}
 use Rattle.dc_proc.specs.Ups.{held}
 use Rattle.dc_proc.specs.Worlds.{WorldStands}
 use Rattle.dc_proc.specs.declared.up.Up.{Up as Process}
-use Rattle.dc_protocols.specs.Rules.{is_global}
+use Rattle.dc_protocols.specs.Rules.{is_joint}
 use Rattle.dc_protocols.specs.declared.protocol.Protocol.{Protocol}
 use Rattle.dc_recovery.proofs.Given.{IsGiven}
 use Rattle.dc_recovery.proofs.Sound.{sound_system}
@@ -47,7 +47,7 @@ down_after S p answers st a InLog ne = refl
 down_after S p answers st a InEvent ne = refl
 down_after S p answers st a InAfter ne = refl
 
-module _ {C D : Type 0} (g : checkpoint.Ghosts C D) (laws : Laws g) (images : List Image) (inputs : List (List (List ℕ))) (pr : Protocol) (alone : is_global pr ≡ false) (schedule : List Entry) (t : ℕ) (c : Core)
+module _ {C D : Type 0} (g : checkpoint.Ghosts C D) (laws : Laws g) (images : List Image) (inputs : List (List (List ℕ))) (pr : Protocol) (alone : is_joint pr ≡ false) (schedule : List Entry) (t : ℕ) (c : Core)
     (now : Holds (system images inputs pr) schedule t c) (old new : Stage C D) (world : IsWorld g (system images inputs pr) c old) (p : ℕ) (inside : p < (system images inputs pr).guests.count)
     (c0 c1 : C) (at0 : store_of old p ≡ Some c0) (u0 : Process) (slot0 : slot_at old.slots p ≡ Some (Up u0)) (words : List ℕ) (told0 : g.contents c0 old.dev ≡ Some words)
     (a : Answer) (given : IsGiven (system images inputs pr).guests c p a) (based : List ℕ)

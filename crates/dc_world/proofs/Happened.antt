@@ -19,9 +19,9 @@ use Rattle.dc_proc.specs.Turns.{TakesTurn, acts_with}
 use Rattle.dc_proc.specs.Ups.{held}
 use Rattle.dc_proc.specs.Worlds.{HasLearned, Seen, WorldStands, others_of}
 use Rattle.dc_proc.specs.declared.up.Up.{Up as Process}
-use Rattle.dc_protocols.specs.Rules.{is_global, rule_of}
+use Rattle.dc_protocols.specs.Rules.{is_joint, rule_of}
 use Rattle.dc_protocols.specs.declared.protocol.Protocol.{Protocol}
-use Rattle.dc_protocols.specs.declared.protocol.Protocol.TheVariants.{Cand, CandLog, Cpvs, Cbndvs, CbndvsLog, Cpv2pc, Cbndv2pc}
+use Rattle.dc_protocols.specs.declared.protocol.Protocol.TheVariants.{Cand, CandLog, Cpvs, Cbndvs, CbndvsLog, Cpv2pc, Cbndv2pc, Cbndv2pcCausal}
 use Rattle.dc_protocols.specs.declared.protocol.Since.{Since}
 use Rattle.dc_recovery.proofs.Single.{acts_alone}
 use Rattle.dc_recovery.proofs.Worlds.{oldest_kept, own_more_other}
@@ -46,10 +46,11 @@ use Rattle.dc_world.specs.Together.{AllGo, after_event, reads_log}
 use Rattle.dc_world.specs.declared.slot.Slot.TheVariants.{Up}
 
 -- where all commit together, a turn of the process itself is its event alone
-pub event_only : (pr : Protocol) → is_global pr ≡ true → (kind : Kind) (since : Since) (replay : Bool) (x : Logged) (st : Status)
-    → left_of (without_commits (is_global pr) (rule_of pr kind since)) replay x st Nowhere ≡ passed replay (sets_own false replay x.answer) st
+pub event_only : (pr : Protocol) → is_joint pr ≡ true → (kind : Kind) (since : Since) (replay : Bool) (x : Logged) (st : Status)
+    → left_of (without_commits (is_joint pr) (rule_of pr kind since)) replay x st Nowhere ≡ passed replay (sets_own false replay x.answer) st
 event_only Cpv2pc together kind since replay x st = refl
 event_only Cbndv2pc together kind since replay x st = refl
+event_only Cbndv2pcCausal together kind since replay x st = refl
 event_only Cand together kind since replay x st = absurd (true≢false (sym together))
 event_only CandLog together kind since replay x st = absurd (true≢false (sym together))
 event_only Cpvs together kind since replay x st = absurd (true≢false (sym together))
@@ -57,36 +58,38 @@ event_only Cbndvs together kind since replay x st = absurd (true≢false (sym to
 event_only CbndvsLog together kind since replay x st = absurd (true≢false (sym together))
 
 -- stopped in that, it keeps its save
-older_event : (pr : Protocol) → is_global pr ≡ true → (kind : Kind) (since : Since) (replay : Bool) (x : Logged) (st : Status) → (left_of (without_commits (is_global pr) (rule_of pr kind since)) replay x st InEvent).older ≡ st.older
+older_event : (pr : Protocol) → is_joint pr ≡ true → (kind : Kind) (since : Since) (replay : Bool) (x : Logged) (st : Status) → (left_of (without_commits (is_joint pr) (rule_of pr kind since)) replay x st InEvent).older ≡ st.older
 older_event Cpv2pc together kind since replay x st = refl
 older_event Cbndv2pc together kind since replay x st = refl
+older_event Cbndv2pcCausal together kind since replay x st = refl
 older_event Cand together kind since replay x st = absurd (true≢false (sym together))
 older_event CandLog together kind since replay x st = absurd (true≢false (sym together))
 older_event Cpvs together kind since replay x st = absurd (true≢false (sym together))
 older_event Cbndvs together kind since replay x st = absurd (true≢false (sym together))
 older_event CbndvsLog together kind since replay x st = absurd (true≢false (sym together))
 
-pub event_older : (S : System Guest) → is_global S.protocol ≡ true → (p : ℕ) (answers : List Answer) (st : Status) (a : Answer) → (status_alone S p answers st a InEvent).older ≡ st.older
+pub event_older : (S : System Guest) → is_joint S.protocol ≡ true → (p : ℕ) (answers : List Answer) (st : Status) (a : Answer) → (status_alone S p answers st a InEvent).older ≡ st.older
 event_older S together p answers st a = let e = event_alone S.guests p answers st a in
     older_event S.protocol together (kind_at e) (since S.log_room e st false (makes_most S p answers st a)) (replays e st) (record { position = st.position; answer = a }) st
 
 -- and it is stopped in its event alone, where that may store
-only_event : (e : Event) (a : Answer) (w : Place) → w ≢ Nowhere → may_stop (record { before = false; log = false; after = false }) e a w ≡ true → (w ≡ InEvent) × (may_store e a ≡ true)
-only_event e a Nowhere ne may = absurd (ne refl)
-only_event e a InBefore ne may = absurd (true≢false (sym may))
-only_event e a InLog ne may = absurd (true≢false (sym may))
-only_event e a InEvent ne may = (refl, may)
-only_event e a InAfter ne may = absurd (true≢false (sym may))
+only_event : (stores : Bool) (e : Event) (a : Answer) (w : Place) → w ≢ Nowhere → may_stop (record { before = false; log = false; after = false }) stores e a w ≡ true → (w ≡ InEvent) × ((stores && may_store e a) ≡ true)
+only_event stores e a Nowhere ne may = absurd (ne refl)
+only_event stores e a InBefore ne may = absurd (true≢false (sym may))
+only_event stores e a InLog ne may = absurd (true≢false (sym may))
+only_event stores e a InEvent ne may = (refl, may)
+only_event stores e a InAfter ne may = absurd (true≢false (sym may))
 
-pub event_place : (pr : Protocol) → is_global pr ≡ true → (kind : Kind) (since : Since) (e : Event) (a : Answer) (w : Place) → w ≢ Nowhere → may_stop (without_commits (is_global pr) (rule_of pr kind since)) e a w ≡ true
-    → (w ≡ InEvent) × (may_store e a ≡ true)
-event_place Cpv2pc together kind since e a w ne may = only_event e a w ne may
-event_place Cbndv2pc together kind since e a w ne may = only_event e a w ne may
-event_place Cand together kind since e a w ne may = absurd (true≢false (sym together))
-event_place CandLog together kind since e a w ne may = absurd (true≢false (sym together))
-event_place Cpvs together kind since e a w ne may = absurd (true≢false (sym together))
-event_place Cbndvs together kind since e a w ne may = absurd (true≢false (sym together))
-event_place CbndvsLog together kind since e a w ne may = absurd (true≢false (sym together))
+pub event_place : (pr : Protocol) → is_joint pr ≡ true → (kind : Kind) (since : Since) (stores : Bool) (e : Event) (a : Answer) (w : Place) → w ≢ Nowhere → may_stop (without_commits (is_joint pr) (rule_of pr kind since)) stores e a w ≡ true
+    → (w ≡ InEvent) × ((stores && may_store e a) ≡ true)
+event_place Cpv2pc together kind since stores e a w ne may = only_event stores e a w ne may
+event_place Cbndv2pc together kind since stores e a w ne may = only_event stores e a w ne may
+event_place Cbndv2pcCausal together kind since stores e a w ne may = only_event stores e a w ne may
+event_place Cand together kind since stores e a w ne may = absurd (true≢false (sym together))
+event_place CandLog together kind since stores e a w ne may = absurd (true≢false (sym together))
+event_place Cpvs together kind since stores e a w ne may = absurd (true≢false (sym together))
+event_place Cbndvs together kind since stores e a w ne may = absurd (true≢false (sym together))
+event_place CbndvsLog together kind since stores e a w ne may = absurd (true≢false (sym together))
 
 -- what is said under some decided numbers is said under fewer
 pub stands_fewer : (S : System Guest) (c : Core) (seen : ℕ → Seen) (numbers fewer : ℕ → Type 0) (leaves : ℕ → ℕ → Reading → Type 0) → ((n : ℕ) → fewer n → numbers n) → WorldStands S c seen numbers leaves → WorldStands S c seen fewer leaves
@@ -128,7 +131,7 @@ module _ (S : System Guest) (t : ℕ) (c : Core) (go : AllGo S c) (p : ℕ) (a :
       ∙ ap (λ ds. (local S.guests q ds).received s) (oldest_kept S.guests t c p a go.run q (c.procs q).older.position (within_older q))
 
 -- the event of process p of a world
-module _ {C D : Type 0} (g : checkpoint.Ghosts C D) (laws : Laws g) (images : List Image) (inputs : List (List (List ℕ))) (pr : Protocol) (together : is_global pr ≡ true) (t : ℕ) (c : Core) (old new : Stage C D)
+module _ {C D : Type 0} (g : checkpoint.Ghosts C D) (laws : Laws g) (images : List Image) (inputs : List (List (List ℕ))) (pr : Protocol) (together : is_joint pr ≡ true) (t : ℕ) (c : Core) (old new : Stage C D)
     (world : IsWorld g (system images inputs pr) c old) (go : AllGo (system images inputs pr) c) (p : ℕ) (inside : p < (system images inputs pr).guests.count)
     (c0 c1 : C) (at0 : store_of old p ≡ Some c0) (u0 u1 : Process) (slot0 : slot_at old.slots p ≡ Some (Up u0)) (words words1 : List ℕ) (told0 : g.contents c0 old.dev ≡ Some words) (told1 : g.contents c1 new.dev ≡ Some words1)
     (a : Answer) (given : IsAnswerAlone (system images inputs pr).guests p (own p c.acts) (c.procs p) a)
@@ -263,6 +266,7 @@ module _ {C D : Type 0} (g : checkpoint.Ghosts C D) (laws : Laws g) (images : Li
         world_happened = record {
           count_is = world.count_is ∙ sym long;
           protocol_is = world.protocol_is ∙ sym protocol;
+          seven = world.seven;
           inputs_are = λ q. world.inputs_are q ∙ rw inputs_same refl;
           stands = stands_together g S d new together stands_next;
           up_are = λ q less. up_next q ∙ world.up_are q less ∙ sym (slot_next is_up refl q);

@@ -9,7 +9,7 @@ use Rattle.dc_checkpoint.specs.declared.checkpoint.Checkpoint as checkpoint
 use Rattle.dc_elf.specs.declared.image.Image.{Image}
 use Rattle.dc_kernel.specs.declared.saved.Saved.{Saved}
 use Rattle.dc_words.specs.Lists.{lists_of}
-use Rattle.dc_protocols.specs.Rules.{is_global}
+use Rattle.dc_protocols.specs.Rules.{is_joint}
 use Rattle.dc_protocols.specs.declared.protocol.Protocol.{Protocol}
 use Rattle.dc_twophase.proofs.Pairs.{before_it}
 use Rattle.dc_world.proofs.Begun.{get_end, get_front}
@@ -82,7 +82,7 @@ module _ {C D : Type 0} (g : checkpoint.Ghosts C D) where
         fell
 
     -- where all commit together all are up, or none is
-    pub alike : is_global protocol ≡ true → AreAlike slots1
+    pub alike : is_joint protocol ≡ true → AreAlike slots1
     alike together = ⊎_elim
         (λ same. inl (subst AreUp (sym same.0) (same.2 together)))
         (λ all. inr (λ p less. (all.1.falls p (subst (λ m. p < m) long less)).down))

@@ -1,12 +1,12 @@
 -- What a commit of all finds, and leaves, in a world that stands for a core.
-use Rattle.std.proofs.Common.{◌≡◌, ◌∙◌, ◌<◌, ◌≤◌, ℕ, List, Option, None, Some, IsSome, IsSomeAnd, true, refl, sym, ap, subst, arith, length, ◌-◌, ◌^◌, Err}
+use Rattle.std.proofs.Common.{◌≡◌, ◌∙◌, ◌<◌, ◌≤◌, ℕ, List, Option, None, Some, IsSome, IsSomeAnd, true, refl, sym, ap, subst, arith, length, ◌-◌, ◌^◌, Err, ◌+◌, max}
 use Rattle.std.proofs.lemmas.Bool.{true≢false}
 use Rattle.std.proofs.lemmas.Option.{slice_get_within}
 use Rattle.dc_checkpoint.specs.Handles.{IsSame}
 use Rattle.dc_checkpoint.specs.declared.checkpoint.Checkpoint as checkpoint
 use Rattle.dc_guest.specs.Guest.{Guest}
 use Rattle.dc_media.specs.Told.{Becomes}
-use Rattle.dc_protocols.specs.Rules.{is_global}
+use Rattle.dc_protocols.specs.Rules.{is_joint}
 use Rattle.dc_recovery.specs.Core.{Core}
 use Rattle.dc_recovery.specs.Systems.{System}
 use Rattle.dc_twophase.proofs.Calling.{AreSameStores}
@@ -17,6 +17,7 @@ use Rattle.dc_twophase.specs.declared.faults.JointFault.TheVariants as joint
 use Rattle.dc_twophase.specs.Commits.{HasRoom}
 use Rattle.dc_twophase.specs.Stores.{EachPair, IsNoPlace, on}
 use Rattle.dc_world.proofs.Beside.{and_some, some_and}
+use Rattle.dc_recovery.specs.Parts.{number_after}
 use Rattle.dc_world.proofs.Fitting.{fit_there, fit_up}
 use Rattle.dc_world.specs.Joints.{AreFit, AreOwn}
 use Rattle.dc_world.specs.Slots.{held_in, is_up, slot_at}
@@ -28,7 +29,7 @@ some_words None is = absurd (true≢false (sym is))
 some_words (Some ws) is = refl
 
 module _ {C D : Type 0} (g : checkpoint.Ghosts C D) (told_contents : (c : C) (dev : D) → g.ready c dev → g.told dev (g.place c) → IsSome (g.contents c dev)) (some_number : (c : C) (dev : D) → g.told dev (g.place c) → (e : ℕ) × g.numbers c dev e)
-    (S : System Guest) (together : is_global S.protocol ≡ true) (c : Core) (old : Stage C D) (world : IsWorld g S c old) (told : IsTold g old) (long : length old.stores ≡ length old.slots) (own : AreOwn g (length old.slots) old.stores)
+    (S : System Guest) (together : is_joint S.protocol ≡ true) (c : Core) (old : Stage C D) (world : IsWorld g S c old) (told : IsTold g old) (long : length old.stores ≡ length old.slots) (own : AreOwn g (length old.slots) old.stores)
     (fit : AreFit g old.stores old.dev old.slots) where
   -- the memory of each is told
   pub told_words : (p : ℕ) → p < length old.slots → memory_of g (store_of old p) old.dev ≡ Some (words_of (memory_of g (store_of old p) old.dev))
@@ -56,6 +57,17 @@ module _ {C D : Type 0} (g : checkpoint.Ghosts C D) (told_contents : (c : C) (de
     -- and so is the least one
     pub least_low : (world.decided together).least ≤ number
     least_low = let e = one_number some in let x = (world.decided together).held e.0 0 e.1 some (up 0 some) in let o = over 0 some in let m = x.0 in omega (arith, o, m)
+
+    -- and one over their largest is the number after that of each one's last commit
+    pub number_next : ((m : ℕ) → ((p : ℕ) → p < length old.slots → (held_in (slot_at old.slots p)).kernel.commit ≤ m) → number ≤ m + 1)
+        → ((p : ℕ) → p < S.guests.count → (c.procs p).up ≡ true) → (p : ℕ) → p < S.guests.count → number ≡ number_after (c.procs p)
+    number_next next all p less =
+        let e = one_number some in
+        let here : p < length old.slots = subst (λ k. p < k) world.count_is less in
+        let all_same : (q : ℕ) → q < length old.slots → (held_in (slot_at old.slots q)).kernel.commit ≡ max (world.decided together).least e.0 = λ q there. ((world.decided together).held e.0 q e.1 there (up q there)).0 in
+        let most = next (max (world.decided together).least e.0) (λ q there. let s = all_same q there in omega (arith, s)) in
+        let o = over p here in let s = all_same p here in
+        let n = (world.stands.each p less (all p less)).here.number_is in omega (arith, most, o, s, n)
 
     floor_low : (e p : ℕ) → numbers_of g old e → p < length old.slots → IsSomeAnd (store_of old p) (λ z. g.floor z ≤ e)
     floor_low e p is less = ((world.decided together).held e p is less (up p less)).1

@@ -53,3 +53,4 @@ pub mod Joining
 pub mod Choosing
 pub mod Reread
 pub mod Recovers
+mod Alls

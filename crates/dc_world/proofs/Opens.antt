@@ -21,7 +21,7 @@ use Rattle.dc_proc.specs.Events.{HasCountsFor}
 use Rattle.dc_proc.specs.Processes.{Held, IsAt, IsKernelAt, IsLinkOf, IsNumbered, IsSavedAs, kernel_status, reading_of}
 use Rattle.dc_proc.specs.Ups.{held}
 use Rattle.dc_proc.specs.Worlds.{IsUp, others_of}
-use Rattle.dc_protocols.specs.Rules.{is_global}
+use Rattle.dc_protocols.specs.Rules.{is_causal, is_joint}
 use Rattle.dc_recovery.specs.Core.{Core, at_start, first_save, opened_core}
 use Rattle.dc_recovery.specs.Systems.{System}
 use Rattle.dc_rv32.specs.Machine.{machine_of}
@@ -90,6 +90,7 @@ module _ (setup : Setup) (p : ℕ) (image : Image) (there : slice_get setup.imag
     own_is = is.own_is;
     left_is = is.left_is;
     based_is = λ s less. based s (inside s less);
+    number_is = ap (λ (x : Kernel). x.commit) is.kernel_is;
   }
 
   -- saved
@@ -102,6 +103,7 @@ module _ (setup : Setup) (p : ℕ) (image : Image) (there : slice_get setup.imag
       kernel_is = kernel_is;
       first = λ q less. let e = ap number_of_first (none_sent n p image q (inside q less)) in omega (arith, e);
       log_is = refl;
+      number_is = refl;
     },
   )
 
@@ -181,9 +183,9 @@ module _ {C D : Type 0} (g : checkpoint.Ghosts C D) (setup : Setup) (entries : �
       inside : (p : ℕ) (c : C) → slice_get stores p ≡ Some c → p < length w.slots.items
       inside p c there = let less = slice_get_within stores p c there in let e = begins.slots_long in omega (arith, less, e, stores_long)
 
-  module _ (alike : is_global setup.protocol ≡ true → AreAlike w.slots.items) (texts : is_global setup.protocol ≡ true → length w.joint.texts.items ≡ kernel_words (length images) * length images)
-      (saved_long : is_global setup.protocol ≡ true → length w.joint.saved.items ≡ length images) (saved_fit : AreMadeFor (length images) w.joint.saved.items) where
-    is_room : is_global setup.protocol ≡ true → IsRoomFor g stores (length w.slots.items) w.joint
+  module _ (alike : is_joint setup.protocol ≡ true → AreAlike w.slots.items) (texts : is_joint setup.protocol ≡ true → length w.joint.texts.items ≡ kernel_words (length images) * length images)
+      (saved_long : is_joint setup.protocol ≡ true → length w.joint.saved.items ≡ length images) (saved_fit : AreMadeFor (length images) w.joint.saved.items) where
+    is_room : is_joint setup.protocol ≡ true → IsRoomFor g stores (length w.slots.items) w.joint
     is_room together = subst (λ n. IsRoomFor g stores n w.joint) (sym begins.slots_long) (record {
       texts = texts together;
       saved_long = saved_long together;
@@ -196,7 +198,7 @@ module _ {C D : Type 0} (g : checkpoint.Ghosts C D) (setup : Setup) (entries : �
       stores_long = stores_long ∙ sym begins.slots_long;
       own = λ p c there. subst (λ m. IsOwn g m p c) (sym begins.slots_long) (each p c there).2.own;
       handled = λ _ p c there. subst (λ turns. IsHandled g turns c dev (at p)) (sym begins.left_is) ((each p c there).2.handled entries (omega (arith, few)));
-      together = λ is. let together = ap is_global (sym begins.protocol_is) ∙ is in (are_ready (alike together), is_room together);
+      together = λ is. let together = ap is_joint (sym begins.protocol_is) ∙ is in (are_ready (alike together), is_room together);
       room = let a = ap length begins.acts_are in let b = begins.left_is in omega (arith, a, b, room);
       few_acts = let a = ap length begins.acts_are in omega (arith, a);
       few_lines = let a = begins.lines_are in omega (arith, a);
@@ -269,10 +271,11 @@ module _ {C D : Type 0} (g : checkpoint.Ghosts C D) (setup : Setup) (entries : �
       few = λ d p counts less off. let none = zero d counts in let a = begins.left_is in omega (arith, none, a, few);
     }
 
-    pub opened : IsWorld g T core x
-    opened = record {
+    pub opened : is_causal setup.protocol ≡ false → IsWorld g T core x
+    opened free = record {
       count_is = length-map images seen_image ∙ sym begins.slots_long;
       protocol_is = sym begins.protocol_is;
+      seven = (free, λ e. rw free refl);
       inputs_are = λ p. ap (λ xs. unwrap_or (slice_get xs p) []) (sym begins.inputs_are);
       stands = record {
         each = up_is;
@@ -306,15 +309,15 @@ module _ {C D : Type 0} (g : checkpoint.Ghosts C D) (setup : Setup) (entries : �
   begun1 = begun_together g setup.protocol w.slots.items w1.slots.items stores stores1 long as_many fell setup.images.items dev (stores_long ∙ sym begins.slots_long)
       (λ p s less there. subst (λ pr. IsOf pr count p s) begins1.protocol_is (subst (λ m. IsOf w1.protocol m p s) begins1.slots_long (well1.each p s (subst (λ m. p < m) (sym long) less) there))) begun
 
-  pub ready_joined : count ≤ 8 → length setup.inputs.items ≡ count → entries ≤ w.acts.room → (is_global setup.protocol ≡ true → length w.joint.texts.items ≡ kernel_words count * count) → (is_global setup.protocol ≡ true → length w.joint.saved.items ≡ count)
+  pub ready_joined : count ≤ 8 → length setup.inputs.items ≡ count → entries ≤ w.acts.room → (is_joint setup.protocol ≡ true → length w.joint.texts.items ≡ kernel_words count * count) → (is_joint setup.protocol ≡ true → length w.joint.saved.items ≡ count)
       → AreMadeFor count w.joint.saved.items → IsReady g stores1 dev w1
   ready_joined small inputs room texts saved_long saved_fit =
       let joint_is : w.joint ≡ w1.joint = sym (ap (λ (x : Processes). x.joint) rest) in
       ready g setup entries stores1 dev w1 begins1 begun1 (as_many ∙ stores_long) few some (alike g setup.protocol w.slots.items w1.slots.items stores stores1 long as_many fell)
-      (subst (λ (j : Joint). is_global setup.protocol ≡ true → length j.texts.items ≡ kernel_words count * count) joint_is texts)
-      (subst (λ (j : Joint). is_global setup.protocol ≡ true → length j.saved.items ≡ count) joint_is saved_long)
+      (subst (λ (j : Joint). is_joint setup.protocol ≡ true → length j.texts.items ≡ kernel_words count * count) joint_is texts)
+      (subst (λ (j : Joint). is_joint setup.protocol ≡ true → length j.saved.items ≡ count) joint_is saved_long)
       (subst (λ (j : Joint). AreMadeFor count j.saved.items) joint_is saved_fit) small inputs (subst (λ (x : Processes). entries ≤ x.acts.room) (sym rest) room)
 
-  pub opened_joined : ((c : C) (d : D) → g.ready c d → g.told d (g.place c) → IsSome (g.contents c d)) → IsTold g (stage_of stores1 dev w1)
+  pub opened_joined : ((c : C) (d : D) → g.ready c d → g.told d (g.place c) → IsSome (g.contents c d)) → is_causal setup.protocol ≡ false → IsTold g (stage_of stores1 dev w1)
       → IsWorld g (system (map seen_image setup.images.items) (lists_of setup.inputs.items) setup.protocol) (opened_core (λ p. is_up (slot_at w1.slots.items p))) (stage_of stores1 dev w1)
-  opened_joined told_contents told = opened g setup entries stores1 dev w1 begins1 begun1 (as_many ∙ stores_long) few some told_contents told
+  opened_joined told_contents free told = opened g setup entries stores1 dev w1 begins1 begun1 (as_many ∙ stores_long) few some told_contents told free

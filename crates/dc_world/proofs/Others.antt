@@ -8,7 +8,7 @@ use Rattle.dc_model.specs.Runs.{own}
 use Rattle.dc_model.specs.declared.entry.Entry.{Entry}
 use Rattle.dc_proc.specs.Processes.{IsAt}
 use Rattle.dc_proc.specs.Worlds.{HasLearned, Seen, others_of}
-use Rattle.dc_protocols.specs.Rules.{is_global}
+use Rattle.dc_protocols.specs.Rules.{is_joint}
 use Rattle.dc_recovery.proofs.Given.{IsGiven}
 use Rattle.dc_recovery.proofs.Linked.{learned_later}
 use Rattle.dc_recovery.proofs.Single.{acts_alone, turn_alone, turn_others}
@@ -22,7 +22,7 @@ use Rattle.dc_recovery.specs.Turned.{after_turn}
 use Rattle.dc_world.proofs.Knowing.{one_learned, same_learned}
 use Rattle.dc_world.specs.Processes.{learned_held}
 
-module _ (S : System Guest) (sound : IsSound S) (alone : is_global S.protocol ≡ false) (schedule : List Entry) (t : ℕ) (c : Core) (now : Holds S schedule t c)
+module _ (S : System Guest) (sound : IsSound S) (alone : is_joint S.protocol ≡ false) (schedule : List Entry) (t : ℕ) (c : Core) (now : Holds S schedule t c)
     (p : ℕ) (a : Answer) (given : IsGiven S.guests c p a) (on : (c.procs p).up ≡ true) (inside : p < S.guests.count) (w : Place) where
   abbrev d : Core
   d = after_turn S t c p a w

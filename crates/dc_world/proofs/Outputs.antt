@@ -1,6 +1,6 @@
 -- An output is stopped in the commit before it alone, so a turn that is stopped adds no act that others hold its process to.
 use Rattle.std.proofs.Common.{◌≡◌, ◌≢◌, ◌∙◌, ◌<◌, ◌≤◌, ℕ, List, ◌∷◌, Bool, true, false, if◌then◌else◌, refl, sym, ap, subst, length, ⊎_elim}
-use Rattle.std.proofs.lemmas.Bool.{cases_Bool, cases_lt, le-ltb, lt-ltb, true≢false}
+use Rattle.std.proofs.lemmas.Bool.{and_parts, cases_Bool, cases_lt, le-ltb, lt-ltb, true≢false}
 use Rattle.dc_calls.specs.declared.call.Call.TheVariants as calls
 use Rattle.dc_events.specs.Kinds.{kind_of}
 use Rattle.dc_events.specs.declared.event.Kind.{Kind}
@@ -12,11 +12,11 @@ use Rattle.dc_guest.specs.Guest.{Guest, event_of}
 use Rattle.dc_model.specs.Guests.{Answer, Event}
 use Rattle.dc_model.specs.Guests.Event.{AtSend, AtVisible}
 use Rattle.dc_model.specs.Guests.Answer.{Plain, Clock, Random, InputNone, InputNext, InputEnd, ReceiveNone, ReceiveFrom}
-use Rattle.dc_model.specs.Process.{comes, local}
+use Rattle.dc_model.specs.Process.{comes, local, at_position}
 use Rattle.dc_model.proofs.Own.{oldest_all}
-use Rattle.dc_protocols.specs.Rules.{is_global, rule_of}
+use Rattle.dc_protocols.specs.Rules.{is_joint, rule_of}
 use Rattle.dc_protocols.specs.declared.protocol.Protocol.{Protocol}
-use Rattle.dc_protocols.specs.declared.protocol.Protocol.TheVariants.{Cand, CandLog, Cbndv2pc, Cbndvs, CbndvsLog, Cpv2pc, Cpvs}
+use Rattle.dc_protocols.specs.declared.protocol.Protocol.TheVariants.{Cand, CandLog, Cbndv2pc, Cbndvs, CbndvsLog, Cpv2pc, Cpvs, Cbndv2pcCausal}
 use Rattle.dc_protocols.specs.declared.protocol.Since.{Since}
 use Rattle.dc_recovery.proofs.Runs.{last_none}
 use Rattle.dc_recovery.specs.Alone.{MayStopAlone, answers_alone, event_alone, without_commits}
@@ -68,7 +68,9 @@ log_none Cbndvs false k x out = refl
 log_none Cpv2pc true k x out = refl
 log_none Cpv2pc false k x out = refl
 log_none Cbndv2pc true k x out = refl
+log_none Cbndv2pcCausal true k x out = refl
 log_none Cbndv2pc false k x out = refl
+log_none Cbndv2pcCausal false k x out = refl
 log_none CandLog true kind.Visible x out = refl
 log_none CandLog true kind.Send x out = refl
 log_none CandLog false kind.Visible x out = refl
@@ -94,6 +96,7 @@ after_none Cbndvs false k x out few = rw few refl
 after_none CbndvsLog false k x out few = rw few refl
 after_none Cpv2pc false k x out few = rw few refl
 after_none Cbndv2pc false k x out few = rw few refl
+after_none Cbndv2pcCausal false k x out few = rw few refl
 after_none pr false kind.Internal x out few = absurd (true≢false (sym out))
 after_none pr false kind.Clock x out few = absurd (true≢false (sym out))
 after_none pr false kind.Random x out few = absurd (true≢false (sym out))
@@ -116,10 +119,10 @@ stops_before : (S : System Guest) (p : ℕ) (answers : List Answer) (st : Status
 stops_before S p answers st Nowhere out may ne = absurd (ne refl)
 stops_before S p answers st InBefore out may ne = refl
 stops_before S p answers st InLog out may ne = let e = event_alone S.guests p answers st Plain in
-    absurd (true≢false (sym may ∙ log_none S.protocol (is_global S.protocol) (kind_at e) (since S.log_room e st false (makes_most S p answers st Plain)) (output_kind e out)))
-stops_before S p answers st InEvent out may ne = absurd (true≢false (sym may ∙ store_none (event_alone S.guests p answers st Plain) out))
+    absurd (true≢false (sym may ∙ log_none S.protocol (is_joint S.protocol) (kind_at e) (since S.log_room e st false (makes_most S p answers st Plain)) (output_kind e out)))
+stops_before S p answers st InEvent out may ne = absurd (true≢false (sym (and_parts (S.guests.stores (at_position S.guests p st.position answers).machine Plain) _ may).1 ∙ store_none (event_alone S.guests p answers st Plain) out))
 stops_before S p answers st InAfter out may ne = let e = event_alone S.guests p answers st Plain in
-    absurd (true≢false (sym may ∙ after_none S.protocol (is_global S.protocol) (kind_at e) (since S.log_room e st false (makes_most S p answers st Plain)) (output_kind e out) refl))
+    absurd (true≢false (sym may ∙ after_none S.protocol (is_joint S.protocol) (kind_at e) (since S.log_room e st false (makes_most S p answers st Plain)) (output_kind e out) refl))
 
 -- the event's kind
 event_kind : (n : Next) (m : Machine) → kind_at (event_of n m) ≡ kind_of n

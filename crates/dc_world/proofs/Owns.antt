@@ -1,5 +1,5 @@
 -- Whether any process had an unlogged nondeterministic event, as the code looks for it and as the theory has it.
-use Rattle.std.proofs.Common.{◌≡◌, ◌∙◌, ◌<◌, ◌||◌, ◌&&◌, not, ℕ, zero, suc, List, [], ◌∷◌, Bool, true, false, Option, None, Some, refl, sym, ap, subst, arith, length, nat_eq, slice_index}
+use Rattle.std.proofs.Common.{◌≡◌, ◌∙◌, ◌<◌, ◌||◌, ◌&&◌, not, ℕ, zero, suc, List, [], ◌∷◌, Bool, true, false, Option, None, Some, refl, sym, ap, subst, arith, length, nat_eq, slice_index, if◌then◌else◌}
 use Rattle.std.proofs.lemmas.Bool.{true≢false}
 use Rattle.dc_checkpoint.specs.declared.checkpoint.Checkpoint as checkpoint
 use Rattle.dc_elf.specs.Images.{Image}
@@ -18,10 +18,10 @@ use Rattle.dc_proc.specs.Processes.{Held, IsAt, IsProcess}
 use Rattle.dc_proc.specs.Ups.{IsWhole, held}
 use Rattle.dc_proc.specs.declared.up.Up.{Up as Process}
 use Rattle.dc_proc.specs.Worlds.{IsUp, others_of}
-use Rattle.dc_protocols.specs.Rules.{at_inputs, is_global, rule_of}
+use Rattle.dc_protocols.specs.Rules.{at_inputs, is_joint, rule_of}
 use Rattle.dc_protocols.specs.declared.protocol.Rule.{Rule}
 use Rattle.dc_protocols.specs.declared.protocol.Since.{Since}
-use Rattle.dc_recovery.specs.Answers.{any_own, makes_most, rule_at, since}
+use Rattle.dc_recovery.specs.Answers.{any_of, any_own, makes_most, rule_at, since}
 use Rattle.dc_recovery.specs.Core.{Core, Status, stands}
 use Rattle.dc_recovery.specs.Systems.{System, kind_at}
 use Rattle.dc_world.proofs.Acknowledged.{numbers_stand}
@@ -74,7 +74,7 @@ module _ {C D : Type 0} (g : checkpoint.Ghosts C D) (S : System Guest) (c : Core
   known_going = was.known
 
 -- where all commit together, under a decided number
-pub over_going : {C D : Type 0} (g : checkpoint.Ghosts C D) (S : System Guest) (together : is_global S.protocol ≡ true) (c : Core) (x : Stage C D) (go : AllGo S c) (world : IsWorld g S c x)
+pub over_going : {C D : Type 0} (g : checkpoint.Ghosts C D) (S : System Guest) (together : is_joint S.protocol ≡ true) (c : Core) (x : Stage C D) (go : AllGo S c) (world : IsWorld g S c x)
     (p : ℕ) (inside : p < S.guests.count) (c0 : C) (at0 : store_of x p ≡ Some c0) (u : Process) (slot0 : slot_at x.slots p ≡ Some (Up u)) (words : List ℕ) (told : g.contents c0 x.dev ≡ Some words)
     (n : ℕ) → numbers_of g x n → IsIn g S p (own p c.acts) (c.procs p) n (process c0 x.dev (held u))
 over_going g S together c x go world p inside c0 at0 u slot0 words told n is = record {
@@ -105,4 +105,4 @@ module _ {C D : Type 0} (g : checkpoint.Ghosts C D) (images : List Image) (c : C
       ∙ ap (λ pr. rule_of pr kind (found a kind any)) protocol
       ∙ ap (λ k. rule_of x.protocol k (found a k any)) kind_is
       ∙ asked_is images x.inputs x.protocol p (own p c.acts) (c.procs p) words u whole here runs a (go.going p) sender any
-      ∙ ap (λ b. rule_of x.protocol (kind_at (comes S.guests (stands S.guests c p) a)) (since 64 (comes S.guests (stands S.guests c p) a) (c.procs p) b (makes_most S p (own p c.acts) (c.procs p) a))) (any_is ∙ any_own_is g S c x go world)
+      ∙ ap (λ b. rule_of x.protocol (kind_at (comes S.guests (stands S.guests c p) a)) (since 64 (comes S.guests (stands S.guests c p) a) (c.procs p) b (makes_most S p (own p c.acts) (c.procs p) a))) (any_is ∙ any_own_is g S c x go world ∙ sym (ap (λ f. if f then any_of S.guests.count (c.ties.on p) else any_own S.guests.count c.procs) world.seven.0))

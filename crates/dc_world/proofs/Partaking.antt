@@ -5,7 +5,7 @@ use Rattle.dc_checkpoint.specs.declared.checkpoint.Checkpoint as checkpoint
 use Rattle.dc_model.specs.declared.entry.Entry.TheVariants as entry
 use Rattle.dc_model.specs.declared.entry.Turn.{Turn}
 use Rattle.dc_model.specs.declared.mark.Mark.TheVariants as mark
-use Rattle.dc_protocols.specs.Rules.{is_global}
+use Rattle.dc_protocols.specs.Rules.{is_joint}
 use Rattle.dc_protocols.specs.declared.protocol.Protocol.{Protocol}
 use Rattle.dc_recovery.proofs.Parts.{with_all}
 use Rattle.dc_twophase.specs.Stores.{IsNoPlace}
@@ -16,7 +16,7 @@ use Rattle.dc_world.specs.Joints.{AreOwn}
 use Rattle.dc_world.specs.Worlds.{TakesPart}
 
 -- where all commit together each takes part
-pub part_all : (protocol : Protocol) (n : ℕ) (turn : Turn) → is_global protocol ≡ true → (q : ℕ) → q < n → TakesPart protocol n q (entry.Turn turn)
+pub part_all : (protocol : Protocol) (n : ℕ) (turn : Turn) → is_joint protocol ≡ true → (q : ℕ) → q < n → TakesPart protocol n q (entry.Turn turn)
 part_all protocol n turn together q less = (with_all protocol turn.p q together, less)
 
 module _ {C D : Type 0} (g : checkpoint.Ghosts C D) (n : ℕ) (stores : List C) (long : length stores ≡ n) (own : AreOwn g n stores) where

@@ -10,13 +10,14 @@ use Rattle.dc_model.specs.declared.entry.Entry.TheVariants as entry
 use Rattle.dc_model.specs.declared.mark.Mark.TheVariants as mark
 use Rattle.dc_words.specs.Lists.{lists_of}
 use Rattle.dc_proc.specs.Carried.{system}
-use Rattle.dc_protocols.specs.Rules.{is_global}
-use Rattle.dc_recovery.proofs.Joints.{each_all}
-use Rattle.dc_recovery.specs.Core.{Core}
-use Rattle.dc_recovery.specs.Parts.{fallen}
+use Rattle.dc_protocols.specs.Rules.{is_joint}
+use Rattle.dc_recovery.proofs.Parts.{with_all}
+use Rattle.dc_recovery.specs.Core.{Core, untied}
+use Rattle.dc_recovery.specs.Parts.{fallen, is_with}
 use Rattle.dc_recovery.specs.Turned.{after_fall, after_power}
 use Rattle.dc_twophase.proofs.Pairs.{before_it, known}
 use Rattle.dc_twophase.specs.Stores.{EachPair}
+use Rattle.dc_world.proofs.Alls.{each_all}
 use Rattle.dc_world.proofs.Beside.{and_some, some_and}
 use Rattle.dc_world.proofs.Downed.{world_downed}
 use Rattle.dc_world.proofs.Fallen.{world_powered}
@@ -35,10 +36,10 @@ use Rattle.dc_world.specs.declared.slot.Slot.{Slot}
 use Rattle.dc_world.specs.declared.slot.Slot.TheVariants.{Up, Down}
 
 -- where all commit together a stop of one fells all
-pub fall_all : {C D : Type 0} (g : checkpoint.Ghosts C D) (images : List Image) (c : Core) (p : ℕ) (old new : Stage C D) → is_global old.protocol ≡ true → IsTurned g images c old new entry.Power (marked mark.Marked None)
+pub fall_all : {C D : Type 0} (g : checkpoint.Ghosts C D) (images : List Image) (c : Core) (p : ℕ) (old new : Stage C D) → is_joint old.protocol ≡ true → IsTurned g images c old new entry.Power (marked mark.Marked None)
     → IsTurned g images c old new (entry.Stop p) (marked mark.Marked None)
 fall_all g images c p old new together is =
-    let same : after_power c ≡ after_fall old.protocol c p = λ i. record { acts = c.acts; lines = c.lines; procs = (sym (each_all old.protocol p fallen c.procs together)) i } in record {
+    let same : after_power c ≡ after_fall old.protocol c p = λ i. record { acts = c.acts; lines = c.lines; procs = (sym (each_all (is_with old.protocol p) fallen c.procs (λ q. with_all old.protocol p q together))) i; ties = untied } in record {
       after = after_fall old.protocol c p;
       turned = (refl, refl);
       lines_are = refl;
@@ -90,8 +91,8 @@ module _ {C D : Type 0} (g : checkpoint.Ghosts C D) where
       own = subst (λ n. AreOwn g n stores1) (sym long) (own_kept g (length w.slots.items) stores stores1 as_many (λ i b c x y. (pairs i b c x y).same) ready.own);
       handled = λ alone q c at. let was = before_it stores stores1 q c as_many at in
           handled_falls g w.left (w1.left - 1) was.0 c dev (slot_at w.slots.items q) (slot_at w1.slots.items q) (falls q (inside q was.0 was.1)) (pairs q was.0 c was.1 at)
-          (ready.handled (ap is_global (sym protocol_is) ∙ alone) q was.0 was.1);
-      together = λ is. let was = ready.together (ap is_global (sym protocol_is) ∙ is) in (
+          (ready.handled (ap is_joint (sym protocol_is) ∙ alone) q was.0 was.1);
+      together = λ is. let was = ready.together (ap is_joint (sym protocol_is) ∙ is) in (
         are_down was.0,
         subst (λ n. IsRoomFor g stores1 n w1.joint) (sym long)
             (room_same g stores stores1 (length w.slots.items) w.joint w1.joint as_many (λ i b c x y. (pairs i b c x y).same) (ap (λ (j : Joint). length j.texts.items) joint_is) (ap (λ (j : Joint). j.saved) joint_is) was.1),
@@ -129,7 +130,7 @@ module _ {C D : Type 0} (g : checkpoint.Ghosts C D) where
       less_count : (q : ℕ) → q < (system images before.inputs before.protocol).guests.count → q < length w.slots.items
       less_count q less = subst (λ m. q < m) world.count_is less
 
-      module _ (together : is_global w.protocol ≡ true) where
+      module _ (together : is_joint w.protocol ≡ true) where
         small : (n : ℕ) → numbers_of g before n → max (world.decided together).least n ≤ 2 ^ 32 - 1 - 4 * below.left
         small n is =
             let decided = world.decided together in
@@ -152,11 +153,11 @@ module _ {C D : Type 0} (g : checkpoint.Ghosts C D) where
             (λ q less. (falls q (less_count q less)).down) (λ q s less there. ap (λ xs. slice_index xs s) (falls q (less_count q less)).based_same ∙ world.based_are q s less there) long protocol_is (ap (λ (x : Processes). lists_of x.inputs.items) rest)
             (ap (λ (x : Processes). x.exposed.items) rest) lines_are steady small (ap (λ (x : Processes). x.acts.items) rest)
 
-      stands_powered : (b : Bool) → is_global w.protocol ≡ b → IsWorld g (system images before.inputs before.protocol) (after_power core) below
+      stands_powered : (b : Bool) → is_joint w.protocol ≡ b → IsWorld g (system images before.inputs before.protocol) (after_power core) below
       stands_powered true together = stands_together together
       stands_powered false alone = world_powered g (system images before.inputs before.protocol) alone core before below world (λ q r l. narrow q 0 r l) (λ q less. falls q (less_count q less))
           long protocol_is (ap (λ (x : Processes). lists_of x.inputs.items) rest) (ap (λ (x : Processes). x.acts.items) rest) (ap (λ (x : Processes). x.exposed.items) rest)
           lines_are (omega (arith, left_is, some))
 
       pub turned_powered : IsTurned g images core before below entry.Power (marked mark.Marked None)
-      turned_powered = record { after = after_power core; turned = (refl, refl); lines_are = refl; stands = stands_powered (is_global w.protocol) refl }
+      turned_powered = record { after = after_power core; turned = (refl, refl); lines_are = refl; stands = stands_powered (is_joint w.protocol) refl }

@@ -16,7 +16,7 @@ use Rattle.dc_model.specs.declared.mark.Mark.TheVariants as mark
 use Rattle.dc_proc.specs.Carried.{system}
 use Rattle.dc_proc.specs.Events.{HasCountsFor}
 use Rattle.dc_proc.specs.Processes.{Held}
-use Rattle.dc_protocols.specs.Rules.{is_global}
+use Rattle.dc_protocols.specs.Rules.{is_joint}
 use Rattle.dc_recovery.specs.Core.{Core}
 use Rattle.dc_recovery.specs.Invariant.{Holds}
 use Rattle.dc_recovery.specs.Systems.{System}
@@ -44,7 +44,7 @@ learns_there n mid slots new same long learns q less = subst (λ m. LearnsBelow 
     (subst (λ xs. LearnsBelow (length xs) (λ r. slice_index (based_in (slot_at xs r)) q) (slot_at xs q) (slot_at new q)) same
     (learns q (subst (λ m. q < m) (sym (ap (λ xs. length xs) same ∙ long)) less)))
 
-module _ {C D : Type 0} (g : checkpoint.Ghosts C D) (images : List Image) (c : Core) (old new : Stage C D) (together : is_global old.protocol ≡ true) (world : IsWorld g (system images old.inputs old.protocol) c old)
+module _ {C D : Type 0} (g : checkpoint.Ghosts C D) (images : List Image) (c : Core) (old new : Stage C D) (together : is_joint old.protocol ≡ true) (world : IsWorld g (system images old.inputs old.protocol) c old)
     (some : 0 < length old.slots) (stored : length old.stores ≡ length old.slots) (as_many : length new.stores ≡ length old.stores) (long : length new.slots ≡ length old.slots) (down : AreDown g old.stores old.dev old.slots)
     (stands : AtPair 0 old.stores new.stores (λ b z. g.steady b old.dev → (d : ℕ) → g.numbers z new.dev d → g.numbers b old.dev d × AllOld g (on old.stores old.dev) (on new.stores new.dev) d))
     (steady : AtPair 0 old.stores new.stores (λ b z. g.steady b old.dev → g.steady z new.dev)) where

@@ -14,14 +14,14 @@ use Rattle.dc_model.specs.declared.entry.Entry.{Entry}
 use Rattle.dc_proc.proofs.Together.{all_rise}
 use Rattle.dc_proc.specs.Processes.{Held, IsAt, IsSavedAs}
 use Rattle.dc_proc.specs.Worlds.{HasLearned, WorldStands, others_of}
-use Rattle.dc_protocols.specs.Rules.{is_global}
+use Rattle.dc_protocols.specs.Rules.{is_joint}
 use Rattle.dc_recovery.proofs.Holding.{rise_learned, rise_own_with}
 use Rattle.dc_recovery.proofs.Parts.{each_yes, with_all}
 use Rattle.dc_world.proofs.Risen.{last_oldest}
 use Rattle.dc_recovery.proofs.Spans.{oldest_twice}
 use Rattle.dc_recovery.specs.Core.{Core, Status, Which, learned, save_of}
 use Rattle.dc_recovery.specs.Invariant.{Holds}
-use Rattle.dc_recovery.specs.Parts.{risen}
+use Rattle.dc_recovery.specs.Parts.{is_with, risen}
 use Rattle.dc_recovery.specs.Saves.{Save, last_at, reach}
 use Rattle.dc_recovery.specs.Systems.{IsSound, System}
 use Rattle.dc_recovery.specs.Turned.{after_rise}
@@ -41,7 +41,7 @@ one_reading memory saved (Ok x) (Ok y) ga gb =
     let log : x.log ≡ y.log = ga.log_is ∙ sym gb.log_is in
     λ i. Ok (record { memory = words i; kernel = kernel i; log = log i })
 
-module _ {C D : Type 0} (g : checkpoint.Ghosts C D) (S : System Guest) (sound : IsSound S) (together : is_global S.protocol ≡ true) (schedule : List Entry) (t : ℕ) (c : Core) (now : Holds S schedule t c)
+module _ {C D : Type 0} (g : checkpoint.Ghosts C D) (S : System Guest) (sound : IsSound S) (together : is_joint S.protocol ≡ true) (schedule : List Entry) (t : ℕ) (c : Core) (now : Holds S schedule t c)
     (p : ℕ) (down : (c.procs p).up ≡ false) (k : Which) (old new : Stage C D) (world : IsWorld g S c old) where
   abbrev d : Core
   d = after_rise S c p k
@@ -56,7 +56,7 @@ module _ {C D : Type 0} (g : checkpoint.Ghosts C D) (S : System Guest) (sound : 
   own_is q = rise_own_with S sound schedule t c now p down k q (with_all S.protocol p q together)
 
   at_is : (q : ℕ) → d.procs q ≡ risen (save q)
-  at_is q = each_yes S.protocol p (λ x. risen (save_of k x)) c.procs q (with_all S.protocol p q together)
+  at_is q = each_yes (is_with S.protocol p) (λ x. risen (save_of k x)) c.procs q (with_all S.protocol p q together)
 
   grows : (q s : ℕ) → learned S.guests c q s ≤ learned S.guests d q s
   grows q s = rise_learned S sound schedule t c now p down k q s
@@ -98,6 +98,7 @@ module _ {C D : Type 0} (g : checkpoint.Ghosts C D) (S : System Guest) (sound : 
       world_rejoined = record {
         count_is = world.count_is ∙ sym long;
         protocol_is = world.protocol_is ∙ sym protocol;
+        seven = world.seven;
         inputs_are = λ q. world.inputs_are q ∙ rw inputs refl;
         stands = stands_together g S d new together stands;
         up_are = λ q less. ap (λ (x : Status). x.up) (at_is q) ∙ sym ((learns q less).up_same ∙ mid_up q less);

@@ -36,10 +36,10 @@ use Rattle.dc_recovery.proofs.Given.{IsGiven, IsMailUp, answer_told}
 use Rattle.dc_recovery.proofs.Sound.{sound_system}
 use Rattle.dc_recovery.proofs.Spans.{received_later}
 use Rattle.dc_recovery.proofs.Worlds.{fits_of}
-use Rattle.dc_recovery.specs.Answers.{answer, drawn_answer, is_empty_log, read_answer, replays}
+use Rattle.dc_recovery.specs.Answers.{answer, drawn_answer, read_answer, replays}
 use Rattle.dc_recovery.specs.Core.{Core, learned, stands}
 use Rattle.dc_recovery.specs.Invariant.{Holds}
-use Rattle.dc_recovery.specs.Saves.{Logged, answer_at}
+use Rattle.dc_recovery.specs.Saves.{Logged, answer_at, is_empty_log}
 use Rattle.dc_recovery.specs.Systems.{IsSound, System, kind_at}
 use Rattle.dc_rv32.specs.Machine.{Machine}
 use Rattle.dc_world.proofs.Drawing.{drawn_is}

@@ -24,7 +24,7 @@ use Rattle.dc_proc.specs.Processes.{Held, IsAt, IsNumbered, IsProcess, Stands, l
 use Rattle.dc_proc.specs.Ups.{held}
 use Rattle.dc_proc.specs.Worlds.{WorldStands, others_of}
 use Rattle.dc_proc.specs.declared.up.Up.{Up as Process}
-use Rattle.dc_protocols.specs.Rules.{is_global}
+use Rattle.dc_protocols.specs.Rules.{is_joint}
 use Rattle.dc_recovery.proofs.Saves.{reach_within}
 use Rattle.dc_recovery.proofs.Sound.{sound_system}
 use Rattle.dc_recovery.specs.Answers.{answer}
@@ -52,7 +52,7 @@ use Rattle.dc_world.specs.Turns.{IsTurned, marked}
 use Rattle.dc_world.specs.declared.slot.Slot.TheVariants.{Up}
 
 module _ {C D : Type 0} (g : checkpoint.Ghosts C D) (laws : Laws g) (told_contents : (c : C) (dev : D) → g.ready c dev → g.told dev (g.place c) → IsSome (g.contents c dev)) (images : List Image) (schedule : List Entry) (core : Core)
-    (old : Stage C D) (alone : is_global old.protocol ≡ false) (now : Holds (system images old.inputs old.protocol) schedule old.entries core) (world : IsWorld g (system images old.inputs old.protocol) core old)
+    (old : Stage C D) (alone : is_joint old.protocol ≡ false) (now : Holds (system images old.inputs old.protocol) schedule old.entries core) (world : IsWorld g (system images old.inputs old.protocol) core old)
     (turn : Turn) (there : turn.p < length old.slots) (c0 : C) (at0 : store_of old turn.p ≡ Some c0) (off : is_up (slot_at old.slots turn.p) ≡ false)
     (c1 : C) (new : Stage C D) (ready1 : g.ready c1 new.dev) (told1 : g.told new.dev (g.place c1)) (u1 : Process)
     (number : IfSome (g.contents c1 new.dev) (λ words. (most : ℕ) → IsNumbered most (g.leaves c0 old.dev 0) → u1.kernel.commit ≤ most))

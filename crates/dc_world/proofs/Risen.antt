@@ -11,17 +11,18 @@ use Rattle.dc_model.specs.World.{reported}
 use Rattle.dc_model.specs.declared.entry.Entry.{Entry}
 use Rattle.dc_proc.specs.Processes.{IsNumbered}
 use Rattle.dc_proc.specs.Worlds.{WorldStands}
-use Rattle.dc_protocols.specs.Rules.{is_global}
+use Rattle.dc_protocols.specs.Rules.{is_joint}
 use Rattle.dc_recovery.proofs.Cuts.{last_here}
 use Rattle.dc_recovery.proofs.Holding.{rise_own_none, rise_own_with}
 use Rattle.dc_recovery.proofs.Parts.{each_no, each_yes, with_none, with_self}
 use Rattle.dc_recovery.proofs.Runs.{last_none}
 use Rattle.dc_recovery.specs.Core.{Core, Status, Which, learned, save_of}
 use Rattle.dc_recovery.specs.Invariant.{Holds}
-use Rattle.dc_recovery.specs.Parts.{risen}
+use Rattle.dc_recovery.specs.Parts.{is_with, risen}
 use Rattle.dc_recovery.specs.Saves.{Save, last_at, log_end, reach}
 use Rattle.dc_recovery.specs.Systems.{IsSound, System}
 use Rattle.dc_recovery.specs.Turned.{after_rise, reaches}
+use Rattle.dc_world.proofs.Alls.{sure_none}
 use Rattle.dc_world.proofs.Back.{known_same, known_self}
 use Rattle.dc_world.proofs.Cutting.{acts_cut}
 use Rattle.dc_world.proofs.Whole.{stands_decided}
@@ -37,7 +38,7 @@ last_oldest e G p r (a ∷ ds) h = ⊎_elim
     ap (λ b. last_at e G p (if b then a ∷ ds else oldest r ds)) (le-ltb (length ds) r high) ∙ last_oldest e G p r ds (omega (arith, h, none)) ∙ sym none)
     (cases_lt (length ds) r)
 
-module _ {C D : Type 0} (g : checkpoint.Ghosts C D) (S : System Guest) (sound : IsSound S) (alone : is_global S.protocol ≡ false) (schedule : List Entry) (t : ℕ) (c : Core) (now : Holds S schedule t c)
+module _ {C D : Type 0} (g : checkpoint.Ghosts C D) (S : System Guest) (sound : IsSound S) (alone : is_joint S.protocol ≡ false) (schedule : List Entry) (t : ℕ) (c : Core) (now : Holds S schedule t c)
     (p : ℕ) (down : (c.procs p).up ≡ false) (inside : p < S.guests.count) (k : Which) (old new : Stage C D) (world : IsWorld g S c old) where
   abbrev d : Core
   d = after_rise S c p k
@@ -49,10 +50,10 @@ module _ {C D : Type 0} (g : checkpoint.Ghosts C D) (S : System Guest) (sound : 
   far = reach S p (own p c.acts) s
 
   at_self : d.procs p ≡ risen s
-  at_self = each_yes S.protocol p (λ x. risen (save_of k x)) c.procs p (with_self S.protocol p)
+  at_self = each_yes (is_with S.protocol p) (λ x. risen (save_of k x)) c.procs p (with_self S.protocol p)
 
   at_other : (q : ℕ) → p ≢ q → d.procs q ≡ c.procs q
-  at_other q ne = each_no S.protocol p (λ x. risen (save_of k x)) c.procs q (with_none S.protocol p q alone ne)
+  at_other q ne = each_no (is_with S.protocol p) (λ x. risen (save_of k x)) c.procs q (with_none S.protocol p q alone ne)
 
   own_self : own p d.acts ≡ oldest far (own p c.acts)
   own_self = rise_own_with S sound schedule t c now p down k p (with_self S.protocol p)
@@ -64,7 +65,7 @@ module _ {C D : Type 0} (g : checkpoint.Ghosts C D) (S : System Guest) (sound : 
   pub cut_same : (end : ℕ) → end ≡ log_end s.log → reported d.acts ≡ cut_acts p (max (max s.position end) (slice_index old.exposed p)) old.acts
   cut_same end e = acts_cut p far (reaches S c p k) c.acts (ap (λ (b : Bool). if b then far else length (own p c.acts)) (with_self S.protocol p))
       (λ q ne. ap (λ (b : Bool). if b then reach S q (own q c.acts) (save_of k (c.procs q)) else length (own q c.acts)) (with_none S.protocol p q alone ne))
-      ∙ ap (cut_acts p far) world.acts_are ∙ ap (λ n. cut_acts p n old.acts) (let x = world.exposed_are p inside in omega (arith, e, x))
+      ∙ ap (cut_acts p far) world.acts_are ∙ ap (λ n. cut_acts p n old.acts) (let x = world.exposed_are p inside in let none = sure_none S.guests S.exposes_sure world.seven.1 p s.position (own p c.acts) in omega (arith, e, x, none))
 
   pub world_risen : WorldStands S d (seen_of g new) (λ n. n ≡ 0) (leaves_of g new) → length new.slots ≡ length old.slots → new.protocol ≡ old.protocol → new.inputs ≡ old.inputs
       → is_up (slot_at new.slots p) ≡ true → ((q : ℕ) → q < S.guests.count → p ≢ q → is_up (slot_at new.slots q) ≡ is_up (slot_at old.slots q))
@@ -76,6 +77,7 @@ module _ {C D : Type 0} (g : checkpoint.Ghosts C D) (S : System Guest) (sound : 
   world_risen stands long protocol inputs up_self up_other based_self based_other acts exposed lines numbered = record {
     count_is = world.count_is ∙ sym long;
     protocol_is = world.protocol_is ∙ sym protocol;
+    seven = world.seven;
     inputs_are = λ q. world.inputs_are q ∙ rw inputs refl;
     stands = stands_decided g S d new alone stands;
     up_are = λ q less. ⊎_elim

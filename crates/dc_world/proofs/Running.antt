@@ -31,11 +31,11 @@ use Rattle.dc_proc.specs.Turns.{shown_of}
 use Rattle.dc_proc.specs.Ups.{IsWhole, held}
 use Rattle.dc_proc.specs.declared.shown.Shown.{Shown}
 use Rattle.dc_proc.specs.declared.up.Up.{Up as Process}
-use Rattle.dc_protocols.specs.Rules.{is_global}
+use Rattle.dc_protocols.specs.Rules.{is_joint}
 use Rattle.dc_protocols.specs.declared.protocol.Protocol.{Protocol}
 use Rattle.dc_recovery.proofs.Single.{stops_alone}
 use Rattle.dc_recovery.specs.Alone.{MayStopAlone}
-use Rattle.dc_recovery.specs.Answers.{answer, is_blocked, rule_at}
+use Rattle.dc_recovery.specs.Answers.{answer, is_blocked, rule_at, stores_at}
 use Rattle.dc_recovery.specs.Core.{Core, stands}
 use Rattle.dc_recovery.specs.Invariant.{Holds}
 use Rattle.dc_recovery.specs.Parts.{Place, may_stop}
@@ -242,16 +242,16 @@ module _ {C D : Type 0} (g : checkpoint.Ghosts C D) (images : List Image) (input
       )
 
       -- or it is stopped in one of its places
-      pub turned_at : (w : Place) → w ≢ Nowhere → may_stop (rule_at S c turn.p a) (event_of (next_of (over u0.guest words)) (machine_over u0.guest words)) a w ≡ true
+      pub turned_at : (w : Place) → w ≢ Nowhere → may_stop (rule_at S c turn.p a) (stores_at S.guests c turn.p a) (event_of (next_of (over u0.guest words)) (machine_over u0.guest words)) a w ≡ true
           → RunsOr (c.procs turn.p).up S c (record { t = t; p = turn.p; answer = answer S.guests c turn.p turn.word turn.clock }) mark.Stopped (after_turn S t c turn.p a w)
       turned_at w ne may = takes_up S c x mark.Stopped (after_turn S t c turn.p a w) (c.procs turn.p).up on (event_of n m) (next_is x.answer) (not_ended n m) false free (
         w,
-        subst (λ b. may_stop (rule_at S c turn.p b) (event_of n m) b w ≡ true) a_is may,
+        subst (λ b. may_stop (rule_at S c turn.p b) (stores_at S.guests c turn.p b) (event_of n m) b w ≡ true) a_is may,
         stopped_mark w ne (event_of n m) (stands S.guests c turn.p).visible,
         ap (λ b. after_turn S t c turn.p b w) a_is,
       )
 
       -- where each commits by itself, in one that is its own
-      pub turned_stopped : is_global pr ≡ false → (w : Place) → w ≢ Nowhere → MayStopAlone S turn.p (own turn.p c.acts) (c.procs turn.p) a w
+      pub turned_stopped : is_joint pr ≡ false → (w : Place) → w ≢ Nowhere → MayStopAlone S turn.p (own turn.p c.acts) (c.procs turn.p) a w
           → RunsOr (c.procs turn.p).up S c (record { t = t; p = turn.p; answer = answer S.guests c turn.p turn.word turn.clock }) mark.Stopped (after_turn S t c turn.p a w)
-      turned_stopped alone w ne may = turned_at w ne (subst (λ (e : Event). may_stop (rule_at S c turn.p a) e a w ≡ true) (next_is a) (stops_alone S t c turn.p a alone w ∙ may))
+      turned_stopped alone w ne may = turned_at w ne (subst (λ (e : Event). may_stop (rule_at S c turn.p a) (stores_at S.guests c turn.p a) e a w ≡ true) (next_is a) (stops_alone S t c turn.p a alone w ∙ may))

@@ -11,7 +11,7 @@ use Rattle.dc_proc.specs.Processes.{Held, IsAt, IsGoing, IsProcess}
 use Rattle.dc_proc.specs.Ups.{held}
 use Rattle.dc_proc.specs.Worlds.{IsUp, others_of}
 use Rattle.dc_proc.specs.declared.up.Up.{Up as Process}
-use Rattle.dc_protocols.specs.Rules.{is_global}
+use Rattle.dc_protocols.specs.Rules.{is_joint}
 use Rattle.dc_recovery.proofs.Given.{IsGiven}
 use Rattle.dc_recovery.specs.Alone.{IsAnswerAlone}
 use Rattle.dc_recovery.specs.Core.{Core}
@@ -54,7 +54,7 @@ module _ {C D : Type 0} (g : checkpoint.Ghosts C D) (S : System Guest) (schedule
   going_now = record { up = is_on; one = running.one; from = running.from; within = running.within }
 
   -- it is where the theory says, under a decided number
-  pub over_at : (d : ℕ) → decided_by (is_global S.protocol) (numbers_of g old) d → IsIn g S p (own p c.acts) (c.procs p) d (process c0 old.dev (held u0))
+  pub over_at : (d : ℕ) → decided_by (is_joint S.protocol) (numbers_of g old) d → IsIn g S p (own p c.acts) (c.procs p) d (process c0 old.dev (held u0))
   over_at d decided = record {
     going = going_now;
     process = subst (λ o. IsProcess S p (own p c.acts) (c.procs p) o (held u0)) (sym told) at_now;
@@ -64,8 +64,8 @@ module _ {C D : Type 0} (g : checkpoint.Ghosts C D) (S : System Guest) (schedule
   }
 
   -- where each commits by itself, under 0
-  pub over_now : is_global S.protocol ≡ false → IsIn g S p (own p c.acts) (c.procs p) 0 (process c0 old.dev (held u0))
-  over_now alone = over_at 0 (zero_decided (is_global S.protocol) (numbers_of g old) alone)
+  pub over_now : is_joint S.protocol ≡ false → IsIn g S p (own p c.acts) (c.procs p) 0 (process c0 old.dev (held u0))
+  over_now alone = over_at 0 (zero_decided (is_joint S.protocol) (numbers_of g old) alone)
 
   pub alone_given : (a : Answer) → IsGiven S.guests c p a → IsAnswerAlone S.guests p (own p c.acts) (c.procs p) a
   alone_given a given = ⊎_elim (λ x. inl x) (λ x. inr (x.0, x.1)) given

@@ -20,7 +20,7 @@ use Rattle.dc_proc.specs.Turns.{shown_of}
 use Rattle.dc_proc.specs.Ups.{IsWhole, held}
 use Rattle.dc_proc.specs.declared.shown.Shown.{Shown}
 use Rattle.dc_proc.specs.declared.up.Up.{Up as Process}
-use Rattle.dc_protocols.specs.Rules.{is_global}
+use Rattle.dc_protocols.specs.Rules.{is_joint}
 use Rattle.dc_protocols.specs.declared.protocol.Protocol.{Protocol}
 use Rattle.dc_recovery.specs.Core.{Status}
 use Rattle.dc_recovery.specs.Parts.{Place}
@@ -67,11 +67,11 @@ module _ (images : List Image) (inputs : List (List (List ℕ))) (pr : Protocol)
   comes_is : comes S.guests (at_position S.guests p st.position answers) a ≡ e
   comes_is = event_is images inputs pr p answers st words u whole is runs a
 
-  pub exposes_is : is_global pr ≡ false → S.exposes (comes S.guests (at_position S.guests p st.position answers) a) ≡ exposed_by call result
+  pub exposes_is : is_joint pr ≡ false → S.exposes (comes S.guests (at_position S.guests p st.position answers) a) ≡ exposed_by call result
   exposes_is alone = ap S.exposes comes_is ∙ ap (λ (b : Bool). if b then is_visible e else is_output e) alone ∙ sym (ap (λ c. exposed_by c result) called ∙ ap (exposed_by (called_by (next_of (over u.guest words)))) showed ∙ exposed_event (next_of (over u.guest words)) (machine_over u.guest words) u.kernel.visible)
 
   -- where all recover together, others hold a process to what it shows alone
-  pub exposes_shown : is_global pr ≡ true → S.exposes (comes S.guests (at_position S.guests p st.position answers) a) ≡ is_some result
+  pub exposes_shown : is_joint pr ≡ true → S.exposes (comes S.guests (at_position S.guests p st.position answers) a) ≡ is_some result
   exposes_shown together = ap S.exposes comes_is ∙ ap (λ (b : Bool). if b then is_visible e else is_output e) together ∙ shows_visible u.kernel.visible e ∙ sym (ap (λ (r : Option Shown). is_some r) showed)
 
   pub lines_is : (lines : List Visible) → length (shown S.guests p (at_position S.guests p st.position answers) a ++ lines) ≡ length lines + line_count result
@@ -99,7 +99,7 @@ lines_kept InAfter ne more lines = refl
 
 -- others hold a process to outputs alone
 pub exposes_output : (pr : Protocol) (e : Event) → exposed_under pr e ≡ true → is_output e ≡ true
-exposes_output pr e on = by_form (is_global pr) on
+exposes_output pr e on = by_form (is_joint pr) on
   where
     by_form : (b : Bool) → (if b then is_visible e else is_output e) ≡ true → is_output e ≡ true
     by_form true seen = ap (λ b. b || is_send e) seen

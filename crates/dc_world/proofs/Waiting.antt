@@ -5,7 +5,7 @@ use Rattle.std.proofs.lemmas.Option.{slice_get_within}
 use Rattle.dc_checkpoint.specs.Handles.{IsSame}
 use Rattle.dc_checkpoint.specs.States.{Form}
 use Rattle.dc_checkpoint.specs.declared.checkpoint.Checkpoint as checkpoint
-use Rattle.dc_protocols.specs.Rules.{is_global}
+use Rattle.dc_protocols.specs.Rules.{is_joint}
 use Rattle.dc_twophase.proofs.Laws.{Laws}
 use Rattle.dc_twophase.proofs.Pairs.{at_other, at_same, before_it}
 use Rattle.dc_twophase.specs.Stores.{EachPair}
@@ -35,7 +35,7 @@ own_kept g n stores stores1 as_many pairs own q c at =
     }
 
 -- a turn where all commit together
-module _ {C D : Type 0} (g : checkpoint.Ghosts C D) (stores stores1 : List C) (dev dev1 : D) (w w1 : Processes) (together : is_global w.protocol ≡ true) (ready : IsReady g stores dev w) (as_many : length stores1 ≡ length stores)
+module _ {C D : Type 0} (g : checkpoint.Ghosts C D) (stores stores1 : List C) (dev dev1 : D) (w w1 : Processes) (together : is_joint w.protocol ≡ true) (ready : IsReady g stores dev w) (as_many : length stores1 ≡ length stores)
     (pairs : EachPair stores stores1 (λ i. IsSame g)) (well1 : IsWell w1) (rest : w1 ≡ record w { slots = w1.slots; acts = w1.acts; exposed = w1.exposed; joint = w1.joint }) (long : length w1.slots.items ≡ length w.slots.items)
     (ready1 : AreReady g (w.left - 1) stores1 dev1 w1.slots.items) (room1 : IsRoomFor g stores1 (length w.slots.items) w1.joint) where
   pub ready_together : w.acts.room ≤ w1.acts.room → length w1.acts.items ≤ length w.acts.items + 1 → 0 < w.left → IsReady g stores1 dev1 (counted w1)
@@ -44,7 +44,7 @@ module _ {C D : Type 0} (g : checkpoint.Ghosts C D) (stores stores1 : List C) (d
         well = well_counted w1 well1;
         stores_long = as_many ∙ ready.stores_long ∙ sym long;
         own = subst (λ n. AreOwn g n stores1) (sym long) (own_kept g (length w.slots.items) stores stores1 as_many pairs ready.own);
-        handled = λ alone. absurd (true≢false (sym together ∙ sym (ap (λ (x : Processes). is_global x.protocol) rest) ∙ alone));
+        handled = λ alone. absurd (true≢false (sym together ∙ sym (ap (λ (x : Processes). is_joint x.protocol) rest) ∙ alone));
         together = λ _. (subst (λ n. AreReady g (n - 1) stores1 dev1 w1.slots.items) (sym left_is) ready1, subst (λ n. IsRoomFor g stores1 n w1.joint) (sym long) room1);
         room = let a = ready.room in omega (arith, a, room, grown, some, left_is);
         few_acts = let a = ready.few_acts in let e = ap (λ (x : Processes). x.entries) rest in omega (arith, a, grown, e);
@@ -82,7 +82,7 @@ module _ {C D : Type 0} (g : checkpoint.Ghosts C D) (laws : Laws g) (old new : D
   }
 
 -- an entry of one process
-module _ {C D : Type 0} (g : checkpoint.Ghosts C D) (laws : Laws g) (stores : List C) (dev dev1 : D) (w w1 : Processes) (p : ℕ) (c0 c1 : C) (alone : is_global w.protocol ≡ false) (ready : IsReady g stores dev w) (there : p < length w.slots.items) (at0 : slice_get stores p ≡ Some c0)
+module _ {C D : Type 0} (g : checkpoint.Ghosts C D) (laws : Laws g) (stores : List C) (dev dev1 : D) (w w1 : Processes) (p : ℕ) (c0 c1 : C) (alone : is_joint w.protocol ≡ false) (ready : IsReady g stores dev w) (there : p < length w.slots.items) (at0 : slice_get stores p ≡ Some c0)
     (well1 : IsWell w1) (rest : w1 ≡ record w { slots = w1.slots; acts = w1.acts; exposed = w1.exposed }) (long : length w1.slots.items ≡ length w.slots.items)
     (others : (q : ℕ) → q ≢ p → Hears p (slot_at w.slots.items q) (slot_at w1.slots.items q)) (handled1 : IsHandled g (w.left - 1) c1 dev1 (slot_at w1.slots.items p))
     (same : IsSame g c0 c1) (untouched : (q : ℕ) → q ≢ g.place c0 → g.untouched dev dev1 q) where
@@ -120,7 +120,7 @@ module _ {C D : Type 0} (g : checkpoint.Ghosts C D) (laws : Laws g) (stores : Li
     stores_long = length-set stores p c1 ∙ ready.stores_long ∙ sym long;
     own = own_next;
     handled = λ _. handled_next;
-    together = λ is. absurd (true≢false (sym is ∙ ap (λ (x : Processes). is_global x.protocol) rest ∙ alone));
+    together = λ is. absurd (true≢false (sym is ∙ ap (λ (x : Processes). is_joint x.protocol) rest ∙ alone));
     room = let a = ready.room in omega (arith, a, room, grown, some, left_is);
     few_acts = let a = ready.few_acts in let e = ap (λ (x : Processes). x.entries) rest in omega (arith, a, grown, e);
     few_lines = let a = ready.few_lines in let e = ap (λ (x : Processes). x.entries) rest in let l = ap (λ (x : Processes). x.lines) rest in omega (arith, a, e, l);

@@ -10,7 +10,7 @@ use Rattle.dc_model.specs.World.{reported}
 use Rattle.dc_model.specs.declared.entry.Entry.{Entry}
 use Rattle.dc_proc.specs.Processes.{IsNumbered}
 use Rattle.dc_proc.specs.Worlds.{WorldStands}
-use Rattle.dc_protocols.specs.Rules.{is_global}
+use Rattle.dc_protocols.specs.Rules.{is_joint}
 use Rattle.dc_recovery.proofs.Given.{IsGiven}
 use Rattle.dc_recovery.proofs.Single.{turn_alone, turn_others}
 use Rattle.dc_recovery.proofs.Worlds.{own_after_other}
@@ -26,11 +26,11 @@ use Rattle.dc_world.specs.Slots.{based_in, is_up, slot_at}
 use Rattle.dc_world.specs.Stages.{IsWorld, Stage, decided_by, leaves_of, numbers_of, seen_of}
 
 -- where each commits by itself, what is said under 0 is said under each decided number
-pub stands_decided : {C D : Type 0} (g : checkpoint.Ghosts C D) (S : System Guest) (c : Core) (x : Stage C D) → is_global S.protocol ≡ false → WorldStands S c (seen_of g x) (λ n. n ≡ 0) (leaves_of g x)
-    → WorldStands S c (seen_of g x) (decided_by (is_global S.protocol) (numbers_of g x)) (leaves_of g x)
+pub stands_decided : {C D : Type 0} (g : checkpoint.Ghosts C D) (S : System Guest) (c : Core) (x : Stage C D) → is_joint S.protocol ≡ false → WorldStands S c (seen_of g x) (λ n. n ≡ 0) (leaves_of g x)
+    → WorldStands S c (seen_of g x) (decided_by (is_joint S.protocol) (numbers_of g x)) (leaves_of g x)
 stands_decided g S c x alone is = subst (λ b. WorldStands S c (seen_of g x) (decided_by b (numbers_of g x)) (leaves_of g x)) (sym alone) is
 
-module _ {C D : Type 0} (g : checkpoint.Ghosts C D) (S : System Guest) (sound : IsSound S) (alone : is_global S.protocol ≡ false) (schedule : List Entry) (t : ℕ) (c : Core) (now : Holds S schedule t c)
+module _ {C D : Type 0} (g : checkpoint.Ghosts C D) (S : System Guest) (sound : IsSound S) (alone : is_joint S.protocol ≡ false) (schedule : List Entry) (t : ℕ) (c : Core) (now : Holds S schedule t c)
     (p : ℕ) (a : Answer) (given : IsGiven S.guests c p a) (on : (c.procs p).up ≡ true) (inside : p < S.guests.count) (w : Place) (old new : Stage C D) (world : IsWorld g S c old) where
   abbrev d : Core
   d = after_turn S t c p a w
@@ -51,6 +51,7 @@ module _ {C D : Type 0} (g : checkpoint.Ghosts C D) (S : System Guest) (sound : 
   world_is stands long protocol inputs up_self up_other based_self based_other acts exposed_self exposed_other lines numbered = record {
     count_is = world.count_is ∙ sym long;
     protocol_is = world.protocol_is ∙ sym protocol;
+    seven = world.seven;
     inputs_are = λ q. world.inputs_are q ∙ ap (λ (xs : List (List (List ℕ))). unwrap_or (slice_get xs q) []) (sym inputs);
     stands = stands_decided g S d new alone stands;
     up_are = λ q less. ⊎_elim

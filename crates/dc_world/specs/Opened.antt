@@ -12,7 +12,7 @@ use Rattle.dc_media.specs.Causes.{Rose}
 use Rattle.dc_elf.specs.Loaded.{CanStart}
 use Rattle.dc_words.specs.Lists.{lists_of}
 use Rattle.dc_proc.specs.Processes.{Held, reading_of}
-use Rattle.dc_protocols.specs.Rules.{is_global}
+use Rattle.dc_protocols.specs.Rules.{is_joint}
 use Rattle.dc_protocols.specs.declared.protocol.Protocol.{Protocol}
 use Rattle.dc_twophase.specs.Stores.{EachPair}
 use Rattle.dc_words.specs.Words.{bytes_in}
@@ -84,7 +84,7 @@ pub record HaveFallen {C D : Type 0} (g : checkpoint.Ghosts C D) (slots slots1 :
 
 -- they are as they were, where each commits by itself or all are up; else all fell
 abbrev pub FallTogether : {C D : Type 0} → checkpoint.Ghosts C D → Protocol → List (Option Slot) → List (Option Slot) → List C → List C → Type 0
-FallTogether g protocol slots slots1 stores stores1 = ((slots1 ≡ slots) × (stores1 ≡ stores) × (is_global protocol ≡ true → AreUp slots)) ⊎ ((is_global protocol ≡ true) × HaveFallen g slots slots1 stores stores1)
+FallTogether g protocol slots slots1 stores stores1 = ((slots1 ≡ slots) × (stores1 ≡ stores) × (is_joint protocol ≡ true → AreUp slots)) ⊎ ((is_joint protocol ≡ true) × HaveFallen g slots slots1 stores stores1)
 
 -- all are up, or none is
 abbrev pub AreAlike : List (Option Slot) → Type 0

@@ -4,6 +4,7 @@ use Rattle.dc_limits.specs.declared.bounds.TheConstants.{ENTRIES}
 use Rattle.dc_checkpoint.specs.States.{Reading, State, number_in}
 use Rattle.dc_checkpoint.specs.declared.checkpoint.Checkpoint as checkpoint
 use Rattle.dc_guest.specs.Guest.{Guest}
+use Rattle.dc_model.specs.Guests.{Event}
 use Rattle.dc_model.specs.Runs.{own}
 use Rattle.dc_model.specs.World.{reported}
 use Rattle.dc_model.specs.declared.act.Taken.{Taken}
@@ -12,7 +13,7 @@ use Rattle.dc_proc.specs.Events.{HasCountsFor}
 use Rattle.dc_proc.specs.Processes.{IsNumbered}
 use Rattle.dc_proc.specs.Ups.{IsFit}
 use Rattle.dc_proc.specs.Worlds.{Seen, WorldStands}
-use Rattle.dc_protocols.specs.Rules.{is_global}
+use Rattle.dc_protocols.specs.Rules.{is_causal, is_joint}
 use Rattle.dc_protocols.specs.declared.protocol.Protocol.{Protocol}
 use Rattle.dc_recovery.specs.Core.{Core, learned}
 use Rattle.dc_recovery.specs.Saves.{last_at}
@@ -79,8 +80,8 @@ pub record IsReady {C D : Type 0} (g : checkpoint.Ghosts C D) (stores : List C) 
   pub well : IsWell w
   pub stores_long : length stores ≡ length w.slots.items
   pub own : (p : ℕ) (c : C) → slice_get stores p ≡ Some c → IsOwn g (length w.slots.items) p c
-  pub handled : is_global w.protocol ≡ false → (p : ℕ) (c : C) → slice_get stores p ≡ Some c → IsHandled g w.left c dev (slot_at w.slots.items p)
-  pub together : is_global w.protocol ≡ true → AreReady g w.left stores dev w.slots.items × IsRoomFor g stores (length w.slots.items) w.joint
+  pub handled : is_joint w.protocol ≡ false → (p : ℕ) (c : C) → slice_get stores p ≡ Some c → IsHandled g w.left c dev (slot_at w.slots.items p)
+  pub together : is_joint w.protocol ≡ true → AreReady g w.left stores dev w.slots.items × IsRoomFor g stores (length w.slots.items) w.joint
   pub room : length w.acts.items + w.left ≤ w.acts.room
   pub few_acts : length w.acts.items ≤ w.entries
   pub few_lines : w.lines ≤ w.entries
@@ -96,19 +97,21 @@ pub record AreDecided {C D : Type 0} (g : checkpoint.Ghosts C D) (x : Stage C D)
   pub held : (d p : ℕ) → numbers_of g x d → p < length x.slots → is_up (slot_at x.slots p) ≡ true → ((held_in (slot_at x.slots p)).kernel.commit ≡ max least d) × IsSomeAnd (store_of x p) (λ c. g.floor c ≤ d)
   pub few : (d p : ℕ) → numbers_of g x d → p < length x.slots → is_up (slot_at x.slots p) ≡ false → max least d ≤ 2 ^ 32 - 1 - 4 * x.left
 
--- it stands for a core: the processes and their stores do, and so do the acts, the count of lines, and what the world remembers of each process
+-- it stands for a core under one of the seven protocols in which each process commits by itself, or all do: the processes and their stores do, and so do the
+-- acts, the count of lines, and what the world remembers of each process
 pub record IsWorld {C D : Type 0} (g : checkpoint.Ghosts C D) (S : System Guest) (c : Core) (x : Stage C D) : Type 0 where
   pub count_is : S.guests.count ≡ length x.slots
   pub protocol_is : S.protocol ≡ x.protocol
+  pub seven : (is_causal S.protocol ≡ false) × ((e : Event) → S.exposes_sure e ≡ false)
   pub inputs_are : (p : ℕ) → S.guests.inputs p ≡ unwrap_or (slice_get x.inputs p) []
-  pub stands : WorldStands S c (seen_of g x) (decided_by (is_global S.protocol) (numbers_of g x)) (leaves_of g x)
+  pub stands : WorldStands S c (seen_of g x) (decided_by (is_joint S.protocol) (numbers_of g x)) (leaves_of g x)
   pub up_are : (p : ℕ) → p < S.guests.count → (c.procs p).up ≡ is_up (slot_at x.slots p)
   pub based_are : (p s : ℕ) → p < S.guests.count → s < S.guests.count → slice_index (based_in (slot_at x.slots p)) s ≡ learned S.guests c p s
   pub acts_are : reported c.acts ≡ x.acts
   pub exposed_are : (p : ℕ) → p < S.guests.count → slice_index x.exposed p ≡ last_at S.exposes S.guests p (own p c.acts)
   pub lines_are : length c.lines ≡ x.lines
-  pub numbered : is_global S.protocol ≡ false → (p : ℕ) → p < S.guests.count → IsNumbered (2 ^ 32 - 1 - 2 * x.left) (leaves_of g x p 0)
-  pub decided : is_global S.protocol ≡ true → AreDecided g x
+  pub numbered : is_joint S.protocol ≡ false → (p : ℕ) → p < S.guests.count → IsNumbered (2 ^ 32 - 1 - 2 * x.left) (leaves_of g x p 0)
+  pub decided : is_joint S.protocol ≡ true → AreDecided g x
 
 -- the devices of all processes are told, and no count of theirs stands at its last value
 pub record IsTold {C D : Type 0} (g : checkpoint.Ghosts C D) (x : Stage C D) : Type 0 where

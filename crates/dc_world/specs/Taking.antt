@@ -21,7 +21,7 @@ use Rattle.dc_proc.specs.Turns.{StopsTurn, TakesTurn, acts_with, shown_of}
 use Rattle.dc_proc.specs.Ups.{IsFit, IsSameUp, IsWhole, held}
 use Rattle.dc_proc.specs.declared.shown.Shown.{Shown}
 use Rattle.dc_proc.specs.declared.up.Up.{Up as Process}
-use Rattle.dc_protocols.specs.Rules.{is_global}
+use Rattle.dc_protocols.specs.Rules.{is_joint}
 use Rattle.dc_world.specs.Answers.{HasCallRoom}
 use Rattle.dc_world.specs.Turns.{taken_mark, visible_shown}
 use Rattle.dc_world.specs.declared.slot.Slot.{Slot}
@@ -94,9 +94,9 @@ pub record HasTaken {C D : Type 0} (g : checkpoint.Ghosts C D) (old new : Moment
   pub shown : IfOk result (λ shown. IfSome (g.contents old.store old.dev) (λ words. shown ≡ shown_of (effect_of (event_of (next_of (over u.guest words)) (machine_over u.guest words))) u.kernel.visible))
   pub stopped : OnErr result (StopsTurn g u.protocol e.answer (process old.store old.dev (held u)) (process new.store new.dev (held up))
       (record { before = e.before; more = acts_with e.before u.kernel e.t e.answer; after = e.after }))
-  pub steady : is_global u.protocol ≡ true → g.steady old.store old.dev → g.steady new.store new.dev × AreAmong (g.numbers old.store old.dev) (g.numbers new.store new.dev)
-  pub uncommitted : is_global u.protocol ≡ true → OnOk result ((held up).kernel.commit ≡ (held u).kernel.commit)
-  pub narrows : is_global u.protocol ≡ true → Narrows (g.floor old.store) (g.leaves old.store old.dev) (g.leaves new.store new.dev)
+  pub steady : is_joint u.protocol ≡ true → g.steady old.store old.dev → g.steady new.store new.dev × AreAmong (g.numbers old.store old.dev) (g.numbers new.store new.dev)
+  pub uncommitted : is_joint u.protocol ≡ true → OnOk result ((held up).kernel.commit ≡ (held u).kernel.commit)
+  pub narrows : is_joint u.protocol ≡ true → Narrows (g.floor old.store) (g.leaves old.store old.dev) (g.leaves new.store new.dev)
 
 -- what the next event of a process shows
 abbrev pub ShowsNext : {C D : Type 0} → checkpoint.Ghosts C D → C → D → Option Slot → Option Shown → Type 0

@@ -11,9 +11,9 @@ use Rattle.dc_model.specs.Process.{comes}
 use Rattle.dc_model.specs.Runs.{own}
 use Rattle.dc_proc.specs.Carried.{system}
 use Rattle.dc_proc.specs.declared.shown.Shown.{Shown}
-use Rattle.dc_protocols.specs.Rules.{is_global}
+use Rattle.dc_protocols.specs.Rules.{is_joint}
 use Rattle.dc_recovery.proofs.Given.{IsGiven}
-use Rattle.dc_recovery.specs.Answers.{rule_at}
+use Rattle.dc_recovery.specs.Answers.{rule_at, stores_at}
 use Rattle.dc_recovery.specs.Core.{Core, stands}
 use Rattle.dc_recovery.specs.Invariant.{Holds}
 use Rattle.dc_recovery.specs.Alone.{MayStopAlone}
@@ -83,7 +83,7 @@ with_slot p slot x = record x { slots = slice_set x.slots p (Some slot) }
 
 -- a turn of process p that was answered so and went whole: wherever the run had come to, whatever its guests, the world stands for the core after it
 abbrev pub Went : {C D : Type 0} → checkpoint.Ghosts C D → Stage C D → Stage C D → ℕ → Answer → Type 0
-Went g old new p a = (images : List Image) (schedule : List Entry) (c : Core) (words words1 : List ℕ) → is_global old.protocol ≡ false
+Went g old new p a = (images : List Image) (schedule : List Entry) (c : Core) (words words1 : List ℕ) → is_joint old.protocol ≡ false
     → memory_of g (store_of old p) old.dev ≡ Some words → memory_of g (store_of new p) new.dev ≡ Some words1
     → Holds (system images old.inputs old.protocol) schedule old.entries c → IsWorld g (system images old.inputs old.protocol) c old → p < (system images old.inputs old.protocol).guests.count
     → IsGiven (system images old.inputs old.protocol).guests c p a
@@ -91,7 +91,7 @@ Went g old new p a = (images : List Image) (schedule : List Entry) (c : Core) (w
 
 -- one that was stopped in one of its places: the world stands for the core that a stop there leaves
 abbrev pub Fell : {C D : Type 0} → checkpoint.Ghosts C D → Stage C D → Stage C D → ℕ → Answer → Type 0
-Fell g old new p a = (images : List Image) (schedule : List Entry) (c : Core) (words : List ℕ) → is_global old.protocol ≡ false → memory_of g (store_of old p) old.dev ≡ Some words
+Fell g old new p a = (images : List Image) (schedule : List Entry) (c : Core) (words : List ℕ) → is_joint old.protocol ≡ false → memory_of g (store_of old p) old.dev ≡ Some words
     → Holds (system images old.inputs old.protocol) schedule old.entries c → IsWorld g (system images old.inputs old.protocol) c old → p < (system images old.inputs old.protocol).guests.count
     → IsGiven (system images old.inputs old.protocol).guests c p a
     → (w : Place) × (w ≢ Nowhere) × MayStopAlone (system images old.inputs old.protocol) p (own p c.acts) (c.procs p) a w
@@ -100,15 +100,15 @@ Fell g old new p a = (images : List Image) (schedule : List Entry) (c : Core) (w
 -- a turn of process p that was answered so and went whole, where all commit together: wherever the run had come to, whatever its guests, the world stands
 -- for the core after it
 abbrev pub WentTogether : {C D : Type 0} → checkpoint.Ghosts C D → Stage C D → Stage C D → ℕ → Answer → Type 0
-WentTogether g old new p a = (images : List Image) (schedule : List Entry) (c : Core) → is_global old.protocol ≡ true → IsTold g old
+WentTogether g old new p a = (images : List Image) (schedule : List Entry) (c : Core) → is_joint old.protocol ≡ true → IsTold g old
     → Holds (system images old.inputs old.protocol) schedule old.entries c → IsWorld g (system images old.inputs old.protocol) c old → p < (system images old.inputs old.protocol).guests.count
     → IsGiven (system images old.inputs old.protocol).guests c p a
     → IsWorld g (system images old.inputs old.protocol) (after_turn (system images old.inputs old.protocol) old.entries c p a Nowhere) new
 
 -- one that was stopped in one of its places, as its protocol and its event allow: the world stands for the core that a stop there leaves
 abbrev pub FellTogether : {C D : Type 0} → checkpoint.Ghosts C D → Stage C D → Stage C D → ℕ → Answer → Type 0
-FellTogether g old new p a = (images : List Image) (schedule : List Entry) (c : Core) → is_global old.protocol ≡ true → IsTold g old
+FellTogether g old new p a = (images : List Image) (schedule : List Entry) (c : Core) → is_joint old.protocol ≡ true → IsTold g old
     → Holds (system images old.inputs old.protocol) schedule old.entries c → IsWorld g (system images old.inputs old.protocol) c old → p < (system images old.inputs old.protocol).guests.count
     → IsGiven (system images old.inputs old.protocol).guests c p a
-    → (w : Place) × (w ≢ Nowhere) × (may_stop (rule_at (system images old.inputs old.protocol) c p a) (comes (system images old.inputs old.protocol).guests (stands (system images old.inputs old.protocol).guests c p) a) a w ≡ true)
+    → (w : Place) × (w ≢ Nowhere) × (may_stop (rule_at (system images old.inputs old.protocol) c p a) (stores_at (system images old.inputs old.protocol).guests c p a) (comes (system images old.inputs old.protocol).guests (stands (system images old.inputs old.protocol).guests c p) a) a w ≡ true)
     × IsWorld g (system images old.inputs old.protocol) (after_turn (system images old.inputs old.protocol) old.entries c p a w) new

@@ -6,7 +6,7 @@ ghost use Rattle.dc_checkpoint.specs.States.{IsText};
 ghost use Rattle.dc_kernel.specs.Kernels.{IsKernel};
 ghost use Rattle.dc_kernel.specs.Layout.{kernel_words};
 ghost use Rattle.dc_kernel.specs.Texts.{text_of};
-ghost use Rattle.dc_protocols.specs.Rules.{is_global};
+ghost use Rattle.dc_protocols.specs.Rules.{is_joint};
 ghost use Rattle.dc_twophase.specs.Commits.{IsSameMemory};
 ghost use Rattle.dc_twophase.specs.Counts.{IsJoint, IsUnrefused};
 ghost use Rattle.dc_twophase.specs.Stores.{EachPair, IsNoPlace, text_at};
@@ -136,7 +136,7 @@ impl Processes {
         dev: &mut C::Device,
     ) -> Result<(), JointFault>
         requires well { IsWell self.old }
-        requires together { is_global self.old.protocol ≡ true }
+        requires together { is_joint self.old.protocol ≡ true }
         requires stores { length stores.old ≡ length self.old.slots.items }
         requires own { AreOwn C.Checkpoint (length self.old.slots.items) stores.old }
         requires fit { AreFit C.Checkpoint stores.old dev.old self.old.slots.items }

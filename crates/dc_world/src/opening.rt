@@ -9,7 +9,7 @@ ghost use Rattle.dc_elf.specs.Loaded.{seen_image};
 ghost use Rattle.dc_words.specs.Lists.{lists_of};
 ghost use Rattle.dc_proc.specs.Carried.{system};
 ghost use Rattle.dc_proc.specs.Processes.{form_of};
-ghost use Rattle.dc_protocols.specs.Rules.{is_global};
+ghost use Rattle.dc_protocols.specs.Rules.{is_causal, is_joint};
 ghost use Rattle.dc_recovery.specs.Core.{opened_core};
 ghost use Rattle.dc_recovery.specs.Parts.{is_with};
 ghost use Rattle.dc_world.specs.Opened.{AreAlike, AreBegun, AreMadeFor, CanOpen, IsBegun, IsOpened, IsUpFor, kernel_at, whose};
@@ -31,7 +31,7 @@ use dc_limits::{ENTRIES, PROCESSES};
 use dc_links::Message;
 use dc_media::MakeFault;
 use dc_proc::Up;
-use dc_protocols::{Protocol, is_global};
+use dc_protocols::{Protocol, is_joint};
 use dc_words::to_words;
 use std::alloc::{AllocError, Global};
 
@@ -173,11 +173,11 @@ fn saved_for(alloc: Global, n: u32, count: u32) -> Result<Vec<Saved>, AllocError
 /// The room of commits and recoveries of `n` processes together; none where each process commits by itself.
 fn joint_for(alloc: Global, protocol: Protocol, n: u32) -> Result<Joint, AllocError>
     requires few { n ≤ PROCESSES }
-    ensures texts { IfOk result (λ joint. is_global protocol ≡ true → length joint.texts.items ≡ kernel_words n * n) }
-    ensures saved_long { IfOk result (λ joint. is_global protocol ≡ true → length joint.saved.items ≡ n) }
+    ensures texts { IfOk result (λ joint. is_joint protocol ≡ true → length joint.texts.items ≡ kernel_words n * n) }
+    ensures saved_long { IfOk result (λ joint. is_joint protocol ≡ true → length joint.saved.items ≡ n) }
     ensures saved_fit { IfOk result (λ joint. AreMadeFor n joint.saved.items) }
 {
-    let count = if is_global(protocol) { n } else { 0 };
+    let count = if is_joint(protocol) { n } else { 0 };
     Ok(Joint {
         texts: vec![in alloc; 0; kernel_words(n) * count as usize]?,
         saved: saved_for(alloc, n, count)?,
@@ -186,7 +186,8 @@ fn joint_for(alloc: Global, protocol: Protocol, n: u32) -> Result<Joint, AllocEr
 
 impl<C: Checkpoint + Drop> World<C> {
     /// Each process at the beginning of its image, over a new store. All room for so many entries is taken here. A process whose store
-    /// was stopped as it was made is down; where all commit together all are down then.
+    /// was stopped as it was made is down; where all commit together all are down then. It stands for the beginning of a run in each
+    /// protocol in which a process commits by itself, or all do.
     pub fn open(
         alloc: Global,
         setup: Setup,
@@ -200,9 +201,9 @@ impl<C: Checkpoint + Drop> World<C> {
         requires entries { entries ≤ ENTRIES }
         ensures ready { IfOk result (λ w. IsReady C.Checkpoint w.stores.items dev.new w.processes) }
         ensures begins { IfOk result (λ w. IsOpened setup entries w.processes) }
-        ensures opened { IfOk result (λ w. IsTold C.Checkpoint (stage_of w.stores.items dev.new w.processes)
+        ensures opened { IfOk result (λ w. is_causal setup.protocol ≡ false → IsTold C.Checkpoint (stage_of w.stores.items dev.new w.processes)
             → IsWorld C.Checkpoint (system (map seen_image setup.images.items) (lists_of setup.inputs.items) setup.protocol) (opened_core (λ p. is_up (slot_at w.processes.slots.items p))) (stage_of w.stores.items dev.new w.processes)) }
-        ensures alike { IfOk result (λ w. is_global setup.protocol ≡ true → AreAlike w.processes.slots.items) }
+        ensures alike { IfOk result (λ w. is_joint setup.protocol ≡ true → AreAlike w.processes.slots.items) }
         ensures stopped { IfOk result (λ w. (p : ℕ) → p < length setup.images.items → is_up (slot_at w.processes.slots.items p) ≡ false
             → (q : ℕ) × (q < length setup.images.items) × (is_with setup.protocol p q ≡ true) × Rose (C.stops dev.old q) (C.stops dev.new q)) }
         ensures calm { IfOk result (λ w. (p : ℕ) → p < length setup.images.items → is_up (slot_at w.processes.slots.items p) ≡ true

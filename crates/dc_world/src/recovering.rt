@@ -9,7 +9,7 @@ ghost use Rattle.dc_model.specs.declared.entry.Entry.TheVariants as entries;
 ghost use Rattle.dc_model.specs.declared.mark.Mark.TheVariants as marks;
 ghost use Rattle.dc_proc.specs.Processes.{logged_of};
 ghost use Rattle.dc_proc.specs.Ups.{held};
-ghost use Rattle.dc_protocols.specs.Rules.{is_global};
+ghost use Rattle.dc_protocols.specs.Rules.{is_joint};
 ghost use Rattle.dc_recovery.specs.Saves.{log_end};
 ghost use Rattle.dc_world.specs.Processes.{Hears, IsWell, Learns, LearnsAll};
 ghost use Rattle.dc_world.specs.Slots.{IsOf, based_in, slot_at};
@@ -70,7 +70,7 @@ impl Processes {
         dev: &mut C::Device,
     ) -> Result<Mark, CheckFault>
         requires well { IsWell self.old }
-        requires alone { is_global self.old.protocol ≡ false }
+        requires alone { is_joint self.old.protocol ≡ false }
         requires process { turn.now.p < length self.old.slots.items }
         requires of { IsOf self.old.protocol (length self.old.slots.items) turn.now.p (slots.Down down) }
         requires lent { C.lent store.old dev.old }

@@ -11,7 +11,7 @@ ghost use Rattle.dc_model.specs.declared.entry.Entry.TheVariants as entries;
 ghost use Rattle.dc_model.specs.declared.mark.Mark.TheVariants as marks;
 ghost use Rattle.dc_proc.specs.Events.{HasCountsFor};
 ghost use Rattle.dc_proc.specs.Processes.{logged_of};
-ghost use Rattle.dc_protocols.specs.Rules.{is_global};
+ghost use Rattle.dc_protocols.specs.Rules.{is_joint};
 ghost use Rattle.dc_recovery.specs.Saves.{log_end};
 ghost use Rattle.dc_twophase.specs.Counts.{IsJoint};
 ghost use Rattle.dc_twophase.specs.Stores.{EachPair, IsNoPlace};
@@ -131,7 +131,7 @@ impl Processes {
         dev: &mut C::Device,
     ) -> Result<Mark, JointFault>
         requires well { IsWell self.old }
-        requires together { is_global self.old.protocol ≡ true }
+        requires together { is_joint self.old.protocol ≡ true }
         requires process { turn.now.p < length self.old.slots.items }
         requires stores { length stores.old ≡ length self.old.slots.items }
         requires own { AreOwn C.Checkpoint (length self.old.slots.items) stores.old }

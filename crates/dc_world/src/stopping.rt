@@ -11,7 +11,7 @@ ghost use Rattle.dc_world.specs.Slots.{Falls, are_up, slot_at};
 use crate::processes::Processes;
 use crate::slot::Slot;
 use dc_checkpoint::Checkpoint;
-use dc_protocols::is_global;
+use dc_protocols::is_joint;
 
 impl Processes {
     /// Process `p` falls, where it is up.
@@ -65,7 +65,7 @@ impl Processes {
         ensures as_many { length stores.new ≡ length stores.old }
         ensures together { FallTogether C.Checkpoint self.old.protocol self.old.slots.items self.new.slots.items stores.old stores.new }
     {
-        if is_global(self.protocol) && !self.are_up() {
+        if is_joint(self.protocol) && !self.are_up() {
             self.power(stores);
         }
     }

@@ -7,7 +7,7 @@ ghost use Rattle.dc_guest.specs.Answers.{answer_of, may_answer};
 ghost use Rattle.dc_model.specs.Guests.Answer.{Plain};
 ghost use Rattle.dc_model.specs.declared.entry.Entry.TheVariants as entries;
 ghost use Rattle.dc_model.specs.declared.mark.Mark.TheVariants as marks;
-ghost use Rattle.dc_protocols.specs.Rules.{is_global};
+ghost use Rattle.dc_protocols.specs.Rules.{is_joint};
 ghost use Rattle.dc_twophase.specs.Commits.{IsSameMemory};
 ghost use Rattle.dc_twophase.specs.Counts.{IsJoint, IsUnrefused};
 ghost use Rattle.dc_twophase.specs.Stores.{At, EachPair, IsNoPlace};
@@ -53,7 +53,7 @@ impl Processes {
         requires next { At p stores.now (λ c. (call : _) × MakesCall C.Checkpoint c dev.now (slot_at self.now.slots.items p) call) }
         requires sender { IsSentTo (length self.now.slots.items) p (answer_of answer.now) }
         ensures asked { IsAskedAt C.Checkpoint p (answer_of answer.now) (stage_of stores.now dev.now self.now) result }
-        ensures once { is_global self.now.protocol ≡ true → result.before ≡ true → result.after ≡ false }
+        ensures once { is_joint self.now.protocol ≡ true → result.before ≡ true → result.after ≡ false }
     {
         match self.up(p) {
             Some(up) => {
@@ -72,7 +72,7 @@ impl Processes {
         dev: &mut C::Device,
     ) -> Result<(), JointFault>
         requires well { IsWell self.old }
-        requires together { is_global self.old.protocol ≡ true }
+        requires together { is_joint self.old.protocol ≡ true }
         requires stores { length stores.old ≡ length self.old.slots.items }
         requires own { AreOwn C.Checkpoint (length self.old.slots.items) stores.old }
         requires fit { AreFit C.Checkpoint stores.old dev.old self.old.slots.items }
@@ -113,7 +113,7 @@ impl Processes {
         dev: &mut C::Device,
     ) -> Result<Option<Shown>, JointFault>
         requires well { IsWell self.old }
-        requires together { is_global self.old.protocol ≡ true }
+        requires together { is_joint self.old.protocol ≡ true }
         requires process { p < length self.old.slots.items }
         requires stores { length stores.old ≡ length self.old.slots.items }
         requires own { AreOwn C.Checkpoint (length self.old.slots.items) stores.old }
@@ -167,7 +167,7 @@ impl Processes {
         shown: &mut Option<Visible>,
     ) -> Result<Mark, JointFault>
         requires well { IsWell self.old }
-        requires together { is_global self.old.protocol ≡ true }
+        requires together { is_joint self.old.protocol ≡ true }
         requires process { p < length self.old.slots.items }
         requires stores { length stores.old ≡ length self.old.slots.items }
         requires own { AreOwn C.Checkpoint (length self.old.slots.items) stores.old }
@@ -216,7 +216,7 @@ impl Processes {
         shown: &mut Option<Visible>,
     ) -> Result<Mark, JointFault>
         requires well { IsWell self.old }
-        requires together { is_global self.old.protocol ≡ true }
+        requires together { is_joint self.old.protocol ≡ true }
         requires process { turn.now.p < length self.old.slots.items }
         requires up { is_up (slot_at self.old.slots.items turn.now.p) ≡ true }
         requires stores { length stores.old ≡ length self.old.slots.items }
@@ -268,7 +268,7 @@ impl Processes {
         shown: &mut Option<Visible>,
     ) -> Result<Mark, JointFault>
         requires well { IsWell self.old }
-        requires together { is_global self.old.protocol ≡ true }
+        requires together { is_joint self.old.protocol ≡ true }
         requires process { turn.now.p < length self.old.slots.items }
         requires stores { length stores.old ≡ length self.old.slots.items }
         requires own { AreOwn C.Checkpoint (length self.old.slots.items) stores.old }

@@ -9,7 +9,7 @@ ghost use Rattle.dc_model.specs.declared.mark.Mark.TheVariants as marks;
 ghost use Rattle.dc_guest.specs.Guest.{next_of, over};
 ghost use Rattle.dc_guest.specs.Nexts.{called_by};
 ghost use Rattle.dc_proc.specs.Ups.{IsFit};
-ghost use Rattle.dc_protocols.specs.Rules.{is_global};
+ghost use Rattle.dc_protocols.specs.Rules.{is_joint};
 ghost use Rattle.dc_world.specs.Answers.{HasCallRoom};
 ghost use Rattle.dc_world.specs.Processes.{Hears, IsWell};
 ghost use Rattle.dc_world.specs.Slots.{is_up, slot_at};
@@ -58,7 +58,7 @@ impl Processes {
         shown: &mut Option<Visible>,
     ) -> Result<Mark, CheckFault>
         requires well { IsWell self.old }
-        requires alone { is_global self.old.protocol ≡ false }
+        requires alone { is_joint self.old.protocol ≡ false }
         requires process { turn.now.p < length self.old.slots.items }
         requires up { is_up (slot_at self.old.slots.items turn.now.p) ≡ true }
         requires handled { IsHandled C.Checkpoint self.old.left store.old dev.old (slot_at self.old.slots.items turn.now.p) }
@@ -103,7 +103,7 @@ impl Processes {
         shown: &mut Option<Visible>,
     ) -> Result<Mark, CheckFault>
         requires well { IsWell self.old }
-        requires alone { is_global self.old.protocol ≡ false }
+        requires alone { is_joint self.old.protocol ≡ false }
         requires process { turn.now.p < length self.old.slots.items }
         requires handled { IsHandled C.Checkpoint self.old.left store.old dev.old (slot_at self.old.slots.items turn.now.p) }
         requires form { ((C.form store.old).n ≡ length self.old.slots.items) × ((C.form store.old).p ≡ turn.now.p) }

@@ -10,7 +10,7 @@ ghost use Rattle.dc_media.specs.Sinks.{TakesWhole};
 ghost use Rattle.dc_media.specs.Told.{Becomes, TellsOn};
 ghost use Rattle.dc_model.specs.declared.entry.Entry.TheVariants as entries;
 ghost use Rattle.dc_model.specs.declared.mark.Mark.TheVariants as marks;
-ghost use Rattle.dc_protocols.specs.Rules.{is_global};
+ghost use Rattle.dc_protocols.specs.Rules.{is_joint};
 ghost use Rattle.dc_model.specs.declared.visible.Visible.{Visible as Visibles};
 ghost use Rattle.dc_world.specs.Processes.{IsWell};
 ghost use Rattle.dc_world.specs.Stages.{IsReady, KeepsTelling};
@@ -27,7 +27,7 @@ use dc_acts::{Acts, line_of};
 use dc_checkpoint::{CheckFault, Checkpoint};
 use dc_media::{Sink, SinkFailed, write_whole};
 use dc_model::{Entry, Mark, Turn, Visible};
-use dc_protocols::is_global;
+use dc_protocols::is_joint;
 use dc_twophase::{JointFault, joint_fault};
 
 /// Writes the line of what was shown, if something was. It tells how many whole lines that is.
@@ -62,7 +62,7 @@ impl<C: Checkpoint + Drop> World<C> {
         dev: &mut C::Device,
         shown: &mut Option<Visible>,
     ) -> Result<Mark, CheckFault>
-        requires alone { is_global self.old.processes.protocol ≡ false }
+        requires alone { is_joint self.old.processes.protocol ≡ false }
         requires ready { MayRun C.Checkpoint self.old dev.old }
         requires left { 0 < self.old.processes.left }
         requires process { turn.now.p < length self.old.processes.slots.items }
@@ -94,7 +94,7 @@ impl<C: Checkpoint + Drop> World<C> {
         dev: &mut C::Device,
         shown: &mut Option<Visible>,
     ) -> Result<Mark, JointFault>
-        requires together { is_global self.old.processes.protocol ≡ true }
+        requires together { is_joint self.old.processes.protocol ≡ true }
         requires ready { MayRun C.Checkpoint self.old dev.old }
         requires left { 0 < self.old.processes.left }
         requires process { turn.now.p < length self.old.processes.slots.items }
@@ -148,7 +148,7 @@ impl<C: Checkpoint + Drop> World<C> {
         ensures turned { IfOk result (λ mark. GoesOn C.Checkpoint (stage_in self.old dev.old) (later (length (lines_of shown.new)) (stage_in self.new dev.new)) (entries.Turn turn.now) mark shown.new) }
         ensures stopped { OnErr result (GoesOn C.Checkpoint (stage_in self.old dev.old) (later 0 (stage_in self.new dev.new)) (entries.Turn turn.now) marks.Stopped None) }
     {
-        if is_global(self.processes.protocol) {
+        if is_joint(self.processes.protocol) {
             return self.turn_together(turn, dev, shown);
         }
         match self.turn_alone(turn, dev, shown) {
@@ -167,7 +167,7 @@ impl<C: Checkpoint + Drop> World<C> {
         ensures long { length self.new.processes.slots.items ≡ length self.old.processes.slots.items }
         ensures turned { (dev : C.Device) → MayRun C.Checkpoint self.old dev → 0 < self.old.processes.left → GoesOn C.Checkpoint (stage_in self.old dev) (later 0 (stage_in self.new dev)) (entries.Stop p) marks.Marked None }
     {
-        if !is_global(self.processes.protocol) {
+        if !is_joint(self.processes.protocol) {
             return self.processes.stop(p, &mut self.stores[p as usize]);
         }
         self.power();

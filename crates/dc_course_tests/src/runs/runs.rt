@@ -1,7 +1,8 @@
 //! A run of a case: over memory that refuses calls, and over memory that is lent, which may do so too, with planned stops.
 
-ghost use Rattle.std.specs.Prelude.{◌≡◌, ◌<◌, ◌≤◌, All, IfOk, length};
+ghost use Rattle.std.specs.Prelude.{◌≡◌, ◌<◌, ◌≤◌, All, IfOk, false, length};
 ghost use Rattle.dc_elf.specs.Loaded.{CanStart};
+ghost use Rattle.dc_protocols.specs.Rules.{is_causal};
 ghost use Rattle.dc_world.specs.Opened.{CanOpen};
 ghost use Rattle.dc_world.specs.Worlds.{IsOfProcesses};
 
@@ -37,6 +38,7 @@ pub fn setup_for(alloc: Global, case: &str, entries: &[Entry]) -> Result<Setup, 
     ensures few { IfOk result (λ setup. length setup.images.items ≤ 8) }
     ensures inputs { IfOk result (λ setup. length setup.inputs.items ≡ length setup.images.items) }
     ensures good { IfOk result (λ setup. All CanOpen setup.images.items) }
+    ensures seven { IfOk result (λ setup. is_causal setup.protocol ≡ false) }
     ensures entries { IfOk result (λ setup. length entries.now ≤ 1000000) }
     ensures processes { IfOk result (λ setup. All (IsOfProcesses (length setup.images.items)) entries.now) }
 {

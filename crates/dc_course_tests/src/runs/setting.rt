@@ -1,7 +1,8 @@
 //! What a case begins with: its guests, their inputs, and its schedule.
 
-ghost use Rattle.std.specs.Prelude.{◌≡◌, ◌<◌, ◌≤◌, All, IfOk, length, true};
+ghost use Rattle.std.specs.Prelude.{◌≡◌, ◌<◌, ◌≤◌, All, IfOk, false, length, true};
 ghost use Rattle.dc_elf.specs.Loaded.{CanStart};
+ghost use Rattle.dc_protocols.specs.Rules.{is_causal};
 ghost use Rattle.dc_world.specs.Opened.{CanOpen};
 ghost use Rattle.dc_world.specs.Worlds.{IsOfProcesses};
 
@@ -16,7 +17,9 @@ use std::alloc::Global;
 use std::test::Fail;
 
 /// The protocol of a name.
-fn protocol(name: &str) -> Result<Protocol, Fail> {
+fn protocol(name: &str) -> Result<Protocol, Fail>
+    ensures { IfOk result (λ protocol. is_causal protocol ≡ false) }
+{
     match name {
         "cand" => Ok(Protocol::Cand),
         "cand-log" => Ok(Protocol::CandLog),
@@ -59,6 +62,7 @@ pub fn setup(alloc: Global, case: &str) -> Result<Setup, Fail>
     ensures few { IfOk result (λ setup. length setup.images.items ≤ 8) }
     ensures inputs { IfOk result (λ setup. length setup.inputs.items ≡ length setup.images.items) }
     ensures good { IfOk result (λ setup. All CanOpen setup.images.items) }
+    ensures seven { IfOk result (λ setup. is_causal setup.protocol ≡ false) }
     ensures start { IfOk result (λ setup. All CanStart setup.images.items) }
 {
     let protocol = protocol(value(case, "protocol", "cpvs"))?;

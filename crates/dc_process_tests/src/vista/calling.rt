@@ -30,7 +30,7 @@ fn reply(call: u64, code: u64, sender: u32, body: Message) -> Option<Reply> {
 }
 
 /// What an event was told: its call, answer and sender, and how many bytes its body has, behind its position.
-fn told_in(args: &[u64]) -> Result<Reply, Fail> {
+pub fn told_in(args: &[u64]) -> Result<Reply, Fail> {
     let length = (at(args, 4) as usize).min(64);
     let body = Message::new(&BODY[..length]);
     match reply(at(args, 1), at(args, 2), small(at(args, 3)), body) {
@@ -61,7 +61,7 @@ fn numbers_of(told: &Reply) -> [u64; 4] {
 }
 
 /// Tells an event: its position, call, answer and sender, and how many bytes its body has.
-fn tell(rec: &LogRecord, list: &mut Vec<u64>) -> Result<(), Fail> {
+pub fn tell(rec: &LogRecord, list: &mut Vec<u64>) -> Result<(), Fail> {
     list.push(u64::from(rec.position))?;
     list.extend_from_slice(&numbers_of(&rec.told))?;
     Ok(())

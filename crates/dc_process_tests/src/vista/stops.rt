@@ -54,7 +54,7 @@ fn refusal(alloc: Global, call: u64, how: &str) -> Result<ListedCall, Fail> {
 }
 
 /// A store that is as a case says before its call is tried.
-fn begun<T: Trial>(alloc: Global, case: &str, listed: Vec<ListedCall>) -> Result<T, Fail>
+pub fn begun<T: Trial>(alloc: Global, case: &str, listed: Vec<ListedCall>) -> Result<T, Fail>
     ensures { IfOk result T.fits }
 {
     match made_of::<T>(alloc, case, listed)? {
@@ -67,7 +67,7 @@ fn begun<T: Trial>(alloc: Global, case: &str, listed: Vec<ListedCall>) -> Result
 }
 
 /// What is read under a decided number, or under the one that the store itself holds.
-fn read<T: Trial>(trial: &mut T, alloc: Global, under: &str) -> Result<Vec<u64>, Fail>
+pub fn read<T: Trial>(trial: &mut T, alloc: Global, under: &str) -> Result<Vec<u64>, Fail>
     requires { T.fits trial.old }
     ensures { T.fits trial.new }
 {

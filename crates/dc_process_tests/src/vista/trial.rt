@@ -76,7 +76,53 @@ fn is_list(alloc: Global, got: &[u64], want: &str, what: &str) -> Result<(), Fai
 }
 
 /// What begins a line of a case that tells no call.
-const KEYS: [&str; 6] = ["segment ", "try ", "calls ", "under ", "old ", "new "];
+const KEYS: [&str; 12] = [
+    "segment ", "try ", "calls ", "under ", "half ", "old ", "new ", "from ", "until ", "by ",
+    "image ", "stop ",
+];
+
+/// So many calls alike, each with this answer.
+fn answer_times<T: Trial>(
+    trial: &mut T,
+    alloc: Global,
+    call: &str,
+    want: &str,
+    count: u32,
+) -> Result<(), Fail>
+    requires { T.fits trial.old }
+    ensures { T.fits trial.new }
+{
+    for k in 0..count {
+        answers(trial, alloc, call, want)?;
+    }
+    Ok(())
+}
+
+/// Stores to each line of a page, and changes no word.
+fn touch<T: Trial>(trial: &mut T, alloc: Global) -> Result<(), Fail>
+    requires { T.fits trial.old }
+    ensures { T.fits trial.new }
+{
+    for k in 0..64 {
+        let answer = trial.call(alloc, "store", &[16 * k, 0, 0])?;
+        holds(answer.as_slice() == [0].as_slice(), "a store")?;
+    }
+    Ok(())
+}
+
+/// A call answers these numbers; it may have `N times` before it. `touch` stores to each line of a page, and changes no word.
+fn told_holds<T: Trial>(trial: &mut T, alloc: Global, call: &str, want: &str) -> Result<(), Fail>
+    requires { T.fits trial.old }
+    ensures { T.fits trial.new }
+{
+    if call == "touch" {
+        return touch(trial, alloc);
+    }
+    match call.split_once(" times ") {
+        Some((count, call)) => answer_times(trial, alloc, call, want, count.parse::<u32>()?),
+        None => answers(trial, alloc, call, want),
+    }
+}
 
 /// A line of a case: a call with its answer, or one that begins with a key.
 fn line_holds<T: Trial>(trial: &mut T, alloc: Global, line: &str) -> Result<(), Fail>
@@ -84,7 +130,7 @@ fn line_holds<T: Trial>(trial: &mut T, alloc: Global, line: &str) -> Result<(), 
     ensures { T.fits trial.new }
 {
     match line.split_once(" = ") {
-        Some((call, want)) => answers(trial, alloc, call, want),
+        Some((call, want)) => told_holds(trial, alloc, call, want),
         None => holds(KEYS.iter().any(|key| line.starts_with(*key)), line),
     }
 }

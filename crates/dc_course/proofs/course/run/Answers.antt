@@ -3,17 +3,18 @@ use Rattle.std.proofs.lemmas.List.{length-map}
 use Rattle.dc_course.proofs.Between.{tells_on}
 use Rattle.dc_course.proofs.Counting.{sum_later, sum_rises}
 use Rattle.dc_course.proofs.Ups.{up_in, up_past, up_there, up_together}
-use Rattle.dc_course.proofs.Steps.{now_world}
-use Rattle.dc_course.proofs.Whole.{course_is, ending_broken, ending_whole, opened_running, told_at, up_as}
+use Rattle.dc_course.proofs.Steps.{now_world, sound}
+use Rattle.dc_course.proofs.Whole.{course_is, ending_broken, ending_whole, begun_running, told_at, up_as}
 use Rattle.dc_course.specs.Headline.{AreUpAlike, IsCalledOn, IsEnding, Last, PlannedCome, Setting, StopsCome, StopsTold, counted_with, late, system_in, unplanned}
 use Rattle.dc_course.specs.Headline.Last.{Whole}
 use Rattle.dc_course.specs.Courses.{IsCourse, StoresLeft, TellsThroughout, account_of, counts_of, setting_of}
-use Rattle.dc_course.specs.Running.{IsEnded, IsRunning, IsSettingOf, moment_of, output}
+use Rattle.dc_course.specs.Running.{CanBegin, IsEnded, IsRunning, IsSettingOf, moment_of, output}
 use Rattle.dc_course.specs.declared.course.Course.{Course}
 use Rattle.dc_course.specs.declared.ending.Ending.{Ending}
 use Rattle.dc_guest.specs.Guest.{guests_of}
 use Rattle.dc_elf.specs.Loaded.{seen_image}
-use Rattle.dc_recovery.specs.Core.{Core}
+use Rattle.dc_recovery.proofs.Ends.{holds_opened}
+use Rattle.dc_recovery.specs.Core.{Core, opened_core}
 use Rattle.dc_world.specs.Ended.{HaveEnded}
 use Rattle.dc_world.specs.Slots.{is_up, slot_at}
 use Rattle.dc_world.specs.Stages.{IsTold}
@@ -59,6 +60,14 @@ up_beyond g c below p high =
     let long = length-map c.args.setup.images.items seen_image in
     up_past c.args.setup.protocol (length c.args.setup.images.items) c.in-Ok.world.processes.slots.items (up_is g c 0 c.requires.some) (below 0 (subst (λ n. 0 < n) (sym long) c.requires.some)) p (subst (λ n. n ≤ p) long high)
 
+-- the core where it begins
+abbrev start : (g : Over) → goal.After-course g → Core
+start g c = opened_core (up g c)
+
+-- where the invariant holds
+can_begin : (g : Over) (c : goal.After-course g) → CanBegin (given g c) (start g c)
+can_begin g c = holds_opened (system_in (given g c)) (sound (given g c)) (given g c).schedule (up g c) (up_alike g c)
+
 -- it was told when it was opened
 told_opened : (g : Over) (c : goal.After-course g) → TellsThroughout g.C.Checkpoint (length c.args.setup.images.items) c.args.dev.now c.run.new.dev → IsTold g.C.Checkpoint (stage_in c.in-Ok.world c.open.new.dev)
 told_opened g c tells = told_at g.C.Checkpoint (length c.args.setup.images.items) c.args.dev.now c.run.new.dev (stage_in c.in-Ok.world c.open.new.dev) c.in-Ok.ensures.begins.slots_long tells c.open.ensures.tells c.run.ensures.later
@@ -70,11 +79,11 @@ told_ended g c tells = told_at g.C.Checkpoint (length c.args.setup.images.items)
 
 -- it began
 begun : (g : Over) (c : goal.After-course g) → TellsThroughout g.C.Checkpoint (length c.args.setup.images.items) c.args.dev.now c.run.new.dev
-    → IsRunning g.C.Checkpoint (given g c) (up g c) (stage_in c.in-Ok.world c.open.new.dev) c.in_ok-marks.marks.items (output (g.O.Sink.held c.args.out.now) (g.O.Sink.held c.args.out.now))
-begun g c tells = opened_running g.C.Checkpoint (given g c) (up g c) (stage_in c.in-Ok.world c.open.new.dev) c.in_ok-marks.marks.items (g.O.Sink.held c.args.out.now)
+    → IsRunning g.C.Checkpoint (given g c) (start g c) (stage_in c.in-Ok.world c.open.new.dev) c.in_ok-marks.marks.items (output (g.O.Sink.held c.args.out.now) (g.O.Sink.held c.args.out.now))
+begun g c tells = begun_running g.C.Checkpoint (given g c) (start g c) (stage_in c.in-Ok.world c.open.new.dev) c.in_ok-marks.marks.items (g.O.Sink.held c.args.out.now)
     c.in-Ok.ensures.begins.protocol_is c.in-Ok.ensures.begins.inputs_are c.in-Ok.ensures.begins.entries_are c.in_ok-marks.ensures.items
     (up_as g.C.Checkpoint (system_in (given g c)) (stage_in c.in-Ok.world c.open.new.dev) (λ p. is_up (slot_at c.in-Ok.world.processes.slots.items p)) (up g c)
-    (λ p inside. up_is g c p (subst (λ n. p < n) (length-map c.args.setup.images.items seen_image) inside)) (c.in-Ok.ensures.opened (told_opened g c tells)))
+    (λ p inside. up_is g c p (subst (λ n. p < n) (length-map c.args.setup.images.items seen_image) inside)) (c.in-Ok.ensures.opened c.requires.seven (told_opened g c tells)))
 
 -- the stops of a process that are not planned, and of those that stop with it
 abbrev stops : (g : Over) → goal.After-course g → (ℕ → ℕ) → ℕ → ℕ
@@ -105,9 +114,9 @@ late_told g c tells p less false is =
     let rises = sum_rises (given g c).protocol p (g.C.Planned.unplanned c.args.dev.now) (g.C.Planned.unplanned c.open.new.dev) (λ r. g.met.C.Planned.unplanned_later c.args.dev.now c.open.new.dev r (opened_lasts g c)) q stop.2 rose
     (length (given g c).images) (subst (λ n. q < n) (sym (length-map c.args.setup.images.items seen_image)) stop.1) in omega (arith, rises)
 
--- the world that was opened is one of what the run was given
-setting_is : (g : Over) (c : goal.After-course g) → IsSettingOf c.in-Ok.world (given g c)
-setting_is g c = record { protocol_is = sym c.in-Ok.ensures.begins.protocol_is; images_long = length-map c.args.setup.images.items seen_image ∙ sym c.in-Ok.ensures.begins.slots_long }
+-- the run that was opened is one of what it was given
+setting_is : (g : Over) (c : goal.After-course g) → IsSettingOf (record { world = c.in-Ok.world; marks = c.in_ok-marks.marks; from = 0 }) (given g c)
+setting_is g c = record { protocol_is = sym c.in-Ok.ensures.begins.protocol_is; images_long = length-map c.args.setup.images.items seen_image ∙ sym c.in-Ok.ensures.begins.slots_long; from_is = refl }
 
 -- the stops that no plan lists
 stops_told : (g : Over) (c : goal.After-course g) → TellsThroughout g.C.Checkpoint (length c.args.setup.images.items) c.args.dev.now c.run.new.dev
@@ -137,7 +146,7 @@ planned_come g c last p called = record {
 
 -- its last entry went so, and it ended so
 course : (g : Over) (c : goal.After-course g) (tells : TellsThroughout g.C.Checkpoint (length c.args.setup.images.items) c.args.dev.now c.run.new.dev) (ending : Ending) → c.match-run.ending ≡ ending → (last : Last)
-    (ended : IsEnded g.C.Checkpoint (given g c) (up g c) (stage_in c.run.new.self.world c.run.new.dev) c.run.new.self.marks.items last (output (g.O.Sink.held c.args.out.now) (g.O.Sink.held c.run.new.out)))
+    (ended : IsEnded g.C.Checkpoint (given g c) (start g c) (stage_in c.run.new.self.world c.run.new.dev) c.run.new.self.marks.items last (output (g.O.Sink.held c.args.out.now) (g.O.Sink.held c.run.new.out)))
     → IsEnding (given g c) ending c.run.new.self.marks.items last ended.core → ((p : ℕ) → p < length (given g c).images → Called g c last p)
     → IsCourse (given g c) (account_of c.course.result) c.course.result.ending (output (g.O.Sink.held c.args.out.now) (g.O.Sink.held c.run.new.out)) (counts_of g.C.Planned.unplanned g.C.Planned.calls c.args.dev.now c.run.new.dev)
     (λ core. StoresLeft g.C.Checkpoint (given g c) core c.run.new.dev)
@@ -148,7 +157,7 @@ course g c tells ending same last ended is called =
     let left = (λ (core : Core). StoresLeft g.C.Checkpoint (given g c) core c.run.new.dev) in
     subst (λ (o : Course). IsCourse (given g c) (account_of o) o.ending out counts left) (sym c.course.ensures)
     (subst (λ e. IsCourse (given g c) (record { acts = w.processes.acts.items; marks = c.run.new.self.marks.items; lines = w.processes.lines }) e out counts left) (sym same)
-    (course_is g.C.Checkpoint (given g c) (up g c) (up_alike g c) w.stores.items c.run.new.dev w.processes c.run.new.self.marks.items last out ended c.run.ensures.ready
+    (course_is g.C.Checkpoint (given g c) (up g c) (up_alike g c) refl w.stores.items c.run.new.dev w.processes c.run.new.self.marks.items last out ended c.run.ensures.ready
     (c.run.ensures.long ∙ c.in-Ok.ensures.begins.slots_long ∙ sym (length-map c.args.setup.images.items seen_image)) (up_beyond g c) counts ending is (stops_told g c tells) (λ p less. planned_come g c last p (called p less))))
 
 pub returns-clause-headline : goal.returns-clause-headline
@@ -158,15 +167,15 @@ returns-clause-headline g c tells = elim c.match-run.branch [
       let out = output (g.O.Sink.held c.args.out.now) (g.O.Sink.held c.run.new.out) in
       let marks = c.run.new.self.marks.items in
       let images = (given g c).images in
-      let r : IsRunning g.C.Checkpoint (given g c) (up g c) x marks out = w.in-Ok-run.ensures.runs_on (given g c) (up g c) (g.O.Sink.held c.args.out.now) (up_alike g c) refl (told_opened g c tells) (told_ended g c tells) (begun g c tells) in
-      let have = w.ended.ensures.core c.run.new.dev images r.core c.run.ensures.ready (now_world g.C.Checkpoint (given g c) (up g c) (up_alike g c) x marks out r) in
-      let came = ending_whole g.C.Checkpoint (given g c) (up g c) (moment_of c.run.new.self c.run.new.dev (g.O.Sink.held c.run.new.out)) (g.O.Sink.held c.args.out.now) w.ended.result r
-      (subst (λ i. HaveEnded w.ended.result (guests_of images i) r.core) r.of.inputs_are have) w.in-Ok-run.ensures.used in
+      let r : IsRunning g.C.Checkpoint (given g c) (start g c) x marks out = w.in-Ok-run.ensures.runs_on (given g c) (start g c) (g.O.Sink.held c.args.out.now) (can_begin g c) refl (told_opened g c tells) (told_ended g c tells) (begun g c tells) in
+      let have = w.ended.ensures.core c.run.new.dev images r.core c.run.ensures.ready (now_world g.C.Checkpoint (given g c) (start g c) (can_begin g c) x marks out r) in
+      let came = ending_whole g.C.Checkpoint (given g c) (start g c) (moment_of c.run.new.self c.run.new.dev (g.O.Sink.held c.run.new.out)) (g.O.Sink.held c.args.out.now) w.ended.result r
+      (subst (λ i. HaveEnded w.ended.result (guests_of images i) r.core) r.of.inputs_are have) (let used = w.in-Ok-run.ensures.used in omega (arith, used)) in
       course g c tells _ (w.ending-is ∙ w.ended-ending.ensures) came.last came.ended came.is
       (λ p less. let own = inside g c p less in let come = w.in-Ok-run.ensures.come (given g c) p less (setting_is g c) (plan_kept g c) refl (tells.stops p own) (tells.faults p own) in record { made = come.0; on = come.1; later = come.2; whole = λ e. come.3 refl }))
   | in-Err-run w ↦ (
-      let came = ending_broken g.C.Checkpoint (given g c) (up g c) (moment_of c.run.new.self c.run.new.dev (g.O.Sink.held c.run.new.out)) (g.O.Sink.held c.args.out.now) w.in-Err-run.fault
-      (w.in-Err-run.ensures.runs_off w.in-Err-run.fault refl (given g c) (up g c) (g.O.Sink.held c.args.out.now) (up_alike g c) refl (told_opened g c tells) (told_ended g c tells) (begun g c tells)) in
+      let came = ending_broken g.C.Checkpoint (given g c) (start g c) (moment_of c.run.new.self c.run.new.dev (g.O.Sink.held c.run.new.out)) (g.O.Sink.held c.args.out.now) w.in-Err-run.fault
+      (w.in-Err-run.ensures.runs_off w.in-Err-run.fault refl (given g c) (start g c) (g.O.Sink.held c.args.out.now) (can_begin g c) refl (told_opened g c tells) (told_ended g c tells) (begun g c tells)) in
       course g c tells _ (w.ending-is ∙ w.ended_by-ending.ensures) came.last came.ended came.is
       (λ p less. let own = inside g c p less in let come = w.in-Err-run.ensures.come (given g c) p less (setting_is g c) (plan_kept g c) refl (tells.stops p own) (tells.faults p own) in record { made = come.0; on = come.1; later = come.2; whole = λ e. absurd (came.broken e) }))
 ]

@@ -1,4 +1,5 @@
-use Rattle.dc_run.proofs.Checks.{acts_below, acts_few}
+use Rattle.dc_run.proofs.Checks.{acts_below}
+use Rattle.dc_shows.proofs.Lists.{acts_few}
 use Rattle.dc_run.proofs.checking.report_at.Goals as goal
 
 pub returns-in-Ok-clause-processes : goal.returns-in-Ok-clause-processes

@@ -2,9 +2,12 @@ use Rattle.std.proofs.Common.{All, Ok, ◌≡◌, ◌∙◌, ◌++◌, ◌∷◌
 use Rattle.std.proofs.lemmas.List.{map-append}
 use Rattle.std.proofs.lemmas.List.Elements.{All-append, All-cons, All-nil}
 use Rattle.std.proofs.lemmas.Result.{err_from_is_err_and}
+use Rattle.std.specs.List.{AllByRecursion}
 use Rattle.dc_elf.specs.Loaded.{seen_image}
+use Rattle.dc_shows.specs.Typed.{IsImage}
 use Rattle.dc_world.specs.Opened.{CanOpen}
 use Rattle.dc_run.specs.declared.refusal.Refusal.TheVariants.{Library}
+use Rattle.dc_shows.proofs.Lists.{all_both}
 use Rattle.dc_run.proofs.Openings.{guest_added, guest_asked, guest_stops, same_refusal, told_on}
 use Rattle.dc_run.proofs.opening.load_guests.Goals as goal
 
@@ -31,6 +34,8 @@ loop-name-preserved g c = let pushed : c.push.new.self.items ≡ c.loop-name.ima
       (c.in_ok-image.ensures.told files (c.loop-name.invariant.files ∙ known))
       ∙ ap (λ (all : _). Ok all) (sym (map-append seen_image c.loop-name.images.items (c.in_ok-image.image ∷ [])) ∙ ap (map seen_image) (sym pushed));
   good = subst (All CanOpen) (sym pushed) (All-append CanOpen c.loop-name.images.items (c.in_ok-image.image ∷ []) c.loop-name.invariant.good (All-cons CanOpen c.in_ok-image.image [] c.in_ok-image.ensures.good (All-nil CanOpen)));
+  typed = subst (λ xs. AllByRecursion IsImage xs) (sym (map-append seen_image c.loop-name.images.items (c.in_ok-image.image ∷ [])) ∙ ap (map seen_image) (sym pushed))
+      (all_both IsImage (map seen_image c.loop-name.images.items) (seen_image c.in_ok-image.image ∷ []) c.loop-name.invariant.typed (c.in_ok-image.ensures.typed, tt));
   count = search rules;
   files = search rules;
   library = search rules;

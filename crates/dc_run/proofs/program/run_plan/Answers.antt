@@ -1,14 +1,16 @@
-use Rattle.std.proofs.Common.{◌∙◌, Result, ap, length, subst}
-use Rattle.dc_acts.specs.Reports.{report_text}
-use Rattle.dc_run.specs.Headline.{Reports, course}
+use Rattle.std.proofs.Common.{◌∙◌, Result, ap, inl, length, subst, sym}
+use Rattle.std.proofs.lemmas.Bool.{true≢false}
+use Rattle.dc_course.specs.Segments.{TellsStores}
+use Rattle.dc_run.specs.Passing.{WritesPassing}
+use Rattle.dc_run.proofs.Passed.{run_passes, sink_ending}
+use Rattle.dc_run.specs.Headline.{course, loan}
 use Rattle.dc_run.specs.Opening.{opening_of}
-use Rattle.dc_run.specs.Outcomes.{status_of}
 use Rattle.dc_run.specs.Refusals.{as_verdict, verdict_of}
-use Rattle.dc_run.specs.declared.outcome.Outcome.{Outcome}
 use Rattle.dc_run.specs.declared.refusal.Refusal.{Refusal}
-use Rattle.dc_run.specs.Settings.{setting_of}
-use Rattle.dc_run.proofs.Works.{exact_work, for_known, refused_exact, told_verdict}
-use Rattle.dc_run.proofs.Headlines.{reported_for, reported_so, with_report}
+use Rattle.dc_run.specs.Commands.{IsOpenedFor}
+use Rattle.dc_run.specs.Settings.{may_have_run, setting_of}
+use Rattle.dc_run.proofs.Works.{closed_refusal, exact_work, for_known, opened_work, refused_exact, refused_work, told_verdict}
+use Rattle.dc_run.proofs.Headlines.{opened_so, reported_for, reported_may, reported_so, run_report, with_report}
 use Rattle.dc_run.proofs.program.run_plan.Goals as goal
 
 pub returns-in-Ok-run_setting-clause-headline : goal.returns-in-Ok-run_setting-clause-headline
@@ -28,5 +30,32 @@ returns-in-Err-clause-refused g c refusal is = for_known _ (λ files here. refus
 pub returns-in-Ok-run_setting-clause-refused : goal.returns-in-Ok-run_setting-clause-refused
 returns-in-Ok-run_setting-clause-refused g c refusal is = for_known _ (λ files here. exact_work c.reported.result.verdict refusal (as_verdict (opening_of files c.args.plan.now)) (setting_of c.in-Ok.setting) is
     (ap (λ (r : Result _ Refusal). as_verdict r) (c.in-Ok.ensures.told files here))
-    (reported_so c.in-Ok-run_setting.course.ending c.reported.result.verdict _ _ (subst (λ (o : Outcome). Reports o.verdict c.reported.result.verdict (report_text (status_of o.verdict) (length o.marks.items) o.acts.items o.lines)
-    (course (g.R.Sink.held c.args.report.now) (g.R.Sink.held c.reported.new.report) (g.R.Sink.faults c.args.report.now) (g.R.Sink.faults c.reported.new.report))) c.outcome_of.ensures c.reported.ensures.reports)))
+    (reported_so c.in-Ok-run_setting.course.ending c.reported.result.verdict _ _ (run_report c.in-Ok-run_setting.course c.outcome_of.result c.reported.result.verdict
+    (course (g.R.Sink.held c.args.report.now) (g.R.Sink.held c.reported.new.report) (g.R.Sink.faults c.args.report.now) (g.R.Sink.faults c.reported.new.report)) c.outcome_of.ensures c.reported.ensures.reports)))
+
+pub returns-in-Err-clause-opened : goal.returns-in-Err-clause-opened
+returns-in-Err-clause-opened g c = for_known _ (λ files here. subst (λ v. IsOpenedFor (λ setting u. may_have_run u) v (as_verdict (opening_of files c.args.plan.now))) (sym (c.idle.ensures.verdict ∙ c.verdict_of.ensures))
+    (refused_work (λ setting u. may_have_run u) (verdict_of c.in-Err.refusal) (as_verdict (opening_of files c.args.plan.now)) (closed_refusal c.in-Err.refusal) (told_verdict c.in-Err.refusal (opening_of files c.args.plan.now) (c.in-Err.ensures.told files here))))
+
+pub returns-in-Ok-run_setting-clause-opened : goal.returns-in-Ok-run_setting-clause-opened
+returns-in-Ok-run_setting-clause-opened g c = for_known _ (λ files here. opened_work (λ setting u. may_have_run u) c.reported.result.verdict (as_verdict (opening_of files c.args.plan.now)) (setting_of c.in-Ok.setting)
+    (ap (λ (r : Result _ Refusal). as_verdict r) (c.in-Ok.ensures.told files here))
+    (inl (reported_may c.in-Ok-run_setting.course.ending c.reported.result.verdict _ _ (run_report c.in-Ok-run_setting.course c.outcome_of.result c.reported.result.verdict
+    (course (g.R.Sink.held c.args.report.now) (g.R.Sink.held c.reported.new.report) (g.R.Sink.faults c.args.report.now) (g.R.Sink.faults c.reported.new.report)) c.outcome_of.ensures c.reported.ensures.reports))))
+
+pub returns-in-Ok-run_setting-clause-keeps_refused : goal.returns-in-Ok-run_setting-clause-keeps_refused
+returns-in-Ok-run_setting-clause-keeps_refused g c closed no_memory = absurd (true≢false (sym (reported_may c.in-Ok-run_setting.course.ending c.reported.result.verdict _ _
+    (run_report c.in-Ok-run_setting.course c.outcome_of.result c.reported.result.verdict
+    (course (g.R.Sink.held c.args.report.now) (g.R.Sink.held c.reported.new.report) (g.R.Sink.faults c.args.report.now) (g.R.Sink.faults c.reported.new.report)) c.outcome_of.ensures c.reported.ensures.reports)) ∙ closed))
+
+pub returns-in-Ok-run_setting-clause-passes : goal.returns-in-Ok-run_setting-clause-passes
+returns-in-Ok-run_setting-clause-passes g c ran =
+    let setting = setting_of c.in-Ok.setting in
+    let out = course (g.O.Sink.held c.args.out.now) (g.O.Sink.held c.run_setting.new.out) (g.O.Sink.faults c.args.out.now) (g.O.Sink.faults c.run_setting.new.out) in
+    let report = course (g.R.Sink.held c.args.report.now) (g.R.Sink.held c.reported.new.report) (g.R.Sink.faults c.args.report.now) (g.R.Sink.faults c.reported.new.report) in
+    let lent = loan c.args.keeps.now c.run_setting.new.keeps in
+    let reports = run_report c.in-Ok-run_setting.course c.outcome_of.result c.reported.result.verdict report c.outcome_of.ensures c.reported.ensures.reports in
+    opened_so (g.L.Library.files c.args.lib.now) c.args.plan.now setting (λ s. TellsStores g.K.Keeps (length s.images) c.args.keeps.now c.run_setting.new.keeps → WritesPassing s out report c.reported.result.acts.items) c.in-Ok.ensures.told
+    (λ tells calm calm' empty empty' shown listed at at'. run_passes g.K.Keeps setting c.reported.result lent out report c.in-Ok.ensures.given
+    (with_report g.K.Keeps setting c.in-Ok-run_setting.course c.outcome_of.result c.reported.result lent out report c.outcome_of.ensures c.in-Ok-run_setting.ensures.headline c.reported.ensures.reports c.reported.ensures.acts c.reported.ensures.marks c.reported.ensures.lines)
+    tells calm calm' (λ e. c.in-Ok-run_setting.ensures.sink (sink_ending c.in-Ok-run_setting.course.ending c.reported.result.verdict _ report reports e)) empty empty' shown listed at at')

@@ -1,6 +1,6 @@
 use Rattle.std.proofs.Common.{◌+◌, ◌∙◌, ap, arith, length, refl, slice_get, subst, sym}
 use Rattle.std.proofs.lemmas.Option.{slice_get-get_or}
-use Rattle.dc_course.proofs.Between.{counted_twice, later_on, runs_more, runs_off, tells_on}
+use Rattle.dc_course.proofs.Between.{counted_twice, entry_at, later_on, runs_more, runs_off, tells_on}
 use Rattle.dc_course.proofs.Partaking.{setting_kept}
 use Rattle.dc_course.specs.Headline.{IsCalledOn}
 use Rattle.dc_course.specs.Running.{moment_of}
@@ -22,14 +22,15 @@ returns-in-Err-clause-stops g c setting p of planned is below =
     let mid = c.loop-entry.dev in
     counted_twice setting p c.args.self.now.marks.items c.loop-entry.self.marks.items c.turn.new.self.marks.items _ _ _
     (c.loop-entry.invariant.stops setting p of planned is (λ q less. let l = c.turn.ensures.later q in let small = below q less in omega (arith, l.0, small)))
-    (c.turn.ensures.stops setting p (setting_kept c.args.self.now.world c.loop-entry.self.world setting of c.loop-entry.invariant.protocol c.loop-entry.invariant.long) (planned ∙ sym (g.met.C.Planned.planned_same c.args.dev.now mid c.loop-entry.invariant.lasts))
-    (ap (λ s. slice_get s (length c.loop-entry.self.marks.items)) is ∙ ap (slice_get c.args.schedule.now) c.loop-entry.invariant.marks ∙ slice_get-get_or c.args.schedule.now c.loop-entry.entry-index _ c.loop-entry-test.true) below)
+    (c.turn.ensures.stops setting p (setting_kept c.args.self.now c.loop-entry.self setting of c.loop-entry.invariant.protocol c.loop-entry.invariant.long c.loop-entry.invariant.from) (planned ∙ sym (g.met.C.Planned.planned_same c.args.dev.now mid c.loop-entry.invariant.lasts))
+    (entry_at setting c.args.schedule.now (length c.loop-entry.self.marks.items) _ is (ap (slice_get c.args.schedule.now) c.loop-entry.invariant.marks ∙ slice_get-get_or c.args.schedule.now c.loop-entry.entry-index _ c.loop-entry-test.true)) below)
 
 pub loop-entry-preserved : goal.loop-entry-preserved
 loop-entry-preserved g c = record {
   ready = c.turn.ensures.ready;
   protocol = c.turn.ensures.protocol ∙ c.loop-entry.invariant.protocol;
   long = c.turn.ensures.long ∙ c.loop-entry.invariant.long;
+  from = c.turn.ensures.from ∙ c.loop-entry.invariant.from;
   marks = c.in-Ok.ensures.marked ∙ ap (λ n. n + 1) c.loop-entry.invariant.marks;
   left = (let one = c.turn.ensures.left in let some = c.loop-entry.invariant.left in omega (arith, one, some));
   room = (let before = c.loop-entry.invariant.room in let more = c.turn.ensures.room in omega (arith, before, more));
@@ -40,10 +41,10 @@ loop-entry-preserved g c = record {
   lasts = g.met.C.Planned.lasts_on c.args.dev.now c.loop-entry.dev c.turn.new.dev c.loop-entry.invariant.lasts c.turn.ensures.lasts;
   stops = λ setting p of planned is below. counted_twice setting p c.args.self.now.marks.items c.loop-entry.self.marks.items c.turn.new.self.marks.items _ _ _
       (c.loop-entry.invariant.stops setting p of planned is (λ q less. let l = c.turn.ensures.later q in let small = below q less in omega (arith, l.0, small)))
-      (c.turn.ensures.stops setting p (setting_kept c.args.self.now.world c.loop-entry.self.world setting of c.loop-entry.invariant.protocol c.loop-entry.invariant.long) (planned ∙ sym (g.met.C.Planned.planned_same c.args.dev.now c.loop-entry.dev c.loop-entry.invariant.lasts))
-      (ap (λ s. slice_get s (length c.loop-entry.self.marks.items)) is ∙ ap (slice_get c.args.schedule.now) c.loop-entry.invariant.marks ∙ slice_get-get_or c.args.schedule.now c.loop-entry.entry-index _ c.loop-entry-test.true) below);
-  comes = λ setting p inside of planned is below sound before come. c.in-Ok.ensures.comes setting p inside (setting_kept c.args.self.now.world c.loop-entry.self.world setting of c.loop-entry.invariant.protocol c.loop-entry.invariant.long) (planned ∙ sym (g.met.C.Planned.planned_same c.args.dev.now c.loop-entry.dev c.loop-entry.invariant.lasts))
-      (ap (λ s. slice_get s (length c.loop-entry.self.marks.items)) is ∙ ap (slice_get c.args.schedule.now) c.loop-entry.invariant.marks ∙ slice_get-get_or c.args.schedule.now c.loop-entry.entry-index _ c.loop-entry-test.true) below sound before
+      (c.turn.ensures.stops setting p (setting_kept c.args.self.now c.loop-entry.self setting of c.loop-entry.invariant.protocol c.loop-entry.invariant.long c.loop-entry.invariant.from) (planned ∙ sym (g.met.C.Planned.planned_same c.args.dev.now c.loop-entry.dev c.loop-entry.invariant.lasts))
+      (entry_at setting c.args.schedule.now (length c.loop-entry.self.marks.items) _ is (ap (slice_get c.args.schedule.now) c.loop-entry.invariant.marks ∙ slice_get-get_or c.args.schedule.now c.loop-entry.entry-index _ c.loop-entry-test.true)) below);
+  comes = λ setting p inside of planned is below sound before come. c.in-Ok.ensures.comes setting p inside (setting_kept c.args.self.now c.loop-entry.self setting of c.loop-entry.invariant.protocol c.loop-entry.invariant.long c.loop-entry.invariant.from) (planned ∙ sym (g.met.C.Planned.planned_same c.args.dev.now c.loop-entry.dev c.loop-entry.invariant.lasts))
+      (entry_at setting c.args.schedule.now (length c.loop-entry.self.marks.items) _ is (ap (slice_get c.args.schedule.now) c.loop-entry.invariant.marks ∙ slice_get-get_or c.args.schedule.now c.loop-entry.entry-index _ c.loop-entry-test.true)) below sound before
       (let l = c.turn.ensures.later p in c.loop-entry.invariant.comes setting p inside of planned is (omega (arith, l.0, below)) (omega (arith, l.1, sound)) before come);
   planned = λ p. let before = c.loop-entry.invariant.planned p in let more = c.turn.ensures.once p in omega (arith, before, more);
   later = later_on g.C.Checkpoint c.args.dev.now c.loop-entry.dev c.turn.new.dev c.loop-entry.invariant.later c.turn.ensures.later;

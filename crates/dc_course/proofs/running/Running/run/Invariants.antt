@@ -1,7 +1,7 @@
 use Rattle.std.proofs.Common.{◌≡◌, ◌-◌, ◌^◌, ◌≤◌, ◌<◌, ◌+◌, ℕ, length}
 use Rattle.dc_course.proofs.Between.{Later}
 use Rattle.dc_course.specs.Headline.{IsCalledOn, IsCountedOn, Setting}
-use Rattle.dc_course.specs.Running.{IsSettingOf, RunsOn, moment_of}
+use Rattle.dc_course.specs.Running.{IsRest, IsSettingOf, RunsOn, moment_of}
 use Rattle.dc_media.specs.Told.{TellsOn}
 use Rattle.dc_world.specs.Stages.{KeepsTelling}
 use Rattle.dc_world.specs.Worlds.{MayRun}
@@ -13,14 +13,15 @@ invariant-loop-entry g l = let O = g.O.Sink in let C = g.C.Checkpoint in record 
   ready : MayRun C l.self.world l.dev;
   protocol : l.self.world.processes.protocol ≡ l.fn.self.world.processes.protocol;
   long : length l.self.world.processes.slots.items ≡ length l.fn.self.world.processes.slots.items;
+  from : l.self.from ≡ l.fn.self.from;
   marks : length l.self.marks.items ≡ l.entry-index;
   left : length l.schedule - l.entry-index ≤ l.self.world.processes.left;
   room : l.fn.self.marks.room ≤ l.self.marks.room;
   runs : RunsOn C l.schedule (moment_of l.fn.self l.fn.dev (O.held l.fn.out)) (moment_of l.self l.dev (O.held l.out));
   lasts : g.C.Planned.lasts l.fn.dev l.dev;
-  stops : (setting : Setting) (p : ℕ) → IsSettingOf l.fn.self.world setting → setting.stops ≡ g.C.Planned.planned l.fn.dev → setting.schedule ≡ l.schedule → ((q : ℕ) → q < length setting.images → C.stops l.dev q < 2 ^ 64 - 1)
+  stops : (setting : Setting) (p : ℕ) → IsSettingOf l.fn.self setting → setting.stops ≡ g.C.Planned.planned l.fn.dev → IsRest setting l.schedule → ((q : ℕ) → q < length setting.images → C.stops l.dev q < 2 ^ 64 - 1)
       → IsCountedOn setting p l.fn.self.marks.items l.self.marks.items (g.C.Planned.unplanned l.fn.dev) (g.C.Planned.unplanned l.dev);
-  comes : (setting : Setting) (p : ℕ) → p < length setting.images → IsSettingOf l.fn.self.world setting → setting.stops ≡ g.C.Planned.planned l.fn.dev → setting.schedule ≡ l.schedule → C.stops l.dev p < 2 ^ 64 - 1 → C.faults l.dev p < 2 ^ 64 - 1
+  comes : (setting : Setting) (p : ℕ) → p < length setting.images → IsSettingOf l.fn.self setting → setting.stops ≡ g.C.Planned.planned l.fn.dev → IsRest setting l.schedule → C.stops l.dev p < 2 ^ 64 - 1 → C.faults l.dev p < 2 ^ 64 - 1
       → IsCalledOn setting p l.fn.self.marks.items l.self.marks.items (g.C.Planned.calls l.fn.dev p) (g.C.Planned.calls l.dev p);
   planned : (p : ℕ) → C.stops l.dev p + g.C.Planned.unplanned l.fn.dev p ≤ g.C.Planned.unplanned l.dev p + C.stops l.fn.dev p + l.entry-index;
   later : Later C l.fn.dev l.dev;

@@ -1,13 +1,13 @@
-use Rattle.std.proofs.Common.{◌≡◌, ◌∙◌, ◌≤◌, ◌<◌, ◌+◌, ℕ, false, Err, IfSome, ap, arith, length, reverse, rules, subst, sym}
+use Rattle.std.proofs.Common.{◌≡◌, ◌∙◌, ◌≤◌, ◌<◌, ◌+◌, ℕ, false, Err, IfSome, ap, arith, length, reverse, subst, sym}
 use Rattle.dc_course.proofs.Steps.{steps_on}
 use Rattle.dc_armed.specs.Stops.{first_stop}
 use Rattle.dc_course.proofs.Counting.{at_turn, called_on, counted_on, sum_later, sum_rises, unplanned_parts, unstopped_is}
 use Rattle.dc_course.proofs.Breaking.{Broke, ended_by}
-use Rattle.dc_course.proofs.Partaking.{part_back, part_below, part_is, part_set}
+use Rattle.dc_course.proofs.Partaking.{next_is, part_back, part_below, part_is, part_set}
 use Rattle.dc_media.specs.Causes.{Rose}
 use Rattle.dc_words.specs.Lists.{lists_of}
 use Rattle.dc_course.proofs.Still.{running_still, told_still}
-use Rattle.dc_course.specs.Headline.{IsCalledOn, counted_with, is_planned, takes_part, unplanned}
+use Rattle.dc_course.specs.Headline.{IsCalledOn, counted_with, is_planned, takes_part, turn_after, unplanned}
 use Rattle.dc_course.specs.Running.{IsRunning, output}
 use Rattle.dc_twophase.proofs.Laws.{Laws, QuietLaws}
 use Rattle.dc_world.specs.Worlds.{stage_in}
@@ -52,20 +52,20 @@ returns-in-Err-clause-device g c p e =
     (told.0, subst (λ n. Rose n (g.C.Checkpoint.faults c.turn.new.dev p)) (c.begin.ensures.same p).1 told.1)
 
 pub returns-in-Ok-clause-steps_on : goal.returns-in-Ok-clause-steps_on
-returns-in-Ok-clause-steps_on g c setting up first alike at told still r =
+returns-in-Ok-clause-steps_on g c setting begun first ok at told still r =
     let x = stage_in c.args.self.now.world c.args.dev.now in
     let told1 = told_still g.C.Checkpoint (laws g) (quiet g) c.args.dev.now c.begin.new.dev c.begin.ensures.untouched x told in
-    let r1 = running_still g.C.Checkpoint (laws g) (quiet g) c.args.dev.now c.begin.new.dev c.begin.ensures.untouched x setting up c.args.self.now.marks.items (output first (g.O.Sink.held c.args.out.now)) r in
-    subst (λ ms. IsRunning g.C.Checkpoint setting up (stage_in c.turn.new.self c.turn.new.dev) ms (output first (g.O.Sink.held c.turn.new.out))) (sym c.push.ensures.items)
-    (steps_on g.C.Checkpoint setting up alike (stage_in c.args.self.now.world c.begin.new.dev) (stage_in c.turn.new.self c.turn.new.dev) c.args.self.now.marks.items c.args.entry.now at told1 still first (g.O.Sink.held c.args.out.now) (g.O.Sink.held c.turn.new.out) r1
+    let r1 = running_still g.C.Checkpoint (laws g) (quiet g) c.args.dev.now c.begin.new.dev c.begin.ensures.untouched x setting begun c.args.self.now.marks.items (output first (g.O.Sink.held c.args.out.now)) r in
+    subst (λ ms. IsRunning g.C.Checkpoint setting begun (stage_in c.turn.new.self c.turn.new.dev) ms (output first (g.O.Sink.held c.turn.new.out))) (sym c.push.ensures.items)
+    (steps_on g.C.Checkpoint setting begun ok (stage_in c.args.self.now.world c.begin.new.dev) (stage_in c.turn.new.self c.turn.new.dev) c.args.self.now.marks.items c.args.entry.now at told1 still first (g.O.Sink.held c.args.out.now) (g.O.Sink.held c.turn.new.out) r1
     c.in-Ok.mark c.in-Ok.ensures.turned.0 c.in-Ok.ensures.turned.1 c.in-Ok.ensures.entries c.in-Ok.ensures.setting.0 (ap (λ v. lists_of v.items) c.in-Ok.ensures.setting.1) c.in-Ok.ensures.turned.2)
 
 pub returns-in-Err-clause-steps_off : goal.returns-in-Err-clause-steps_off
-returns-in-Err-clause-steps_off g c f e setting up first alike at told still r =
+returns-in-Err-clause-steps_off g c f e setting begun first ok at told still r =
     let x = stage_in c.args.self.now.world c.args.dev.now in
     let told1 = told_still g.C.Checkpoint (laws g) (quiet g) c.args.dev.now c.begin.new.dev c.begin.ensures.untouched x told in
-    let r1 = running_still g.C.Checkpoint (laws g) (quiet g) c.args.dev.now c.begin.new.dev c.begin.ensures.untouched x setting up c.args.self.now.marks.items (output first (g.O.Sink.held c.args.out.now)) r in
-    ended_by g.C.Checkpoint setting up alike (stage_in c.args.self.now.world c.begin.new.dev) (stage_in c.turn.new.self c.turn.new.dev) c.args.self.now.marks.items c.args.entry.now at told1 still first (g.O.Sink.held c.args.out.now) (g.O.Sink.held c.turn.new.out) r1 f
+    let r1 = running_still g.C.Checkpoint (laws g) (quiet g) c.args.dev.now c.begin.new.dev c.begin.ensures.untouched x setting begun c.args.self.now.marks.items (output first (g.O.Sink.held c.args.out.now)) r in
+    ended_by g.C.Checkpoint setting begun ok (stage_in c.args.self.now.world c.begin.new.dev) (stage_in c.turn.new.self c.turn.new.dev) c.args.self.now.marks.items c.args.entry.now at told1 still first (g.O.Sink.held c.args.out.now) (g.O.Sink.held c.turn.new.out) r1 f
     (let same : c.in-Err.fault ≡ f = cc in subst (λ h. Broke g.C.Checkpoint c.args.entry.now (stage_in c.args.self.now.world c.begin.new.dev) (stage_in c.turn.new.self c.turn.new.dev) (g.O.Sink.held c.args.out.now) (g.O.Sink.held c.turn.new.out) h) same (record {
       failed = λ ne. let goes = c.in-Err.ensures.failed (λ e. ne (let is : c.in-Err.fault ≡ fault.Sink = cc in is)) in (goes.0, ap g.O.Sink.held goes.1);
       device = λ p is. (c.in-Err.ensures.device p (ap Err is)).0;
@@ -82,12 +82,12 @@ returns-in-Ok-clause-stops g c setting p of planned at below =
     let later : (q : ℕ) → before q ≤ after q = (λ q. g.met.C.Planned.unplanned_later c.args.dev.now c.turn.new.dev q (c.begin.ensures.lasts c.turn.new.dev c.turn.ensures.continues)) in
     subst (λ ms. counted_with setting.protocol p before n + unplanned setting p (reverse ms) ≤ counted_with setting.protocol p after n + unplanned setting p (reverse marks)) (sym c.push.ensures.items)
     (counted_on setting marks c.in-Ok.mark p (counted_with setting.protocol p before n) (counted_with setting.protocol p after n) (sum_later setting.protocol p before after later n)
-    (λ is. let parts = unplanned_parts setting (length marks) c.args.entry.now p c.in-Ok.mark at is in
+    (λ is. let parts = unplanned_parts setting (turn_after setting marks) c.args.entry.now p c.in-Ok.mark at is in
     let stop = c.in-Ok.ensures.stopped parts.stopped in
     let q = stop.0 in
-    let here = parts.here q (part_set c.args.self.now.world setting q c.args.entry.now of stop.1) in
+    let here = parts.here q (part_set c.args.self.now setting q c.args.entry.now of stop.1) in
     sum_rises setting.protocol p before after later q here.0
-    (c.begin.ensures.stopped c.turn.new.dev q c.turn.ensures.continues (subst (λ t. is_planned (g.C.Planned.planned c.args.dev.now) t q ≡ false) (let m : length marks ≡ _ = search rules in m) (subst (λ ss. is_planned ss (length marks) q ≡ false) planned (parts.free q here.0 here.1)))
+    (c.begin.ensures.stopped c.turn.new.dev q c.turn.ensures.continues (subst (λ t. is_planned (g.C.Planned.planned c.args.dev.now) t q ≡ false) (next_is c.args.self.now setting c.next_turn.result of c.next_turn.ensures) (subst (λ ss. is_planned ss (turn_after setting marks) q ≡ false) planned (parts.free q here.0 here.1)))
     (subst (λ m. Rose m (g.C.Checkpoint.stops c.turn.new.dev q)) (c.begin.ensures.same q).0 stop.2) (below q here.1)) n here.1))
 
 pub returns-in-Err-clause-stops : goal.returns-in-Err-clause-stops
@@ -109,8 +109,8 @@ returns-in-Ok-clause-comes g c setting p inside set planned at below sound =
     subst (λ ms. IsCalledOn setting p marks ms (g.C.Planned.calls c.args.dev.now p) (g.C.Planned.calls c.turn.new.dev p)) (sym c.push.ensures.items)
     (called_on setting marks c.in-Ok.mark p (g.C.Planned.calls c.args.dev.now p) (g.C.Planned.calls c.turn.new.dev p) (g.met.C.Planned.calls_later c.args.dev.now c.turn.new.dev p lasts)
     (λ whole of.
-    let calm = c.in-Ok.ensures.calm (unstopped_is c.in-Ok.mark whole) p (part_back c.args.self.now.world setting p c.args.entry.now set (part_is setting.protocol (length setting.images) p c.args.entry.now inside (sym (ap (takes_part setting.protocol p) at) ∙ of))) in
+    let calm = c.in-Ok.ensures.calm (unstopped_is c.in-Ok.mark whole) p (part_back c.args.self.now setting p c.args.entry.now set (part_is setting.protocol (length setting.images) p c.args.entry.now inside (sym (ap (takes_part setting.protocol p) at) ∙ of))) in
     let begun = c.begin.ensures.same p in
-    subst (λ ss. IfSome (first_stop ss (length marks) p) (λ stop. g.C.Planned.calls c.turn.new.dev p < g.C.Planned.calls c.args.dev.now p + stop.call)) (sym planned)
-    (at_turn (g.C.Planned.planned c.args.dev.now) p (λ stop. g.C.Planned.calls c.turn.new.dev p < g.C.Planned.calls c.args.dev.now p + stop.call) _ (length marks)
-    (c.begin.ensures.comes c.turn.new.dev p c.turn.ensures.continues (record { stops_same = calm.0 ∙ begun.0; faults_same = calm.1 ∙ begun.1; stops_below = below; faults_below = sound })) (search rules))))
+    subst (λ ss. IfSome (first_stop ss (turn_after setting marks) p) (λ stop. g.C.Planned.calls c.turn.new.dev p < g.C.Planned.calls c.args.dev.now p + stop.call)) (sym planned)
+    (at_turn (g.C.Planned.planned c.args.dev.now) p (λ stop. g.C.Planned.calls c.turn.new.dev p < g.C.Planned.calls c.args.dev.now p + stop.call) _ (turn_after setting marks)
+    (c.begin.ensures.comes c.turn.new.dev p c.turn.ensures.continues (record { stops_same = calm.0 ∙ begun.0; faults_same = calm.1 ∙ begun.1; stops_below = below; faults_below = sound })) (sym (next_is c.args.self.now setting c.next_turn.result set c.next_turn.ensures)))))

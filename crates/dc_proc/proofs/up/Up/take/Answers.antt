@@ -228,7 +228,7 @@ returns-clause-numbered g c d most from below is =
     numbered_more (most + 1 + 1) (most + 2) (g.C.Checkpoint.leaves c.commit_if-2.new.store c.commit_if-2.new.dev d) (omega arith) (c.commit_if-2.ensures.numbered d (most + 1) from3 (let one = commit_number c.rule-asked.result.before c.args.self.now c.commit_if.new.self c.commit_if.new.self.based.items c.in_ok-commit_if.ensures.held c.in_ok-commit_if.ensures.kept in let mid = ap (λ (k : Kernel). k.commit) c.note_event-shown.ensures.kernel ∙ commit_after c.advance.new.self.others.items c.args.next.now (answer_of c.args.answer.now) c.effect-effect.result c.advance.new.self.kernel
     ∙ ap (λ (u : Up). u.kernel.commit) c.in_ok-advance.ensures.rest ∙ append_number c.rule-asked.result.log c.commit_if.new.self c.append_if.new.self _ c.in_ok-append_if.ensures.held c.in_ok-append_if.ensures.kept in omega (arith, one.1, mid, below)) (numbered_less (most + 1) (g.C.Checkpoint.leaves c.append_if.new.store c.append_if.new.dev d) (g.C.Checkpoint.leaves c.advance.new.store c.advance.new.dev d) (λ r l. c.advance.ensures.stores.adds_nothing.stands d r from2 l) (c.append_if.ensures.numbered d (most + 1) from1 (c.commit_if.ensures.numbered d most from below is))))
 
--- where all commit together, nothing but the event's stores is done
+-- where all fall together, nothing but the event's stores is done
 pub returns-in_err-commit_if-clause-narrows : goal.returns-in_err-commit_if-clause-narrows
 returns-in_err-commit_if-clause-narrows g c together = absurd (true≢false (sym (not_asked c.rule-asked.result (λ r. r.before) (c.rule-asked.ensures ∙ asks_nothing c.args.self.now.protocol together c.kind-kind.result (since_of c.args.self.now c.kind-kind.result (answer_of c.args.answer.now) false)) c.in_err-commit_if.ensures.due)))
 

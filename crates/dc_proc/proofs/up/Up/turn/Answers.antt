@@ -1,10 +1,10 @@
-use Rattle.std.proofs.Common.{◌≡◌, ◌∙◌, IfSome, refl, ap, sym, subst, rules, false, slice_index}
+use Rattle.std.proofs.Common.{◌≡◌, ◌∙◌, IfSome, refl, ap, sym, subst, rules, false, slice_index, true}
 use Rattle.std.proofs.lemmas.Bool.{true≢false}
 use Rattle.std.proofs.lemmas.Result.{on_ok_weaker}
 use Rattle.dc_events.specs.Kinds.{kind_of}
 use Rattle.dc_events.specs.declared.event.Next.TheVariants.{Retire}
 use Rattle.dc_guest.specs.Answers.{answer_of, may_answer}
-use Rattle.dc_guest.specs.Guest.{next_of, over}
+use Rattle.dc_guest.specs.Guest.{next_of, over, machine_over}
 use Rattle.dc_guest.specs.Nexts.{Waits}
 use Rattle.dc_guest.specs.declared.effect.Effect.TheVariants.{Nothing}
 use Rattle.dc_model.specs.Guests.Answer.{Plain}
@@ -21,6 +21,7 @@ use Rattle.dc_proc.specs.Ups.{held}
 use Rattle.dc_proc.specs.declared.up.Up.{Up}
 use Rattle.dc_recovery.specs.Alone.{IsAnswerAlone, answers_alone}
 use Rattle.dc_recovery.specs.Parts.Place.{Nowhere}
+use Rattle.dc_rv32.specs.Machine.{stores}
 use Rattle.dc_proc.proofs.up.Up.turn.Goals as goal
 
 pub returns-in-Ok-Retire-clause-goes : goal.returns-in-Ok-Retire-clause-goes
@@ -48,7 +49,8 @@ returns-in-Err-clause-stopped g c images inputs p answers st d words from told s
     let may : may_answer (answer_of c.args.answer.now) (kind_of (next_of (over c.args.self.now.guest words))) ≡ _ = told_at (λ ws. may_answer (answer_of c.args.answer.now) (kind_of (next_of (over c.args.self.now.guest ws))) ≡ _) (g.C.Checkpoint.contents c.args.store.now c.args.dev.now) words told c.requires.kind in
     let plain : answer_of c.args.answer.now ≡ Plain = plain_is (answer_of c.args.answer.now) (ap (λ n. may_answer (answer_of c.args.answer.now) (kind_of n)) (sym retires) ∙ may) in
     let over1 = over_added S p answers st st Plain (g.C.Checkpoint.contents c.args.store.now c.args.dev.now) (held c.args.self.now) (g.C.Checkpoint.leaves c.args.store.now c.args.dev.now d) stood in
-    stopped_retiring images inputs c.args.self.now.protocol p answers st words c.args.self.now c.requires.whole here c.requires.runs retires (answer_of c.args.answer.now) plain (slice_index c.args.self.now.others.items)
+    stopped_retiring images inputs c.args.self.now.protocol p answers st words c.args.self.now c.requires.whole here c.requires.runs retires (answer_of c.args.answer.now) plain
+    (told_at (λ ws. stores (machine_over c.args.self.now.guest ws) ≡ true) (g.C.Checkpoint.contents c.args.store.now c.args.dev.now) words told c.in-Err.ensures.storing) (slice_index c.args.self.now.others.items)
     (g.C.Checkpoint.leaves c.step.new.store c.step.new.dev d) (record { before = c.args.acts.now.items; more = acts_with c.args.acts.now.items c.args.self.now.kernel c.args.t (answer_of c.args.answer.now); after = c.add_act-in-Err.new.acts.items }) c.step.new.self.based.items
     (λ r l. over1.stands r (c.in-Err.ensures.stores.adds_nothing.stands d r from l)) (search rules)
     (parts_based S p answers st Plain words (held c.args.self.now) here stood.going false false (record { position = st.position; answer = Plain }) c.step.new.self.based.items c.args.self.now.based.items (λ e. absurd (true≢false (sym e))) (λ e. refl) (ap (λ (u : Up). u.based.items) c.in-Err.ensures.rest))

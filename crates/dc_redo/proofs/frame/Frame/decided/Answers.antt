@@ -5,7 +5,7 @@ use Rattle.dc_redo.specs.Shapes.{half_bytes}
 use Rattle.dc_redo.specs.Standing.{half_number}
 use Rattle.dc_redo.specs.Tallies.{greater}
 use Rattle.dc_redo.specs.Whole.{IsAtRest}
-use Rattle.dc_redo.proofs.Shutting.{fetched_number, greater_left, greater_right, short_number}
+use Rattle.dc_redo.proofs.Closings.{fetched_number, greater_left, greater_right, short_number}
 use Rattle.dc_redo.proofs.frame.Frame.decided.Goals as goal
 
 pub returns-clause-decided : goal.returns-clause-decided

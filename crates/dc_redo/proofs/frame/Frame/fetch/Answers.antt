@@ -1,5 +1,5 @@
 use Rattle.std.proofs.Common.{◌≡◌, ◌≤◌, ◌*◌, length, arith, ◌∙◌}
-use Rattle.dc_redo.proofs.Shutting.{fetched, read_there, sync_there, there_then}
+use Rattle.dc_redo.proofs.Closings.{fetched, read_there, sync_there, there_then}
 use Rattle.dc_redo.proofs.frame.Frame.fetch.Goals as goal
 
 pub returns-clause-there : goal.returns-clause-there

@@ -5,7 +5,7 @@ use Rattle.dc_redo.specs.Frames.{records_of}
 use Rattle.dc_redo.specs.Handles.{shape_of}
 use Rattle.dc_redo.specs.Standing.{last_number}
 use Rattle.dc_redo.specs.Tallies.{Tally, tally}
-use Rattle.dc_redo.proofs.Looping.{end_tally, ends_most, gate_open, gate_shut, goes_tally}
+use Rattle.dc_redo.proofs.Looping.{end_tally, ends_most, gate_open, gate_closed, goes_tally}
 use Rattle.dc_redo.proofs.Taking.{framed_room}
 use Rattle.dc_redo.proofs.frame.Frame.greatest.Goals as goal
 
@@ -60,7 +60,7 @@ records-smaller c =
 pub returns-clause-most : goal.returns-clause-most
 returns-clause-most c =
     let sh = shape_of c.args.self.now in
-    sym (ap (λ (t : Tally). t.most) (c.records.invariant.left ∙ end_tally sh last_number (seen c.records.t) c.records.rest.now (gate_shut c.records.rest.now c.records-test.false)))
+    sym (ap (λ (t : Tally). t.most) (c.records.invariant.left ∙ end_tally sh last_number (seen c.records.t) c.records.rest.now (gate_closed c.records.rest.now c.records-test.false)))
 
 pub returns-in_default-clause-most : goal.returns-in_default-clause-most
 returns-in_default-clause-most c =

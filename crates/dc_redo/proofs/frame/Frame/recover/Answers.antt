@@ -10,7 +10,7 @@ use Rattle.dc_redo.specs.Standing.{last_number, memory_in}
 use Rattle.dc_redo.specs.Whole.{IsAtRest, IsReady, Known, known_state}
 use Rattle.dc_redo.proofs.Recovered.{Read, counting_gives, counting_like, counting_ready, empty_like, fresh_gives, fresh_goes, fresh_like, refused_rest}
 use Rattle.dc_redo.proofs.Begins.{begin_memory}
-use Rattle.dc_redo.proofs.Shutting.{likes_then, there_like}
+use Rattle.dc_redo.proofs.Closings.{likes_then, there_like}
 use Rattle.dc_redo.proofs.frame.Frame.recover.Goals as goal
 
 pub returns-in-Err-weigh-clause-refused : goal.returns-in-Err-weigh-clause-refused
@@ -18,13 +18,10 @@ returns-in-Err-weigh-clause-refused g c fault is =
     let frame = c.args.self.now in
     let sh = shape_of frame in
     let d = c.args.d in
-    let few : d ≤ last_number = (let low = c.ranges.d in omega (arith, low)) in
     let piece = c.fetch.new.piece in
-    let told0 = g.D.Disks.told c.args.dev.now frame.place in
     let told1 = g.D.Disks.told c.fetch.new.dev frame.place in
     let halved : frame.half ≡ half_bytes sh = frame.halved in
     let read : IsAtRest (Read sh piece) told1 = subst (λ n. IsAtRest (λ x. (2 * n ≤ length x) × (take (2 * n) x ≡ piece)) told1) halved (c.in-Ok-true.ensures.read c.in-Ok-true.field-0-test) in
-    let start = there_like sh d told0 told1 c.fetch.ensures.there in
     let same : c.in-Err-weigh.fault ≡ fault = cc in
     let long = c.fetch.ensures.long in
     let own = c.requires.piece in
@@ -73,11 +70,9 @@ returns-then-gates-clause-ready g c =
     let d = c.args.d in
     let few : d ≤ last_number = (let low = c.ranges.d in omega (arith, low)) in
     let piece = c.fetch.new.piece in
-    let told0 = g.D.Disks.told c.args.dev.now frame.place in
     let told1 = g.D.Disks.told c.fetch.new.dev frame.place in
     let halved : frame.half ≡ half_bytes sh = frame.halved in
     let read : IsAtRest (Read sh piece) told1 = subst (λ n. IsAtRest (λ x. (2 * n ≤ length x) × (take (2 * n) x ≡ piece)) told1) halved (c.in-Ok-true.ensures.read c.in-Ok-true.field-0-test) in
-    let start = there_like sh d told0 told1 c.fetch.ensures.there in
     let told2 = g.D.Disks.told c.close_gates.new.dev frame.place in
     let gates = c.in-Ok.gates in
     let is = c.in-Ok.ensures.counting c.if-gates.true in
@@ -90,11 +85,9 @@ returns-then-gates-clause-gives g c =
     let d = c.args.d in
     let few : d ≤ last_number = (let low = c.ranges.d in omega (arith, low)) in
     let piece = c.fetch.new.piece in
-    let told0 = g.D.Disks.told c.args.dev.now frame.place in
     let told1 = g.D.Disks.told c.fetch.new.dev frame.place in
     let halved : frame.half ≡ half_bytes sh = frame.halved in
     let read : IsAtRest (Read sh piece) told1 = subst (λ n. IsAtRest (λ x. (2 * n ≤ length x) × (take (2 * n) x ≡ piece)) told1) halved (c.in-Ok-true.ensures.read c.in-Ok-true.field-0-test) in
-    let start = there_like sh d told0 told1 c.fetch.ensures.there in
     let told2 = g.D.Disks.told c.close_gates.new.dev frame.place in
     let gates = c.in-Ok.gates in
     let is = c.in-Ok.ensures.counting c.if-gates.true in
@@ -155,17 +148,15 @@ returns-clause-ready g c =
     let d = c.args.d in
     let few : d ≤ last_number = (let low = c.ranges.d in omega (arith, low)) in
     let piece = c.fetch.new.piece in
-    let told0 = g.D.Disks.told c.args.dev.now frame.place in
     let told1 = g.D.Disks.told c.fetch.new.dev frame.place in
     let halved : frame.half ≡ half_bytes sh = frame.halved in
     let read : IsAtRest (Read sh piece) told1 = subst (λ n. IsAtRest (λ x. (2 * n ≤ length x) × (take (2 * n) x ≡ piece)) told1) halved (c.in-Ok-true.ensures.read c.in-Ok-true.field-0-test) in
-    let start = there_like sh d told0 told1 c.fetch.ensures.there in
     let told2 = g.D.Disks.told c.close_gates.new.dev frame.place in
     let gates = c.in-Ok.gates in
     let told3 = g.D.Disks.told c.begin.new.dev frame.place in
     let none = c.in-Ok.ensures.empty c.if-gates.false in
     let marks = c.begun.new.marks in
-    let touched = marks.touched.items in
+    let touched = marks.touched.flags.items in
     let body_is : c.deref.result.now ≡ body_of sh frame.memory.items frame.kernel.items = c.deref.ensures.value ∙ ap (λ (z : Known). z.body) c.begun.ensures.known in
     let long : length touched ≡ lines_of sh = c.begun.ensures.long.1 ∙ c.weigh.ensures.long.2 ∙ c.requires.marked ∙ frame.lined in
     fresh_goes sh d gates.low gates.high piece few none (known_of marks) told1 told2 told3 read c.close_gates.ensures.told c.begin.ensures.told c.in_default.ensures.done
@@ -179,11 +170,9 @@ returns-clause-gives g c =
     let d = c.args.d in
     let few : d ≤ last_number = (let low = c.ranges.d in omega (arith, low)) in
     let piece = c.fetch.new.piece in
-    let told0 = g.D.Disks.told c.args.dev.now frame.place in
     let told1 = g.D.Disks.told c.fetch.new.dev frame.place in
     let halved : frame.half ≡ half_bytes sh = frame.halved in
     let read : IsAtRest (Read sh piece) told1 = subst (λ n. IsAtRest (λ x. (2 * n ≤ length x) × (take (2 * n) x ≡ piece)) told1) halved (c.in-Ok-true.ensures.read c.in-Ok-true.field-0-test) in
-    let start = there_like sh d told0 told1 c.fetch.ensures.there in
     let told2 = g.D.Disks.told c.close_gates.new.dev frame.place in
     let gates = c.in-Ok.gates in
     let told3 = g.D.Disks.told c.begin.new.dev frame.place in

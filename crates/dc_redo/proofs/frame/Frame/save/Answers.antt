@@ -6,13 +6,37 @@ use Rattle.dc_checkpoint.specs.States.{Reading, number_in}
 use Rattle.dc_redo.specs.Handles.{known_of, shape_of}
 use Rattle.dc_redo.specs.Saves.{GoesOn}
 use Rattle.dc_redo.specs.Standing.{memory_in}
-use Rattle.dc_redo.proofs.Saved.{body_is_state}
+use Rattle.dc_redo.proofs.Saved.{body_is_right, body_is_state}
 use Rattle.dc_redo.proofs.frame.Frame.save.Goals as goal
 
 pub store_text-requires-clause-text : goal.store_text-requires-clause-text
 store_text-requires-clause-text g c =
     let frame = c.args.self.now in
     (right_from frame.n frame.p c.args.kernel.now c.requires.text).long ∙ sym frame.layout
+
+pub save_lines-requires-clause-body : goal.save_lines-requires-clause-body
+save_lines-requires-clause-body g c =
+    let frame = c.args.self.now in
+    let sh = shape_of frame in
+    let old = c.args.marks.now.body.items in
+    let kernel = c.args.kernel.now in
+    let long = c.requires.long in
+    let lined = frame.lined in
+    let m_long : length (memory_in sh old) ≡ sh.size = length-take-le sh.size old (omega (arith, long, lined)) in
+    let k_long : length kernel ≡ sh.kernel = (right_from frame.n frame.p kernel c.requires.text).long ∙ sym frame.layout in
+    body_is_right sh c.store_text.new.marks.body.items (memory_in sh old) kernel m_long k_long c.requires.text c.store_text.ensures.body
+
+pub save_whole-requires-clause-body : goal.save_whole-requires-clause-body
+save_whole-requires-clause-body g c =
+    let frame = c.args.self.now in
+    let sh = shape_of frame in
+    let old = c.args.marks.now.body.items in
+    let kernel = c.args.kernel.now in
+    let long = c.requires.long in
+    let lined = frame.lined in
+    let m_long : length (memory_in sh old) ≡ sh.size = length-take-le sh.size old (omega (arith, long, lined)) in
+    let k_long : length kernel ≡ sh.kernel = (right_from frame.n frame.p kernel c.requires.text).long ∙ sym frame.layout in
+    body_is_right sh c.store_text.new.marks.body.items (memory_in sh old) kernel m_long k_long c.requires.text c.store_text.ensures.body
 
 pub returns-then-from-bytes-clause-goes : goal.returns-then-from-bytes-clause-goes
 returns-then-from-bytes-clause-goes g c =

@@ -113,8 +113,6 @@ returns-clause-up c =
     let kernel = c.give.ensures.kernel c.if-not-give.false in
     let kernel_is : text_in sh col.contents.body ≡ text_of c.give.new.saved.kernel = ap (text_in sh) (sym body_is) ∙ kernel.1 in
     let number_is = held.2.number_is in
-    let half_long = c.requires.half in
-    let halved : c.args.self.now.half ≡ half_bytes sh = c.args.self.now.halved in
     record {
       front = col.front;
       tally = seen t;

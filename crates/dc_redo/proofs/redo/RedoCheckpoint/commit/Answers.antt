@@ -9,10 +9,8 @@ use Rattle.dc_redo.proofs.redo.RedoCheckpoint.commit.Goals as goal
 pub returns-clause-memory : goal.returns-clause-memory
 returns-clause-memory g c =
     let frame = c.args.self.now.frame in
-    let sh = shape_of frame in
     let marks = c.args.self.now.marks in
     let body = marks.body.items in
-    let kernel = c.args.kernel.now in
     let old = g.D.Disks.told c.args.dev.now frame.place in
     let new = g.D.Disks.told c.save.new.dev frame.place in
     rw c.checked.ensures (on_checked c.save.result (λ goes. memory_same frame.size body c.save.new.marks.body.items old new c.save.ensures.memory c.save.ensures.saves.told) c.save.ensures.goes)

@@ -4,7 +4,7 @@ use Rattle.dc_redo.specs.Laws.{large_still}
 use Rattle.dc_redo.specs.Whole.{Agrees, IsPrepared}
 use Rattle.dc_redo.proofs.Answering.{if_checked, memory_kept, on_checked, unrefused_checked}
 use Rattle.dc_redo.proofs.Steady.{steady_from}
-use Rattle.dc_redo.proofs.Shutting.{rest_still, there_numbers, there_stands, there_steady}
+use Rattle.dc_redo.proofs.Closings.{rest_still, there_numbers, there_stands, there_steady}
 use Rattle.dc_redo.proofs.redo.RedoCheckpoint.decided.Goals as goal
 
 pub returns-clause-awake : goal.returns-clause-awake

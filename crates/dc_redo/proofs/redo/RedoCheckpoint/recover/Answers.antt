@@ -1,7 +1,7 @@
 use Rattle.std.proofs.Common.{arith, inr}
 use Rattle.dc_redo.specs.Handles.{shape_of}
 use Rattle.dc_redo.proofs.Recovered.{gives_of, refused_of}
-use Rattle.dc_redo.proofs.Shutting.{like_no_higher, like_numbers, like_stands, like_steady}
+use Rattle.dc_redo.proofs.Closings.{like_no_higher, like_numbers, like_stands, like_steady}
 use Rattle.std.proofs.lemmas.Result.{on_ok_weaker}
 use Rattle.dc_redo.proofs.redo.RedoCheckpoint.recover.Goals as goal
 

@@ -21,7 +21,7 @@ use Rattle.dc_world.specs.Slots.{based_in, held_in, size_in, slot_at}
 use Rattle.dc_world.specs.declared.slot.Slot.TheVariants.{Up}
 use Rattle.dc_world.proofs.Acknowledged.{world_committed, world_torn}
 use Rattle.dc_world.proofs.Beside.{and_some, some_and}
-use Rattle.dc_world.proofs.Joining.{least_low, number_low, room_for, told_same, told_words}
+use Rattle.dc_world.proofs.Joining.{least_low, number_low, number_next, room_for, told_same, told_words}
 use Rattle.dc_world.proofs.processes.Processes.commit_together.Goals as goal
 
 pub write_texts-requires-clause-up : goal.write_texts-requires-clause-up
@@ -179,6 +179,7 @@ returns-in-Ok-clause-goes g c images core together told go world =
     (λ p less. told_words G met.told_contents met.some_number S together core old world told c.requires.stores c.requires.own c.requires.fit p (inside p less))
     (λ p less. ap (λ k. text_at k deref p) row ∙ ap (λ ws. text_at size ws p) deref_is ∙ c.write_texts.ensures.text p (inside p less))
     (λ p less. subst (λ k. IsKernel k p (numbered number (held_in (slot_at slots0 p))).kernel) (sym world.count_is) (c.write_texts.ensures.kernel p (inside p less)))
+    (number_next G met.told_contents met.some_number S together core old world told c.requires.stores c.requires.own c.requires.fit number some over c.next_number-number.ensures.next (λ p less. (go.going p).up))
     (λ p. based_in (slot_at slots2 p)) (λ p. slot_at slots2 p) (c.learn_each.ensures.long ∙ c.settle_all.ensures.long ∙ c.write_texts.ensures.long)
     (λ p less. (c.settle_all.ensures.settled p (inside1 p less)).made.held_is ∙ ap (settled (based_in (slot_at slots2 p))) (c.write_texts.ensures.made p (inside p less)).held_is)
     (λ p less. (c.settle_all.ensures.settled p (inside1 p less)).made.up)
@@ -239,6 +240,7 @@ returns-in-Err-clause-torn g c have images core together told go world =
     (λ p less. told_words G met.told_contents met.some_number S together core old world told c.requires.stores c.requires.own c.requires.fit p (inside p less))
     (λ p less. ap (λ k. text_at k deref p) row ∙ ap (λ ws. text_at size ws p) deref_is ∙ c.write_texts.ensures.text p (inside p less))
     (λ p less. subst (λ k. IsKernel k p (numbered number (held_in (slot_at slots0 p))).kernel) (sym world.count_is) (c.write_texts.ensures.kernel p (inside p less)))
+    (number_next G met.told_contents met.some_number S together core old world told c.requires.stores c.requires.own c.requires.fit number some over c.next_number-number.ensures.next (λ p less. (go.going p).up))
     (λ d counts. ⊎_elim
     (λ x. inl (
       and_some (λ z. G.numbers z dev0 d) (store_of old 0) first0.0 first0.1 x.0,

@@ -17,7 +17,7 @@ use Rattle.dc_proc.proofs.Ruling.{event_is}
 use Rattle.dc_proc.specs.Carried.{process, system}
 use Rattle.dc_proc.specs.Processes.{IsAt}
 use Rattle.dc_proc.specs.Ups.{held}
-use Rattle.dc_protocols.specs.Rules.{is_global}
+use Rattle.dc_protocols.specs.Rules.{is_joint}
 use Rattle.dc_recovery.proofs.Single.{acts_alone}
 use Rattle.dc_recovery.proofs.Worlds.{oldest_kept, own_more_other}
 use Rattle.dc_recovery.specs.Alone.{answers_alone, event_alone, status_alone}
@@ -347,7 +347,7 @@ returns-in-Ok-clause-happens g c images core together told go inside given world
     let place : G.place store0 ≡ p = (c.requires.own p store0 stood).place_is in
     let words = some_there (G.contents store0 dev0) (met.told_contents store0 dev0 may.may.fit.ready (subst (G.told dev0) (sym place) (told.told p c.requires.process))) in
     let number = one_number G met.told_contents met.some_number (system images inputs pr) together core old world told c.requires.stores c.requires.own c.requires.fit c.requires.well.some in
-    let glob : is_global u0.protocol ≡ true = ap is_global of.3 ∙ together in
+    let glob : is_joint u0.protocol ≡ true = ap is_joint of.3 ∙ together in
     let here : IsAt (system images inputs pr) p (own p core.acts) (core.procs p) words.0 (held u0) = here_going G (system images inputs pr) core old go world p inside store0 stood u0 may.there words.0 words.1 in
     let place_own : (q : ℕ) (x : _) → slice_get stores0 q ≡ Some x → G.place x ≡ q = λ q x is. (c.requires.own q x is).place_is in
     let among : p ≡ 0 → (n : ℕ) → G.numbers store1 dev1 n → G.numbers store0 dev0 n = λ same. (t.steady glob (some_and (λ z. G.steady z dev0) (store_of old 0) store0 (subst (λ y. store_of old y ≡ Some store0) same stood) (world.decided together).steady)).1 in
@@ -419,7 +419,7 @@ returns-in-Err-clause-broken g c have images core together told go inside given 
     let place : G.place store0 ≡ p = (c.requires.own p store0 stood).place_is in
     let words = some_there (G.contents store0 dev0) (met.told_contents store0 dev0 may.may.fit.ready (subst (G.told dev0) (sym place) (told.told p c.requires.process))) in
     let number = one_number G met.told_contents met.some_number (system images inputs pr) together core old world told c.requires.stores c.requires.own c.requires.fit c.requires.well.some in
-    let glob : is_global u0.protocol ≡ true = ap is_global of.3 ∙ together in
+    let glob : is_joint u0.protocol ≡ true = ap is_joint of.3 ∙ together in
     let here : IsAt (system images inputs pr) p (own p core.acts) (core.procs p) words.0 (held u0) = here_going G (system images inputs pr) core old go world p inside store0 stood u0 may.there words.0 words.1 in
     let place_own : (q : ℕ) (x : _) → slice_get stores0 q ≡ Some x → G.place x ≡ q = λ q x is. (c.requires.own q x is).place_is in
     let among : p ≡ 0 → (n : ℕ) → G.numbers store1 dev1 n → G.numbers store0 dev0 n = λ same. (t.steady glob (some_and (λ z. G.steady z dev0) (store_of old 0) store0 (subst (λ y. store_of old y ≡ Some store0) same stood) (world.decided together).steady)).1 in
@@ -439,7 +439,7 @@ returns-in-Err-clause-broken g c have images core together told go inside given 
     = subst (λ q. StopsTurn G q a (process store0 dev0 (held u0)) (process store1 dev1 (held u1)) (record { before = c.args.self.now.acts.items; more = acts_with c.args.self.now.acts.items u0.kernel c.args.self.now.entries a; after = c.take_in.new.acts.items })) of.3 t.stopped in
     let is = stopped images inputs p (own p core.acts) (core.procs p) number.0 words.0 floor words.1 (over_going G S together core old go world p inside store0 stood u0 may.there words.0 words.1 number.0 number.1) given in
     let event : event_alone S.guests p (own p core.acts) (core.procs p) a ≡ event_of (next_of (over u0.guest words.0)) (machine_over u0.guest words.0) = event_is images inputs pr p (own p core.acts) (core.procs p) words.0 u0 of.0 here may.may.runs a in
-    let where_is = event_place pr together _ _ (event_alone S.guests p (own p core.acts) (core.procs p) a) a is.place is.somewhere is.may in
+    let where_is = event_place pr together _ _ (S.guests.stores (at_position S.guests p (core.procs p).position (own p core.acts)).machine a) (event_alone S.guests p (own p core.acts) (core.procs p) a) a is.place is.somewhere is.may in
     let kinds = told_at (λ ws. may_answer a (kind_of (next_of (over u0.guest ws))) ≡ true) (G.contents store0 dev0) words.0 words.1 may.may.kind in
     let d = after_broken_event c.args.self.now.entries core p a in
     let added : c.take_in.new.acts.items ≡ reported d.acts = is.written ∙ ap (λ w. if has_act w then acts_with c.args.self.now.acts.items u0.kernel c.args.self.now.entries a else c.args.self.now.acts.items) where_is.0

@@ -12,7 +12,7 @@ use Rattle.dc_proc.proofs.Ruling.{event_is}
 use Rattle.dc_proc.specs.Carried.{system}
 use Rattle.dc_proc.specs.Ups.{IsFit}
 use Rattle.dc_proc.specs.declared.up.Up.{Up as Process}
-use Rattle.dc_recovery.specs.Answers.{rule_at}
+use Rattle.dc_recovery.specs.Answers.{rule_at, stores_at}
 use Rattle.dc_recovery.specs.Parts.{may_stop}
 use Rattle.dc_twophase.proofs.Counting.{calm_start, joint_calm}
 use Rattle.dc_twophase.proofs.Pairs.{one_only}
@@ -118,7 +118,7 @@ returns-in-Ok-clause-stopped g c = on_err_weaker c.take_together.result (λ fell
     let is = given G g.met.C.Checkpoint.told_contents images schedule core old new told_old now world c.args.turn.now c.requires.process store at place u there fit c.in-Ok.call c.in-Ok.ensures.found c.in-Ok.ensures.runs c.in-Ok.ensures.room
     _ (items_are c.args.self.now.inputs.items p) (answer_of c.answer-answer.result) c.answer-answer.ensures.told c.answer-answer.ensures.drawn c.answer-answer.ensures.asked in
     let x = fell images schedule core c.requires.together told_old now world inside is in
-    let may : (ws : List ℕ) → G.contents store dev0 ≡ Some ws → may_stop (rule_at S core p a) (event_of (next_of (over u.guest ws)) (machine_over u.guest ws)) a x.0 ≡ true = λ ws told. subst (λ e. may_stop (rule_at S core p a) e a x.0 ≡ true)
+    let may : (ws : List ℕ) → G.contents store dev0 ≡ Some ws → may_stop (rule_at S core p a) (stores_at S.guests core p a) (event_of (next_of (over u.guest ws)) (machine_over u.guest ws)) a x.0 ≡ true = λ ws told. subst (λ e. may_stop (rule_at S core p a) (stores_at S.guests core p a) e a x.0 ≡ true)
     (event_is images inputs pr p (own p core.acts) (core.procs p) ws u fit.whole (at_now G S schedule c.args.self.now.entries core now old world p store at u there inside ws told) c.in-Ok.ensures.runs a) x.2 in
     stopped_as G g.met.C.Checkpoint.told_contents images schedule core old new told_old now world c.args.turn.now c.requires.process store at place u there fit c.in-Ok.call c.in-Ok.ensures.found c.in-Ok.ensures.runs c.in-Ok.ensures.room
     _ (items_are c.args.self.now.inputs.items p) (answer_of c.answer-answer.result) c.answer-answer.ensures.told c.answer-answer.ensures.drawn c.answer-answer.ensures.asked x.0 x.1 may x.3) c.take_together.ensures.fell

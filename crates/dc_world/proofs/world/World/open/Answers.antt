@@ -1,4 +1,4 @@
-use Rattle.std.proofs.Common.{◌≡◌, ◌∙◌, ◌<◌, ◌++◌, ap, drop, length, map, rules, subst, sym, take}
+use Rattle.std.proofs.Common.{◌≡◌, ◌∙◌, ◌<◌, ◌++◌, ap, drop, length, map, rules, subst, sym, take, false}
 use Rattle.dc_media.specs.Causes.{Rose}
 use Rattle.dc_elf.specs.Loaded.{seen_image}
 use Rattle.dc_words.specs.Lists.{lists_of}
@@ -11,6 +11,7 @@ use Rattle.dc_world.specs.Opened.{AreBegun, AreMadeFor, FallTogether, IsOpened}
 use Rattle.dc_world.specs.Slots.{is_up, slot_at}
 use Rattle.dc_world.specs.Stages.{IsReady, IsTold, IsWorld, stage_of}
 use Rattle.dc_world.specs.declared.processes.Processes.{Processes}
+use Rattle.dc_protocols.specs.Rules.{is_causal}
 use Rattle.dc_world.proofs.world.World.open.Goals as goal
 
 pub returns-in_err-slots-clause-failed : goal.returns-in_err-slots-clause-failed
@@ -54,7 +55,7 @@ returns-clause-opened g c =
     let w1 = c.fall_together.new.self in
     let as_many : length new ≡ length stores = c.fall_together.ensures.as_many ∙ ap (λ xs. length xs) c.deref_mut.ensures.value in
     let all : take c.in_ok-slots.stores.len (new ++ drop (length new) stores) ≡ new = all_written c.in_ok-slots.stores.len stores new (search rules) as_many in
-    subst (λ xs. IsTold g.C.Checkpoint (stage_of xs c.begin_each.new.dev w1)
+    subst (λ xs. is_causal c.args.setup.protocol ≡ false → IsTold g.C.Checkpoint (stage_of xs c.begin_each.new.dev w1)
     → IsWorld g.C.Checkpoint (system (map seen_image c.args.setup.images.items) (lists_of c.args.setup.inputs.items) c.args.setup.protocol) (opened_core (λ p. is_up (slot_at w1.slots.items p))) (stage_of xs c.begin_each.new.dev w1)) (sym all)
     (opened_joined g.C.Checkpoint c.args.setup c.args.entries stores new c.begin_each.new.dev w w1 begins
     (subst (λ xs. AreBegun g.C.Checkpoint c.args.setup.protocol xs c.in_ok-slots.slots.items stores c.begin_each.new.dev) images_are c.in_ok-slots.ensures.begun)

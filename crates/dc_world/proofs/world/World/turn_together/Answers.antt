@@ -1,11 +1,13 @@
-use Rattle.std.proofs.Common.{◌≡◌, ◌++◌, ◌∙◌, ap, drop, length, rules, subst, sym, take}
+use Rattle.std.proofs.Common.{◌≡◌, ◌++◌, ◌∙◌, IfOk, None, OnErr, ap, drop, length, rules, subst, sym, take}
 use Rattle.dc_checkpoint.specs.Handles.{IsSame}
+use Rattle.dc_model.specs.declared.entry.Entry.TheVariants as entries
+use Rattle.dc_model.specs.declared.mark.Mark.TheVariants as marks
 use Rattle.dc_twophase.specs.Stores.{EachPair, IsNoPlace}
 use Rattle.dc_world.proofs.Felling.{all_written}
 use Rattle.dc_world.proofs.Partaking.{no_place}
 use Rattle.dc_world.proofs.Waiting.{ready_together}
 use Rattle.dc_world.specs.Stages.{IsReady, stage_of}
-use Rattle.dc_world.specs.Turns.{HasNoRun, later}
+use Rattle.dc_world.specs.Turns.{GoesOn, HasNoRun, later, lines_of}
 use Rattle.dc_world.specs.Worlds.{counted, stage_in}
 use Rattle.dc_world.proofs.world.World.turn_together.Goals as goal
 
@@ -35,3 +37,23 @@ returns-clause-refused g c p fault e =
     let none : HasNoRun g.C.Checkpoint (stage_of c.deref_mut.result.now c.args.dev.now c.args.self.now.processes) (later 0 (stage_of new c.turn_together.new.dev c.turn_together.new.self)) = c.turn_together.ensures.refused p fault e in
     subst (λ xs. HasNoRun g.C.Checkpoint (stage_in c.args.self.now c.args.dev.now) (later 0 (stage_of xs c.turn_together.new.dev c.turn_together.new.self))) (sym all)
     (subst (λ xs. HasNoRun g.C.Checkpoint (stage_of xs c.args.dev.now c.args.self.now.processes) (later 0 (stage_of new c.turn_together.new.dev c.turn_together.new.self))) c.deref_mut.ensures.value none)
+
+pub returns-clause-turned : goal.returns-clause-turned
+returns-clause-turned g c =
+    let stores = c.args.self.now.stores.items in
+    let new = c.turn_together.new.stores in
+    let stores1 = take c.args.self.now.stores.len (new ++ drop (length new) stores) in
+    let all : stores1 ≡ new = all_written c.args.self.now.stores.len stores new (search rules) (c.turn_together.ensures.as_many ∙ ap (λ xs. length xs) c.deref_mut.ensures.value) in
+    let made = c.turn_together.new in
+    subst (λ xs. IfOk c.turn_together.result (λ mark. GoesOn g.C.Checkpoint (stage_in c.args.self.now c.args.dev.now) (later (length (lines_of made.shown)) (stage_of xs made.dev made.self)) (entries.Turn c.args.turn.now) mark made.shown)) (sym all)
+    (subst (λ xs. IfOk c.turn_together.result (λ mark. GoesOn g.C.Checkpoint (stage_of xs c.args.dev.now c.args.self.now.processes) (later (length (lines_of made.shown)) (stage_of new made.dev made.self)) (entries.Turn c.args.turn.now) mark made.shown)) c.deref_mut.ensures.value c.turn_together.ensures.turned)
+
+pub returns-clause-stopped : goal.returns-clause-stopped
+returns-clause-stopped g c =
+    let stores = c.args.self.now.stores.items in
+    let new = c.turn_together.new.stores in
+    let stores1 = take c.args.self.now.stores.len (new ++ drop (length new) stores) in
+    let all : stores1 ≡ new = all_written c.args.self.now.stores.len stores new (search rules) (c.turn_together.ensures.as_many ∙ ap (λ xs. length xs) c.deref_mut.ensures.value) in
+    let made = c.turn_together.new in
+    subst (λ xs. OnErr c.turn_together.result (GoesOn g.C.Checkpoint (stage_in c.args.self.now c.args.dev.now) (later 0 (stage_of xs made.dev made.self)) (entries.Turn c.args.turn.now) marks.Stopped None)) (sym all)
+    (subst (λ xs. OnErr c.turn_together.result (GoesOn g.C.Checkpoint (stage_of xs c.args.dev.now c.args.self.now.processes) (later 0 (stage_of new made.dev made.self)) (entries.Turn c.args.turn.now) marks.Stopped None)) c.deref_mut.ensures.value c.turn_together.ensures.stopped)

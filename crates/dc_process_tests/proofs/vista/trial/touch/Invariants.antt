@@ -1,0 +1,4 @@
+use Rattle.dc_process_tests.proofs.vista.trial.touch.Given as goal
+
+abbrev pub invariant-loop-k : goal.invariant-loop-k
+invariant-loop-k g l = g.T.Trial.fits l.trial

@@ -1,0 +1,6 @@
+pub mod Lists
+mod Steps
+mod Guests
+mod Worlds
+mod Reports
+pub mod Passes
