@@ -3,7 +3,7 @@
 ghost use Rattle.std.specs.Prelude.{◌≡◌, ◌<◌, ◌≤◌, ℕ, All, Err, IfOk, OnErr, length, false};
 ghost use Rattle.dc_course.specs.Courses.{IsCourse, account_of, counts_of, setting_of};
 ghost use Rattle.dc_course.specs.Running.{output};
-ghost use Rattle.dc_course.specs.Segments.{SegmentsLeft, capped_by, TellsStores};
+ghost use Rattle.dc_course.specs.Segments.{AreLeftFrom, KeepsTold, SegmentsLeft, capped_by, TellsStores};
 ghost use Rattle.dc_course.specs.declared.ending.Ending.TheVariants as endings;
 ghost use Rattle.dc_media.specs.Causes.{Rose};
 ghost use Rattle.dc_media.specs.Devices.{of_words};
@@ -47,6 +47,8 @@ pub fn run_on_memory<K: Keeps, O: Sink>(
     ensures failed { (p : ℕ) → result ≡ Err (opening.Failed p) → (p < length setup.images.items) × Rose (K.faults keeps.old p) (K.faults keeps.new p) }
     ensures unopened { OnErr result (out.new ≡ out.old) }
     ensures later { (p : ℕ) → (K.stops keeps.old p ≤ K.stops keeps.new p) × (K.faults keeps.old p ≤ K.faults keeps.new p) }
+    ensures tells { (p : ℕ) → KeepsTold K.Keeps keeps.old keeps.new p }
+    ensures others { AreLeftFrom (length setup.images.items) K.Keeps keeps.old keeps.new }
     ensures out_tells { TellsOn 0 (O.faults out.new) (O.held out.old) (O.held out.new) }
     ensures out_later { O.faults out.old ≤ O.faults out.new }
 {

@@ -6,3 +6,4 @@ mod Headlines
 mod Ends
 mod Given
 mod Passed
+mod Leaving

@@ -96,6 +96,11 @@ abbrev pub IsCarriedOut : Work → Verdict → Type 0
 IsCarriedOut (Run setting) verdict = (verdict ≡ Done) ⊎ (verdict ≡ Unfinished)
 IsCarriedOut _ verdict = verdict ≡ Done
 
+-- how many stores work uses: a run one for each guest, and all else none
+abbrev pub stores_used : Result Work Verdict → ℕ
+stores_used (Ok (Run setting)) = length setting.images
+stores_used _ = 0
+
 -- the stores that a run was lent told what they held
 abbrev pub TellsFor : {S : Type 0} → keeps.Ghosts S → S → S → Work → Type 0
 TellsFor words before after (Run setting) = TellsStores words (length setting.images) before after

@@ -4,16 +4,17 @@ ghost use Rattle.dc_asm.specs.declared.forms.Meant.{Meant};
 ghost use Rattle.dc_course.specs.Courses.{IsCourse, account_of, counts_of};
 ghost use Rattle.dc_course.specs.Headline.{Setting as Settings};
 ghost use Rattle.dc_course.specs.Running.{output};
-ghost use Rattle.dc_course.specs.Segments.{SegmentsLeft, TellsStores, capped_by};
+ghost use Rattle.dc_course.specs.Segments.{AreLeftFrom, KeepsTold, SegmentsLeft, TellsStores, capped_by};
 ghost use Rattle.dc_course.specs.declared.ending.Ending.TheVariants as endings;
 ghost use Rattle.dc_world.specs.declared.faults.OpenFault.TheVariants as opening;
+ghost use Rattle.dc_limits.specs.declared.sizes.TheConstants.{PROCESSES};
 ghost use Rattle.dc_media.specs.Causes.{Rose};
 ghost use Rattle.dc_media.specs.Told.{TellsOn};
 ghost use Rattle.dc_run.specs.Assembling.{IsAssembled};
 ghost use Rattle.dc_run.specs.Checking.{Checked, IsChecked, TellsDifference, TellsLine};
 ghost use Rattle.dc_command.specs.Command.{Names, asked_of};
 ghost use Rattle.dc_command.specs.Command.Asked.{ToAssemble, ToCheck, ToRun};
-ghost use Rattle.dc_run.specs.Commands.{AreCalm, Asks, AsksToRunPlan, IfAssembly, IfCheck, IfFound, IfRun, IsCarriedOut, IsExact, IsOpenedFor, TellsFor, may_end, unasked_by, work_of};
+ghost use Rattle.dc_run.specs.Commands.{AreCalm, Asks, AsksToRunPlan, IfAssembly, IfCheck, IfFound, IfRun, IsCarriedOut, IsExact, IsOpenedFor, TellsFor, may_end, stores_used, unasked_by, work_by, work_of};
 ghost use Rattle.dc_run.specs.Headline.{IsReported, Reports, course, loan, unopened_by, unreported, verdict_at};
 ghost use Rattle.dc_run.specs.Opening.{AsksToRun, opening_of};
 ghost use Rattle.dc_run.specs.Outcomes.{IsNothing, status_of};
@@ -120,6 +121,9 @@ pub fn dc<L: Library, K: Keeps, D: Disks, O: Sink, R: Sink>(
     ensures keeps { ((plan : List ℕ) → asked_of words.now ≡ Some (ToRun plan) → ⊥) → keeps.new ≡ keeps.old }
     ensures keeps_refused { may_have_run result.verdict ≡ false → (result.verdict ≡ Verdict.WantOfMemory → ⊥) → keeps.new ≡ keeps.old }
     ensures keeps_later { (p : ℕ) → (K.stops keeps.old p ≤ K.stops keeps.new p) × (K.faults keeps.old p ≤ K.faults keeps.new p) }
+    ensures keeps_tells { (p : ℕ) → KeepsTold K.Keeps keeps.old keeps.new p }
+    ensures keeps_others { IfSome (L.files lib.old) (λ files. AreLeftFrom (stores_used (work_of files words.now)) K.Keeps keeps.old keeps.new) }
+    ensures keeps_beyond { AreLeftFrom PROCESSES K.Keeps keeps.old keeps.new }
     ensures disks { disks.new ≡ disks.old }
 {
     match command_in(alloc, words) {
@@ -203,6 +207,9 @@ fn run_setting<K: Keeps, O: Sink>(
     ensures keeps_later { (p : ℕ) → (K.stops keeps.old p ≤ K.stops keeps.new p) × (K.faults keeps.old p ≤ K.faults keeps.new p) }
     ensures later { O.faults out.old ≤ O.faults out.new }
     ensures tells { TellsOn 0 (O.faults out.new) (O.held out.old) (O.held out.new) }
+    ensures keeps_tells { (p : ℕ) → KeepsTold K.Keeps keeps.old keeps.new p }
+    ensures keeps_others { AreLeftFrom (length (setting_of setting).images) K.Keeps keeps.old keeps.new }
+    ensures keeps_beyond { AreLeftFrom PROCESSES K.Keeps keeps.old keeps.new }
 {
     let Setting {
         protocol,
@@ -257,6 +264,9 @@ fn run_plan<L: Library, K: Keeps, O: Sink, R: Sink>(
     ensures report_later { R.faults report.old ≤ R.faults report.new }
     ensures keeps_refused { may_have_run result.verdict ≡ false → (result.verdict ≡ Verdict.WantOfMemory → ⊥) → keeps.new ≡ keeps.old }
     ensures keeps_later { (p : ℕ) → (K.stops keeps.old p ≤ K.stops keeps.new p) × (K.faults keeps.old p ≤ K.faults keeps.new p) }
+    ensures keeps_tells { (p : ℕ) → KeepsTold K.Keeps keeps.old keeps.new p }
+    ensures keeps_others { IfSome (L.files lib.old) (λ files. AreLeftFrom (stores_used (work_by files (ToRun plan.now))) K.Keeps keeps.old keeps.new) }
+    ensures keeps_beyond { AreLeftFrom PROCESSES K.Keeps keeps.old keeps.new }
 {
     let setting = match open(alloc, plan, lib) {
         Ok(setting) => setting,

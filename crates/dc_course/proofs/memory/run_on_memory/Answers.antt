@@ -1,10 +1,10 @@
-use Rattle.std.proofs.Common.{◌≡◌, ◌≤◌, ◌<◌, IfOk, IsSome, ap, arith, length, refl, rules, subst, sym}
+use Rattle.std.proofs.Common.{◌≡◌, ◌∙◌, ◌≤◌, ◌<◌, IfOk, IsSome, ap, arith, length, refl, rules, subst, sym}
 use Rattle.std.proofs.lemmas.Result.{IfOk-weaker}
 use Rattle.dc_course.proofs.Segments.{memory_course}
 use Rattle.dc_vista.specs.Handles.{shape_of}
 use Rattle.dc_course.specs.Courses.{IsCourse, account_of, counts_of, setting_of}
 use Rattle.dc_course.specs.Running.{output}
-use Rattle.dc_course.specs.Segments.{SegmentsLeft, TellsStores, capped_by}
+use Rattle.dc_course.specs.Segments.{IsLeftAlone, KeepsTold, SegmentsLeft, TellsStores, capped_by}
 use Rattle.dc_media.specs.Causes.{Rose}
 use Rattle.dc_course.proofs.memory.run_on_memory.Goals as goal
 
@@ -36,3 +36,22 @@ returns-clause-headline g c =
       stops = λ p less. let all = c.run-course.ensures.planned p in let none = c.new-armed.ensures.came p in let few = tells.stops p less in let long = c.requires.entries in omega (arith, all, none, few, long);
       faults = tells.faults;
     })) c.new-armed.ensures.stops lent c.requires.some (λ s. shape_of s.frame) (λ s. refl) (λ s is. is) (λ s d r l. l) (λ s d l. l)) c.run-course.ensures.headline)
+
+pub returns-clause-tells : goal.returns-clause-tells
+returns-clause-tells g c p =
+    let lent : c.new-armed.result.device.now ≡ c.args.keeps.now = ap (λ b. b.now) c.new-armed.ensures.device in
+    subst (λ k. KeepsTold g.K.Keeps c.args.keeps.now k p) {x = c.run-course.new.dev.device.now} (search rules)
+    (λ few sound told. c.run-course.ensures.tells p
+    (let all = c.run-course.ensures.planned p in let none = c.new-armed.ensures.came p in let long = c.requires.entries in omega (arith, all, none, few, long)) sound
+    (subst (λ x. IsSome (g.K.Keeps.told x p)) (sym lent) told))
+
+pub returns-clause-others : goal.returns-clause-others
+returns-clause-others g c q high =
+    let lent : c.new-armed.result.device.now ≡ c.args.keeps.now = ap (λ b. b.now) c.new-armed.ensures.device in
+    let same = c.run-course.ensures.others q high in
+    subst (λ k. IsLeftAlone g.K.Keeps c.args.keeps.now k q) {x = c.run-course.new.dev.device.now} (search rules) (record {
+      told_same = same.told_same ∙ ap (λ k. g.K.Keeps.told k q) lent;
+      extent_same = same.extent_same ∙ ap (λ k. g.K.Keeps.extent k q) lent;
+      stops_same = let all = same.stops_same in let none = c.new-armed.ensures.came q in let later = c.run-course.ensures.lasts.stopped q in let is = ap (λ k. g.K.Keeps.stops k q) lent in omega (arith, all, none, later, is);
+      faults_same = same.faults_same ∙ ap (λ k. g.K.Keeps.faults k q) lent;
+    })

@@ -10,6 +10,8 @@ use Rattle.dc_course.specs.Segments.{TellsStores}
 use Rattle.dc_run.specs.Headline.{IsReported, course, loan}
 use Rattle.dc_run.specs.Passing.{WritesPassing}
 use Rattle.dc_run.specs.Settings.{has_run}
+use Rattle.dc_run.proofs.Leaving.{asked_left, left_same}
+use Rattle.dc_run.specs.Commands.{stores_used, work_of}
 use Rattle.dc_run.proofs.program.dc.Goals as goal
 
 pub returns-in-Ok-Run-clause-refused : goal.returns-in-Ok-Run-clause-refused
@@ -92,3 +94,16 @@ returns-in-Ok-Run-clause-passes g c ran = let asked : asked_of c.args.words.now 
     let report = course (g.R.Sink.held c.args.report.now) (g.R.Sink.held c.run_plan.new.report) (g.R.Sink.faults c.args.report.now) (g.R.Sink.faults c.run_plan.new.report) in
     run_of_words (g.L.Library.files c.args.lib.now) c.args.words.now c.in-Ok-Run.plan.now
     (λ setting. TellsStores g.K.Keeps (length setting.images) c.args.keeps.now c.run_plan.new.keeps → WritesPassing setting out report c.run_plan.result.acts.items) asked (c.run_plan.ensures.passes ran)
+
+pub returns-in-Ok-Run-clause-keeps_others : goal.returns-in-Ok-Run-clause-keeps_others
+returns-in-Ok-Run-clause-keeps_others g c = let asked : asked_of c.args.words.now ≡ Some (ToRun c.in-Ok-Run.plan.now) = search rules in
+    asked_left g.K.Keeps (g.L.Library.files c.args.lib.now) c.args.words.now c.in-Ok-Run.plan.now c.args.keeps.now c.run_plan.new.keeps asked c.run_plan.ensures.keeps_others
+
+pub returns-in-Ok-Check-clause-keeps_others : goal.returns-in-Ok-Check-clause-keeps_others
+returns-in-Ok-Check-clause-keeps_others g c = left_same g.K.Keeps (g.L.Library.files c.args.lib.now) (λ files. stores_used (work_of files c.args.words.now)) c.args.keeps.now
+
+pub returns-in-Ok-Assemble-clause-keeps_others : goal.returns-in-Ok-Assemble-clause-keeps_others
+returns-in-Ok-Assemble-clause-keeps_others g c = left_same g.K.Keeps (g.L.Library.files c.args.lib.now) (λ files. stores_used (work_of files c.args.words.now)) c.args.keeps.now
+
+pub returns-in-Err-clause-keeps_others : goal.returns-in-Err-clause-keeps_others
+returns-in-Err-clause-keeps_others g c = left_same g.K.Keeps (g.L.Library.files c.args.lib.now) (λ files. stores_used (work_of files c.args.words.now)) c.args.keeps.now

@@ -11,6 +11,9 @@ use Rattle.dc_run.specs.Commands.{IsOpenedFor}
 use Rattle.dc_run.specs.Settings.{may_have_run, setting_of}
 use Rattle.dc_run.proofs.Works.{closed_refusal, exact_work, for_known, opened_work, refused_exact, refused_work, told_verdict}
 use Rattle.dc_run.proofs.Headlines.{opened_so, reported_for, reported_may, reported_so, run_report, with_report}
+use Rattle.dc_run.proofs.Leaving.{left_same, opened_left}
+use Rattle.dc_run.specs.Commands.{stores_used, work_by}
+use Rattle.dc_command.specs.Command.Asked.{ToRun}
 use Rattle.dc_run.proofs.program.run_plan.Goals as goal
 
 pub returns-in-Ok-run_setting-clause-headline : goal.returns-in-Ok-run_setting-clause-headline
@@ -59,3 +62,9 @@ returns-in-Ok-run_setting-clause-passes g c ran =
     (λ tells calm calm' empty empty' shown listed at at'. run_passes g.K.Keeps setting c.reported.result lent out report c.in-Ok.ensures.given
     (with_report g.K.Keeps setting c.in-Ok-run_setting.course c.outcome_of.result c.reported.result lent out report c.outcome_of.ensures c.in-Ok-run_setting.ensures.headline c.reported.ensures.reports c.reported.ensures.acts c.reported.ensures.marks c.reported.ensures.lines)
     tells calm calm' (λ e. c.in-Ok-run_setting.ensures.sink (sink_ending c.in-Ok-run_setting.course.ending c.reported.result.verdict _ report reports e)) empty empty' shown listed at at')
+
+pub returns-in-Ok-run_setting-clause-keeps_others : goal.returns-in-Ok-run_setting-clause-keeps_others
+returns-in-Ok-run_setting-clause-keeps_others g c = opened_left g.K.Keeps (g.L.Library.files c.args.lib.now) c.args.plan.now (setting_of c.in-Ok.setting) c.args.keeps.now c.run_setting.new.keeps c.in-Ok.ensures.told c.in-Ok-run_setting.ensures.keeps_others
+
+pub returns-in-Err-clause-keeps_others : goal.returns-in-Err-clause-keeps_others
+returns-in-Err-clause-keeps_others g c = left_same g.K.Keeps (g.L.Library.files c.args.lib.now) (λ files. stores_used (work_by files (ToRun c.args.plan.now))) c.args.keeps.now
