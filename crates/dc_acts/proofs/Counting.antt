@@ -65,7 +65,7 @@ counted_cut counts after acts left p reach are e own others = record {
     at_p : slice_index after p ≡ acts_of p left
     at_p = own ∙ ap (λ n. min n reach) (are.each p) ∙ sym (ap (acts_of p) e ∙ own_cut p reach acts)
 
--- the loop of a cut at the act x of place i
+-- the loop of a cut at the act x of position i
 module _ (p reach i : ℕ) (acts : List Taken) (x d : Taken) (within : i < length acts) (here : x ≡ get_or acts i d) where
   turned : reverse (take (i + 1) acts) ≡ x ∷ reverse (take i acts)
   turned = ap reverse (take_more acts i d within ∙ ap (λ y. take i acts ++ y ∷ []) (sym here)) ∙ reverse-append (take i acts) (x ∷ [])
@@ -117,7 +117,7 @@ cut_nothing p reach acts n long few = ap reverse (cut_none (λ (y : Taken). y.p)
         (λ (ne : q ≢ p). let all = count_all (λ (y : Taken). y.p) q acts in omega (arith, turned, all, reach_other p reach n q ne, long))
         (cases_eq q p)
 
--- the acts before the place where a cut begins
+-- the acts before the position where a cut begins
 pub cut_begun : (p start : ℕ) (was : List Taken) → start ≤ length was → IsCutTo p (acts_of p (take start was)) start was was start (acts_of p (take start was))
 cut_begun p start was within = record {
   stay = sym (cut_nothing p (acts_of p (take start was)) (take start was) (length was) (omega (arith, length-take start was)) (omega arith));

@@ -38,7 +38,7 @@ module _ {X : Type 0} (f : X → List ℕ) (d : X) where
   pub one_more : (xs : List X) (k : ℕ) → k < length xs → flat_map f (take (k + 1) xs) ≡ flat_map f (take k xs) ++ f (slice_index_or xs k d)
   one_more xs k within = ap (λ n. flat_map f (take n xs)) (let next : k + 1 ≡ suc k = omega arith in next) ∙ with_next xs k within
 
--- the pieces up to a place, and from it on
+-- the pieces up to a position, and from it on
 pub split_front : {X : Type 0} (f : X → List ℕ) (xs : List X) (k : ℕ) → flat_map f xs ≡ flat_map f (take k xs) ++ flat_map f (drop k xs)
 split_front f xs zero = refl
 split_front f [] (suc k) = refl

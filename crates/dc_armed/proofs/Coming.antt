@@ -10,7 +10,7 @@ use Rattle.dc_media.specs.Told.{Becomes, Device}
 use Rattle.dc_media.proofs.Becoming.{Becomes-then}
 use Rattle.dc_media.proofs.Storing.{counted_more}
 use Rattle.dc_armed.specs.declared.stop.Waiting.{Waiting}
-use Rattle.dc_armed.specs.Armed.{Armed, ComesOrRefused, IsOwn, IsPlanned}
+use Rattle.dc_armed.specs.Armed.{Armed, ComesOrRefused, IsPassedOn, IsPlanned}
 use Rattle.dc_armed.specs.Stops.{Waits, after_answer, calls_to, came_to, due, due_of, one_fewer, waiting_for}
 use Rattle.dc_armed.specs.Torn.{at_once, torn_store}
 use Rattle.dc_armed.specs.Rows.{AreCountedDown, ComesInRow, IsPlannedInRow, counted_down, due_within, row_calls}
@@ -62,7 +62,7 @@ pub record IsSoFar {D : Type 0} (device : Device D (List ℕ)) (p j : ℕ) (old 
 -- what one store says
 pub record IsStored {D : Type 0} (device : Device D (List ℕ)) (p i w : ℕ) (result : Result (Unit {0}) DeviceFault) (old new : Armed D) : Type 0 where
   pub once : due old.plan p ≡ None → device.calls new.device p ≡ counted (device.calls old.device p)
-  pub passes : due old.plan p ≡ None → IsOwn device p result old new
+  pub passes : due old.plan p ≡ None → IsPassedOn device p result old new
   pub stops : IfSome (due old.plan p) (λ tear. ComesOrRefused device p (record { leaves = torn_store tear i w; calls = at_once tear.keep }) result old new)
   pub parts : IfSome (due old.plan p) (λ tear. device.calls new.device p ≡ counted_by (at_once tear.keep) (device.calls old.device p))
   pub calls : calls_to new.plan p ≡ counted (calls_to old.plan p)
@@ -89,7 +89,7 @@ module _ {D : Type 0} (device : Device D (List ℕ)) (p j i w : ℕ) (old now ne
   not_due None r made comes = refl
   not_due (Some tear) r made comes = absurd (⊎_elim
       (λ (planned : IsPlanned device p (record { leaves = torn_store tear i w; calls = at_once tear.keep }) r now new). let err : is_err r ≡ true = rw planned.answer refl in let both : false ≡ true = made ∙ err in cc)
-      (λ (refused : IsErr r × IsOwn device p r now new). let both : false ≡ true = made ∙ refused.0 in cc)
+      (λ (refused : IsErr r × IsPassedOn device p r now new). let both : false ≡ true = made ∙ refused.0 in cc)
       comes)
 
   -- one word more
@@ -114,7 +114,7 @@ module _ {D : Type 0} (device : Device D (List ℕ)) (p i j : ℕ) (ws : List �
     (counts : calls_to now.plan p ≡ counted_by j (calls_to old.plan p))
     (result : Result (Unit {0}) DeviceFault) (refused : true ≡ is_err result) (one : IsStored device p (i + j) (slice_index ws j) result now new) where
   -- none of its own stops and faults were counted before
-  own : IsOwn device p result now new → IsOwn device p result old new
+  own : IsPassedOn device p result now new → IsPassedOn device p result old new
   own it = record { cause = rw (so_far.stops_same, so_far.faults_same) at it.cause; came_same = it.came_same ∙ so_far.came_same }
 
   came_same : (q : ℕ) → came_to now.plan q ≡ came_to old.plan q
@@ -156,7 +156,7 @@ module _ {D : Type 0} (device : Device D (List ℕ)) (p i j : ℕ) (ws : List �
     comes_here = ⊎_elim
         (λ (here : stop.calls ≡ j + 1 × due now.plan p ≡ Some stop.tear). ⊎_elim
         (λ (it : IsPlanned device p (record { leaves = torn_store stop.tear (i + j) (slice_index ws j); calls = at_once stop.tear.keep }) result now new). inl (planned here.0 it))
-        (λ (it : IsErr result × IsOwn device p result now new). inr (it.0, own it.1))
+        (λ (it : IsErr result × IsPassedOn device p result now new). inr (it.0, own it.1))
         (rw here.1 at one.stops))
         (λ (later : j + 1 < stop.calls × due now.plan p ≡ None). inr (is_refused, own (one.passes later.1)))
         due_now

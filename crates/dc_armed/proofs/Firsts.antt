@@ -11,7 +11,7 @@ use Rattle.dc_armed.specs.declared.stop.Waiting.{Waiting}
 use Rattle.dc_armed.specs.Turns.{ComesNone, WaitFirst}
 use Rattle.dc_armed.specs.Stops.{first_stop, is_of, sooner_waiting, waiting_of}
 
--- each place of a list of one value has it, and so has each place past its end
+-- each index of a list of one value has it, and so has each past its end
 pub get_or-replicate_same : {A : Type 0} (a : A) (n i : ℕ) → get_or (replicate n a) i a ≡ a
 get_or-replicate_same a zero i = refl
 get_or-replicate_same a (suc n) zero = refl

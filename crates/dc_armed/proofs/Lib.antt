@@ -5,3 +5,4 @@ mod Firsts
 mod Parting
 mod Rows
 mod Surviving
+mod Punctual

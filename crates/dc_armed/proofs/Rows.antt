@@ -11,7 +11,7 @@ use Rattle.dc_armed.specs.Stops.{Waits, after_answer, came_to, calls_left, cappe
 use Rattle.dc_armed.proofs.Counting.{capped_by, capped_later}
 
 -- a stop that waits for none of n calls waits for more than n
-past : (n : ℕ) (waiting : Waiting) → waits_within n (Some waiting) ≡ false → n < waiting.calls
+pub past : (n : ℕ) (waiting : Waiting) → waits_within n (Some waiting) ≡ false → n < waiting.calls
 past n waiting none = grind (arith, none)
 
 -- it waits still after n calls
@@ -20,7 +20,7 @@ left_some n None none some = some
 left_some n (Some waiting) none some = let more = past n waiting none in omega (arith, more)
 
 -- for n calls fewer
-left_by : (n : ℕ) (waiting : Option Waiting) → waits_within n waiting ≡ false → 0 < calls_left waiting → calls_left (fewer_by n waiting) + n ≡ calls_left waiting
+pub left_by : (n : ℕ) (waiting : Option Waiting) → waits_within n waiting ≡ false → 0 < calls_left waiting → calls_left (fewer_by n waiting) + n ≡ calls_left waiting
 left_by n None none some = absurd (omega (arith, some))
 left_by n (Some waiting) none some = let more = past n waiting none in omega (arith, more)
 

@@ -5,7 +5,7 @@ use Rattle.dc_media.specs.Causes.{counted_by}
 use Rattle.dc_media.specs.Stores.{set_words}
 use Rattle.dc_media.specs.Told.{Device}
 use Rattle.dc_armed.specs.declared.stop.Waiting.{Waiting}
-use Rattle.dc_armed.specs.Armed.{Armed, IsOwn, IsPlanned}
+use Rattle.dc_armed.specs.Armed.{Armed, IsPassedOn, IsPlanned}
 use Rattle.dc_armed.specs.Stops.{Plan, Waits, after_answer, calls_to, one_fewer, waiting_for}
 use Rattle.dc_armed.specs.Torn.{at_once, torn_store}
 
@@ -35,7 +35,7 @@ pub record IsPlannedInRow {D T : Type 0} (device : Device D (List ℕ)) (p : ℕ
 
 -- the planned stop came, or the device within refused a word, which is then the answer
 abbrev pub ComesInRow : {D T : Type 0} → Device D (List ℕ) → ℕ → Waiting → Row → Result T DeviceFault → Armed D → Armed D → Type 0
-ComesInRow device p stop row result old new = IsPlannedInRow device p stop row result old new ⊎ (IsErr result × IsOwn device p result old new)
+ComesInRow device p stop row result old new = IsPlannedInRow device p stop row result old new ⊎ (IsErr result × IsPassedOn device p result old new)
 
 -- what waits after n calls
 abbrev pub counted_down : ℕ → Option Waiting → Option Waiting

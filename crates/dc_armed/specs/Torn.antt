@@ -61,7 +61,7 @@ pub record IsTornCopy {S T : Type 0} (device : Device S (List ℕ)) (p : ℕ) (c
   pub all : OnOk result (made ≡ copy_calls copy.count)
   pub lawful : IsInCalls device p made result old new
 
--- n bytes at a place are pending, and are what is made of the old ones
+-- n bytes at an offset are pending, and are what is made of the old ones
 abbrev pub overwritten : ℕ → ℕ → (List ℕ → List ℕ) → Disk → Disk
 overwritten at n make disk = record (with_pending at n disk) { content = spliced disk.content at (make (take n (drop at disk.content))) }
 

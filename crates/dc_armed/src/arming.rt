@@ -41,8 +41,8 @@ fn arm_one(waiting: &mut [Option<Waiting>; STORES as usize], stop: &PlannedStop,
     ensures none { result ≡ false → waiting.new ≡ waiting.old }
 {
     if comes_in(turn, stop) {
-        let place = stop.process as usize;
-        waiting[place] = Some(sooner(waiting[place], stop));
+        let index = stop.process as usize;
+        waiting[index] = Some(sooner(waiting[index], stop));
         return true;
     }
     false

@@ -4,7 +4,7 @@ ghost use Rattle.dc_media.specs.Causes.{counted, counted_by};
 ghost use Rattle.dc_media.specs.Disk.{Reads, Syncs, Writes, blank};
 ghost use Rattle.dc_media.specs.Devices.{of_disks};
 ghost use Rattle.dc_media.specs.Told.{showing};
-ghost use Rattle.dc_armed.specs.Armed.{all_calls, all_stops, armed, within, ComesOrRefused, IsOwn, IsPlannedAlone, IsLater};
+ghost use Rattle.dc_armed.specs.Armed.{all_calls, all_stops, armed, within, ComesOrRefused, IsPassedOn, IsPlannedAlone, IsLater};
 ghost use Rattle.dc_armed.specs.Torn.{torn_calls, torn_disk};
 ghost use Rattle.dc_armed.specs.Stops.{after_answer, calls_to, came_to, due, one_fewer, waiting_for, Waits};
 ghost use Rattle.dc_armed.specs.Laws.{later_on, later_self};
@@ -67,7 +67,7 @@ impl<D: Disks> Disks for Armed<D> {
         ensures uncounted { D.calls self.new.device p ≡ D.calls self.old.device p }
 
         // the answer is the device's, and what waits after it
-        ensures passes { IsOwn (of_disks D.Disks) p result self.old self.new }
+        ensures passes { IsPassedOn (of_disks D.Disks) p result self.old self.new }
         ensures waits { Waits p (after_answer result (waiting_for self.old.plan p)) self.old.plan self.new.plan }
     {
         let done = self.device.read(p, at, to);
@@ -89,7 +89,7 @@ impl<D: Disks> Disks for Armed<D> {
 
         // what a planned stop does, and what waits after a call
         ensures once { due self.old.plan p ≡ None → D.calls self.new.device p ≡ counted (D.calls self.old.device p) }
-        ensures passes { due self.old.plan p ≡ None → IsOwn (of_disks D.Disks) p result self.old self.new }
+        ensures passes { due self.old.plan p ≡ None → IsPassedOn (of_disks D.Disks) p result self.old self.new }
         ensures stops { IfSome (due self.old.plan p) (λ tear. ComesOrRefused (of_disks D.Disks) p (record { leaves = torn_disk tear at from.now; calls = torn_calls tear (length from.now) }) result self.old self.new) }
         ensures parts { IfSome (due self.old.plan p) (λ tear. D.calls self.new.device p ≡ counted_by (torn_calls tear (length from.now)) (D.calls self.old.device p)) }
         ensures waits { Waits p (after_answer result (one_fewer (waiting_for self.old.plan p))) self.old.plan self.new.plan }
@@ -118,7 +118,7 @@ impl<D: Disks> Disks for Armed<D> {
 
         // what a planned stop does, and what waits after a call
         ensures once { due self.old.plan p ≡ None → D.calls self.new.device p ≡ counted (D.calls self.old.device p) }
-        ensures passes { due self.old.plan p ≡ None → IsOwn (of_disks D.Disks) p result self.old self.new }
+        ensures passes { due self.old.plan p ≡ None → IsPassedOn (of_disks D.Disks) p result self.old self.new }
         ensures stops { IfSome (due self.old.plan p) (λ tear. IsPlannedAlone p result self.old self.new) }
         ensures waits { Waits p (after_answer result (one_fewer (waiting_for self.old.plan p))) self.old.plan self.new.plan }
         ensures elsewhere { (q : ℕ) → q ≢ p → came_to self.new.plan q ≡ came_to self.old.plan q }

@@ -4,7 +4,7 @@ ghost use Rattle.dc_media.specs.Causes.{AreCounted, counted, counted_by};
 ghost use Rattle.dc_media.specs.Stores.{AreSameOrApart, CopiesLine, SetsWord, SetsWords, copied};
 ghost use Rattle.dc_media.specs.Devices.{of_words};
 ghost use Rattle.dc_media.specs.Told.{showing};
-ghost use Rattle.dc_armed.specs.Armed.{all_calls, all_stops, armed, within, ComesOrRefused, IsOwn, IsPlannedAlone, IsLater};
+ghost use Rattle.dc_armed.specs.Armed.{all_calls, all_stops, armed, within, ComesOrRefused, IsPassedOn, IsPlannedAlone, IsLater};
 ghost use Rattle.dc_armed.specs.Torn.{at_once, copy_calls, kept_words, torn_store};
 ghost use Rattle.dc_armed.specs.Rows.{AreCountedDown, ComesInRow, due_within, row_calls};
 ghost use Rattle.dc_armed.specs.Stops.{after_answer, calls_to, came_to, due, fewer_by, one_fewer, waiting_for, waits_within, Waits};
@@ -70,7 +70,7 @@ impl<K: Keeps> Keeps for Armed<K> {
 
         // what a planned stop does, and what waits after a call
         ensures once { due self.old.plan p ≡ None → K.calls self.new.device p ≡ counted (K.calls self.old.device p) }
-        ensures passes { due self.old.plan p ≡ None → IsOwn (of_words K.Keeps) p result self.old self.new }
+        ensures passes { due self.old.plan p ≡ None → IsPassedOn (of_words K.Keeps) p result self.old self.new }
         ensures stops { IfSome (due self.old.plan p) (λ tear. ComesOrRefused (of_words K.Keeps) p (record { leaves = torn_store tear i w; calls = at_once tear.keep }) result self.old self.new) }
         ensures unmade { IfSome (due self.old.plan p) (λ tear. tear.keep ≡ 0 → IsPlannedAlone p result self.old self.new) }
         ensures parts { IfSome (due self.old.plan p) (λ tear. K.calls self.new.device p ≡ counted_by (at_once tear.keep) (K.calls self.old.device p)) }
@@ -106,7 +106,7 @@ impl<K: Keeps> Keeps for Armed<K> {
         ensures elsewhere { (q : ℕ) → q ≢ p → came_to self.new.plan q ≡ came_to self.old.plan q }
 
         // where no stop waits for one of them: the device's own answer and calls, and what waits then
-        ensures passes { waits_within (length words.now) (waiting_for self.old.plan p) ≡ false → IsOwn (of_words K.Keeps) p result self.old self.new }
+        ensures passes { waits_within (length words.now) (waiting_for self.old.plan p) ≡ false → IsPassedOn (of_words K.Keeps) p result self.old self.new }
         ensures once { waits_within (length words.now) (waiting_for self.old.plan p) ≡ false → AreCounted (length words.now) result (K.calls self.old.device p) (K.calls self.new.device p) }
         ensures waits { waits_within (length words.now) (waiting_for self.old.plan p) ≡ false → Waits p (after_answer result (fewer_by (length words.now) (waiting_for self.old.plan p))) self.old.plan self.new.plan }
     {
@@ -124,7 +124,7 @@ impl<K: Keeps> Keeps for Armed<K> {
     /// The answer is then `Stopped`, unless the device refuses a call, which is passed on.
     fn copy_line(&mut self, p: u32, from: u32, to: u32) -> Result<(), DeviceFault>
         requires source { from + 16 ≤ K.extent self.old.device p }
-        requires place { to + 16 ≤ K.extent self.old.device p }
+        requires index { to + 16 ≤ K.extent self.old.device p }
         requires apart { AreSameOrApart from to }
         ensures call { IsCall (armed (of_words K.Keeps)) p self.old self.new result }
         ensures line { CopiesLine from to result (K.told self.old.device p) (K.told self.new.device p) }
@@ -135,7 +135,7 @@ impl<K: Keeps> Keeps for Armed<K> {
 
         // what a planned stop does, and what waits after a call
         ensures once { due self.old.plan p ≡ None → K.calls self.new.device p ≡ counted (K.calls self.old.device p) }
-        ensures passes { due self.old.plan p ≡ None → IsOwn (of_words K.Keeps) p result self.old self.new }
+        ensures passes { due self.old.plan p ≡ None → IsPassedOn (of_words K.Keeps) p result self.old self.new }
         ensures stops { IfSome (due self.old.plan p) (λ tear. ComesOrRefused (of_words K.Keeps) p (record { leaves = copied (kept_words tear) from to; calls = copy_calls (kept_words tear) }) result self.old self.new) }
         ensures unmade { IfSome (due self.old.plan p) (λ tear. tear.keep ≡ 0 → IsPlannedAlone p result self.old self.new) }
         ensures parts { IfSome (due self.old.plan p) (λ tear. (made : ℕ) × (made ≤ copy_calls (kept_words tear)) × (K.calls self.new.device p ≡ counted_by made (K.calls self.old.device p))) }

@@ -103,7 +103,7 @@ fn copy_words<K: Keeps>(
 ) -> Result<(), DeviceFault>
     requires few { count < 16 }
     requires source { from + 16 ≤ K.extent keeps.old p }
-    requires place { to + 16 ≤ K.extent keeps.old p }
+    requires index { to + 16 ≤ K.extent keeps.old p }
     requires apart { AreSameOrApart from to }
     ensures { IsTornCopy (of_words K.Keeps) p (record { from = from; to = to; count = count }) result keeps.old keeps.new }
 {
@@ -127,7 +127,7 @@ pub(crate) fn torn_copy<K: Keeps>(
     to: u32,
 ) -> Result<(), DeviceFault>
     requires source { from + 16 ≤ K.extent keeps.old p }
-    requires place { to + 16 ≤ K.extent keeps.old p }
+    requires index { to + 16 ≤ K.extent keeps.old p }
     requires apart { AreSameOrApart from to }
     ensures { IsTornCopy (of_words K.Keeps) p (record { from = from; to = to; count = kept_words tear }) result keeps.old keeps.new }
 {

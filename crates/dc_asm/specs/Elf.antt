@@ -6,7 +6,7 @@ use Rattle.dc_words.specs.Words.{bytes_in, word_of_bytes}
 abbrev pub halves : ℕ → ℕ → ℕ
 halves low high = low + 2 ^ 16 * high
 
--- magic, class 32 bits, lowest byte first, version; executable, for RISC-V; version, entry, place of the program header, no
+-- magic, class 32 bits, lowest byte first, version; executable, for RISC-V; version, entry, offset of the program header, no
 -- sections, no flags; sizes of the header and of a program header, one of which there is; no sections
 abbrev pub file_header : List ℕ
 file_header = word_of_bytes 127 69 76 70 ∷ word_of_bytes 1 1 1 0 ∷ 0 ∷ 0

@@ -14,7 +14,7 @@ use Rattle.dc_asm.specs.declared.faults.AsmKind.{AsmKind}
 use Rattle.dc_asm.specs.declared.faults.AsmKind.TheVariants as kind
 use Rattle.dc_asm.specs.declared.forms.Meant.{Meant}
 use Rattle.dc_asm.specs.declared.forms.Meant.TheVariants.{Instruction, Raw}
-use Rattle.dc_asm.specs.declared.names.Place.{Place}
+use Rattle.dc_asm.specs.declared.names.Definition.{Definition}
 use Rattle.dc_asm.specs.declared.table.Form.{Form}
 use Rattle.dc_asm.specs.declared.table.Form.TheVariants as form
 use Rattle.dc_asm.specs.Source.{is_high, line_parts, operands_of}
@@ -59,12 +59,12 @@ register_form op operands = do
   Ok (Instruction (instr.Register op rd rs1 rs2))
 
 -- `REGISTER,REGISTER,IMMEDIATE`
-unfoldable pub immediate_form : (List ℕ → Option Place) → ImmediateOp → List (List ℕ) → Result Meant AsmKind
-immediate_form places op operands = do
+unfoldable pub immediate_form : (List ℕ → Option Definition) → ImmediateOp → List (List ℕ) → Result Meant AsmKind
+immediate_form definitions op operands = do
   texts ← three operands
   rd ← register texts.0
   rs1 ← register texts.1
-  imm ← immediate places texts.2
+  imm ← immediate definitions texts.2
   Ok (Instruction (instr.Immediate op rd rs1 imm))
 
 -- `REGISTER,REGISTER,AMOUNT`
@@ -77,47 +77,47 @@ shift_form op operands = do
   Ok (Instruction (instr.Shift op rd rs1 amount))
 
 -- `REGISTER,IMMEDIATE(REGISTER)`, the register that is written in front
-unfoldable pub load_form : (List ℕ → Option Place) → LoadOp → List (List ℕ) → Result Meant AsmKind
-load_form places op operands = do
+unfoldable pub load_form : (List ℕ → Option Definition) → LoadOp → List (List ℕ) → Result Meant AsmKind
+load_form definitions op operands = do
   texts ← based operands
   rd ← register texts.0
   rs1 ← register texts.2
-  imm ← immediate places texts.1
+  imm ← immediate definitions texts.1
   Ok (Instruction (instr.Load op rd rs1 imm))
 
 -- JALR, `REGISTER,IMMEDIATE(REGISTER)`
-unfoldable pub jump_register_form : (List ℕ → Option Place) → List (List ℕ) → Result Meant AsmKind
-jump_register_form places operands = do
+unfoldable pub jump_register_form : (List ℕ → Option Definition) → List (List ℕ) → Result Meant AsmKind
+jump_register_form definitions operands = do
   texts ← based operands
   rd ← register texts.0
   rs1 ← register texts.2
-  imm ← immediate places texts.1
+  imm ← immediate definitions texts.1
   Ok (Instruction (instr.Jalr rd rs1 imm))
 
 -- `REGISTER,IMMEDIATE(REGISTER)`, the register that is stored in front
-unfoldable pub store_form : (List ℕ → Option Place) → StoreOp → List (List ℕ) → Result Meant AsmKind
-store_form places op operands = do
+unfoldable pub store_form : (List ℕ → Option Definition) → StoreOp → List (List ℕ) → Result Meant AsmKind
+store_form definitions op operands = do
   texts ← based operands
   rs2 ← register texts.0
   rs1 ← register texts.2
-  imm ← immediate places texts.1
+  imm ← immediate definitions texts.1
   Ok (Instruction (instr.Store op rs1 rs2 imm))
 
 -- `REGISTER,REGISTER,OFFSET`
-unfoldable pub branch_form : (List ℕ → Option Place) → ℕ → BranchOp → List (List ℕ) → Result Meant AsmKind
-branch_form places word op operands = do
+unfoldable pub branch_form : (List ℕ → Option Definition) → ℕ → BranchOp → List (List ℕ) → Result Meant AsmKind
+branch_form definitions word op operands = do
   texts ← three operands
   rs1 ← register texts.0
   rs2 ← register texts.1
-  imm ← offset (2 ^ 12) places word texts.2
+  imm ← offset (2 ^ 12) definitions word texts.2
   Ok (Instruction (instr.Branch op rs1 rs2 imm))
 
 -- JAL, `REGISTER,OFFSET`
-unfoldable pub jump_form : (List ℕ → Option Place) → ℕ → List (List ℕ) → Result Meant AsmKind
-jump_form places word operands = do
+unfoldable pub jump_form : (List ℕ → Option Definition) → ℕ → List (List ℕ) → Result Meant AsmKind
+jump_form definitions word operands = do
   texts ← two operands
   rd ← register texts.0
-  imm ← offset (2 ^ 20) places word texts.1
+  imm ← offset (2 ^ 20) definitions word texts.1
   Ok (Instruction (instr.Jal rd imm))
 
 -- `REGISTER,IMMEDIATE`, the upper 20 bits of a word
@@ -144,26 +144,26 @@ abbrev pub fence : Meant
 fence = Raw 267386895
 
 -- what a form stands for with its operands
-unfoldable pub meant_by : (List ℕ → Option Place) → ℕ → Form → List (List ℕ) → Result Meant AsmKind
-meant_by places word (form.Register op) operands = register_form op operands
-meant_by places word (form.Immediate op) operands = immediate_form places op operands
-meant_by places word (form.Shift op) operands = shift_form op operands
-meant_by places word (form.Load op) operands = load_form places op operands
-meant_by places word form.JumpRegister operands = jump_register_form places operands
-meant_by places word (form.Store op) operands = store_form places op operands
-meant_by places word (form.Branch op) operands = branch_form places word op operands
-meant_by places word form.Jump operands = jump_form places word operands
-meant_by places word (form.Upper op) operands = upper_form op operands
-meant_by places word form.Word operands = word_form operands
-meant_by places word form.Fence operands = bare_form fence operands
-meant_by places word form.Ecall operands = bare_form (Instruction instr.Ecall) operands
-meant_by places word form.Ebreak operands = bare_form (Instruction instr.Ebreak) operands
+unfoldable pub meant_by : (List ℕ → Option Definition) → ℕ → Form → List (List ℕ) → Result Meant AsmKind
+meant_by definitions word (form.Register op) operands = register_form op operands
+meant_by definitions word (form.Immediate op) operands = immediate_form definitions op operands
+meant_by definitions word (form.Shift op) operands = shift_form op operands
+meant_by definitions word (form.Load op) operands = load_form definitions op operands
+meant_by definitions word form.JumpRegister operands = jump_register_form definitions operands
+meant_by definitions word (form.Store op) operands = store_form definitions op operands
+meant_by definitions word (form.Branch op) operands = branch_form definitions word op operands
+meant_by definitions word form.Jump operands = jump_form definitions word operands
+meant_by definitions word (form.Upper op) operands = upper_form op operands
+meant_by definitions word form.Word operands = word_form operands
+meant_by definitions word form.Fence operands = bare_form fence operands
+meant_by definitions word form.Ecall operands = bare_form (Instruction instr.Ecall) operands
+meant_by definitions word form.Ebreak operands = bare_form (Instruction instr.Ebreak) operands
 
 -- what the line of a word stands for, by its bytes without comment
-unfoldable pub meaning : (List ℕ → Option Place) → ℕ → List ℕ → Result Meant AsmKind
-meaning places word line = if list_any is_high line then Err kind.Word else do
+unfoldable pub meaning : (List ℕ → Option Definition) → ℕ → List ℕ → Result Meant AsmKind
+meaning definitions word line = if list_any is_high line then Err kind.Word else do
   form ← or_fault kind.Word (form_of (line_parts line).0)
-  meant_by places word form (operands_of (line_parts line).1)
+  meant_by definitions word form (operands_of (line_parts line).1)
 
 -- the one word of 32 bits that codes it
 abbrev pub IsWordOf : Meant → ℕ → Type 0

@@ -5,7 +5,7 @@ use Rattle.dc_words.specs.Numbers.{number_of}
 use Rattle.dc_words.specs.Results.{◌>>=◌, or_fault}
 use Rattle.dc_asm.specs.declared.faults.AsmKind.{AsmKind}
 use Rattle.dc_asm.specs.declared.faults.AsmKind.TheVariants as kind
-use Rattle.dc_asm.specs.declared.names.Place.{Place}
+use Rattle.dc_asm.specs.declared.names.Definition.{Definition}
 use Rattle.dc_asm.specs.declared.operands.Value.{Value}
 use Rattle.dc_asm.specs.Source.{cut_at, ended_by, is_name}
 use Rattle.dc_asm.specs.Names.{address}
@@ -33,13 +33,13 @@ number [] = None
 number (c ∷ text) = if c == 45 then option_map negative (size text) else option_map positive (size (c ∷ text))
 
 -- a name's address
-abbrev pub placed : Option Place → Result Value AsmKind
+abbrev pub placed : Option Definition → Result Value AsmKind
 placed None = Err kind.Label
-placed (Some place) = Ok (positive (address place.word))
+placed (Some definition) = Ok (positive (address definition.word))
 
 -- the address of a name, which has to be one
-unfoldable pub named : (List ℕ → Option Place) → List ℕ → Result Value AsmKind
-named places text = if is_name text then placed (places text) else Err kind.Immediate
+unfoldable pub named : (List ℕ → Option Definition) → List ℕ → Result Value AsmKind
+named definitions text = if is_name text then placed (definitions text) else Err kind.Immediate
 
 -- a number, or what else there is
 abbrev pub number_or : Option Value → Result Value AsmKind → Result Value AsmKind
@@ -47,16 +47,16 @@ number_or None other = other
 number_or (Some value) other = Ok value
 
 -- a number, or a name that stands for its address
-unfoldable pub absolute : (List ℕ → Option Place) → List ℕ → Result Value AsmKind
-absolute places text = number_or (number text) (named places text)
+unfoldable pub absolute : (List ℕ → Option Definition) → List ℕ → Result Value AsmKind
+absolute definitions text = number_or (number text) (named definitions text)
 
 -- less the address of a word
 abbrev pub less_own : ℕ → Value → Value
 less_own word value = record { plus = value.plus; minus = address word }
 
 -- a number, or a name that stands for its address less that of the word
-unfoldable pub relative : (List ℕ → Option Place) → ℕ → List ℕ → Result Value AsmKind
-relative places word text = number_or (number text) (named places text >>= λ value. Ok (less_own word value))
+unfoldable pub relative : (List ℕ → Option Definition) → ℕ → List ℕ → Result Value AsmKind
+relative definitions word text = number_or (number text) (named definitions text >>= λ value. Ok (less_own word value))
 
 -- a number from -half to half - 1, in two's complement
 unfoldable pub signed : ℕ → Value → Result ℕ AsmKind
@@ -69,13 +69,13 @@ abbrev pub even : ℕ → Result ℕ AsmKind
 even bits = if bits % 2 == 0 then Ok bits else Err kind.Immediate
 
 -- the immediate of 12 bits
-unfoldable pub immediate : (List ℕ → Option Place) → List ℕ → Result ℕ AsmKind
-immediate places text = absolute places text >>= signed (2 ^ 11)
+unfoldable pub immediate : (List ℕ → Option Definition) → List ℕ → Result ℕ AsmKind
+immediate definitions text = absolute definitions text >>= signed (2 ^ 11)
 
 -- an even offset from -half to half - 2
-unfoldable pub offset : ℕ → (List ℕ → Option Place) → ℕ → List ℕ → Result ℕ AsmKind
-offset half places word text = do
-  value ← relative places word text
+unfoldable pub offset : ℕ → (List ℕ → Option Definition) → ℕ → List ℕ → Result ℕ AsmKind
+offset half definitions word text = do
+  value ← relative definitions word text
   bits ← signed half value
   even bits
 

@@ -8,31 +8,31 @@ use Rattle.dc_asm.specs.declared.faults.AsmFault.{AsmFault}
 use Rattle.dc_asm.specs.declared.faults.AsmKind.{AsmKind}
 use Rattle.dc_asm.specs.declared.faults.AsmKind.TheVariants as kind
 use Rattle.dc_asm.specs.declared.forms.Meant.{Meant}
-use Rattle.dc_asm.specs.declared.names.Place.{Place}
+use Rattle.dc_asm.specs.declared.names.Definition.{Definition}
 use Rattle.dc_asm.specs.Source.{bare, defined}
-use Rattle.dc_asm.specs.Names.{place_in}
+use Rattle.dc_asm.specs.Names.{definition_in}
 use Rattle.dc_words.specs.Results.{◌>>=◌}
 use Rattle.dc_asm.specs.Forms.{IsWordOf, meaning}
 use Rattle.dc_asm.specs.Elf.{elf_of}
 
 -- a name is defined twice where its first definition stands in an earlier line
-abbrev pub is_earlier : ℕ → Option Place → Result (Option Meant) AsmKind
+abbrev pub is_earlier : ℕ → Option Definition → Result (Option Meant) AsmKind
 is_earlier number None = Ok None
-is_earlier number (Some place) = if nat_lt place.line number then Err kind.Twice else Ok None
+is_earlier number (Some definition) = if nat_lt definition.line number then Err kind.Twice else Ok None
 
 -- a source has at most 16,000 words
 abbrev pub counted : ℕ → Meant → Result (Option Meant) AsmKind
 counted word meant = if nat_lt word 16000 then Ok (Some meant) else Err kind.TooLong
 
 -- a line that defines a name stands for no word, and another for the word that it means
-abbrev pub defines_or : (List ℕ → Option Place) → ℕ → ℕ → List ℕ → Option (List ℕ) → Result (Option Meant) AsmKind
-defines_or places number word line (Some name) = is_earlier number (places name)
-defines_or places number word line None = meaning places word line >>= counted word
+abbrev pub defines_or : (List ℕ → Option Definition) → ℕ → ℕ → List ℕ → Option (List ℕ) → Result (Option Meant) AsmKind
+defines_or definitions number word line (Some name) = is_earlier number (definitions name)
+defines_or definitions number word line None = meaning definitions word line >>= counted word
 
 -- the line of a number, without its comment, behind so many words: a word, none, or a fault
-unfoldable pub line_meaning : (List ℕ → Option Place) → ℕ → ℕ → List ℕ → Result (Option Meant) AsmKind
-line_meaning places number word [] = Ok None
-line_meaning places number word (c ∷ line) = defines_or places number word (c ∷ line) (defined (c ∷ line))
+unfoldable pub line_meaning : (List ℕ → Option Definition) → ℕ → ℕ → List ℕ → Result (Option Meant) AsmKind
+line_meaning definitions number word [] = Ok None
+line_meaning definitions number word (c ∷ line) = defines_or definitions number word (c ∷ line) (defined (c ∷ line))
 
 -- a line's word in front, or the line's fault
 abbrev pub with_front : Option Meant → Result (List Meant) AsmFault → Result (List Meant) AsmFault
@@ -51,14 +51,14 @@ line_then number (Err kind) rest = Err (record { line = number; kind = kind })
 line_then number (Ok found) rest = rest found
 
 -- the lines from this number on, behind so many words
-unfoldable pub program_from : (List ℕ → Option Place) → ℕ → ℕ → List (List ℕ) → Result (List Meant) AsmFault
-program_from places number word [] = Ok []
-program_from places number word (line ∷ lines) = line_then number (line_meaning places number word (bare line))
-    (λ found. with_front found (program_from places (suc number) (word + count_of found) lines))
+unfoldable pub program_from : (List ℕ → Option Definition) → ℕ → ℕ → List (List ℕ) → Result (List Meant) AsmFault
+program_from definitions number word [] = Ok []
+program_from definitions number word (line ∷ lines) = line_then number (line_meaning definitions number word (bare line))
+    (λ found. with_front found (program_from definitions (suc number) (word + count_of found) lines))
 
 -- what a source stands for: the meaning of each line in order, or the first faulty line
 unfoldable pub program_of : List ℕ → Result (List Meant) AsmFault
-program_of source = program_from (place_in source) 1 0 (lines_of source)
+program_of source = program_from (definition_in source) 1 0 (lines_of source)
 
 -- the words, one for each
 abbrev pub AreWordsOf : List Meant → List ℕ → Type 0

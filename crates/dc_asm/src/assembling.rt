@@ -34,7 +34,7 @@ fn line_meaning(
     }
     if let Some(name) = defined(line) {
         return match names.find(name) {
-            Some(place) if place.line < number => Err(AsmKind::Twice),
+            Some(definition) if definition.line < number => Err(AsmKind::Twice),
             _ => Ok(None),
         };
     }

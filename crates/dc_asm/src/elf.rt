@@ -16,7 +16,7 @@ fn header(count: u32) -> [u32; 21]
         0x0001_0101,
         0,
         0,
-        // file type and machine, version, entry, place of the program header, no sections, no flags
+        // file type and machine, version, entry, offset of the program header, no sections, no flags
         0x00f3_0002,
         1,
         1024,
@@ -27,7 +27,7 @@ fn header(count: u32) -> [u32; 21]
         0x0020_0034,
         1,
         0,
-        // the part: loaded, place, address twice, size twice, access, alignment
+        // the part: loaded, offset, address twice, size twice, access, alignment
         1,
         84,
         1024,

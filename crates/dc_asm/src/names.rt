@@ -1,6 +1,6 @@
 ghost use Rattle.std.specs.Prelude.{◌≡◌, ◌≤◌, ◌+◌, ◌∷◌, [], List, ℕ, IfOk, OnOk, None, length};
 ghost use Rattle.dc_asm.specs.Source.{defined};
-ghost use Rattle.dc_asm.specs.Names.{definition, found, first_of, place_in, words_in_line};
+ghost use Rattle.dc_asm.specs.Names.{definition, found, first_of, definition_in, words_in_line};
 ghost use Rattle.std.specs.Option.{option_or};
 
 use crate::source::{bare, defined};
@@ -10,7 +10,7 @@ use std::collections::HashMap;
 
 /// Where a name is defined: in that line, before that word.
 #[derive(Clone, Copy)]
-pub struct Place {
+pub struct Definition {
     /// The number of the line, from 1 on.
     pub line: u64,
     /// How many words stand before it.
@@ -20,7 +20,7 @@ pub struct Place {
 /// The first definition of each name.
 #[derive(Drop)]
 pub struct Names<'a> {
-    places: HashMap<&'a [u8], Place>,
+    definitions: HashMap<&'a [u8], Definition>,
 }
 
 impl<'a> Names<'a> {
@@ -28,25 +28,25 @@ impl<'a> Names<'a> {
         ensures { (name : List ℕ) → found result name ≡ None }
     {
         Names {
-            places: HashMap::new(alloc),
+            definitions: HashMap::new(alloc),
         }
     }
 
     /// Where a name is defined first.
-    pub fn find(&self, name: &[u8]) -> Option<Place>
+    pub fn find(&self, name: &[u8]) -> Option<Definition>
         ensures { result ≡ found self.now name.now }
     {
-        self.places.get(name).copied()
+        self.definitions.get(name).copied()
     }
 
     /// Keeps a definition, unless the name has one.
-    fn define(&mut self, name: &'a [u8], place: Place) -> Result<(), AllocError>
-        ensures { OnOk result ((other : List ℕ) → found self.new other ≡ option_or (found self.old other) (first_of ((name.now, place) ∷ []) other)) }
+    fn define(&mut self, name: &'a [u8], definition: Definition) -> Result<(), AllocError>
+        ensures { OnOk result ((other : List ℕ) → found self.new other ≡ option_or (found self.old other) (first_of ((name.now, definition) ∷ []) other)) }
     {
         if self.find(name).is_some() {
             return Ok(());
         }
-        self.places.insert(name, place)?;
+        self.definitions.insert(name, definition)?;
         Ok(())
     }
 }
@@ -61,7 +61,7 @@ fn define_line<'a>(
     ensures { OnOk result ((other : List ℕ) → found names.new other ≡ option_or (found names.old other) (first_of (definition line word (defined text.now)) other)) }
 {
     match defined(text) {
-        Some(name) => names.define(name, Place { line, word }),
+        Some(name) => names.define(name, Definition { line, word }),
         None => Ok(()),
     }
 }
@@ -83,7 +83,7 @@ fn words_in_line(line: &[u8]) -> u64
 
 /// The names that a source defines.
 pub fn names_in(alloc: Global, source: &[u8]) -> Result<Names<'_>, AllocError>
-    ensures { IfOk result (λ names. found names ≡ place_in source.now) }
+    ensures { IfOk result (λ names. found names ≡ definition_in source.now) }
 {
     let mut names = Names::new(alloc);
     let mut line: u64 = 1;

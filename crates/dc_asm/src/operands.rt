@@ -3,7 +3,7 @@ ghost use Rattle.dc_asm.specs.Names.{address, found};
 ghost use Rattle.dc_asm.specs.Operands.{absolute, even, immediate, indirect, named, number, offset, register, relative, signed, size, unsigned};
 
 use crate::AsmKind;
-use crate::names::{Names, Place};
+use crate::names::{Definition, Names};
 use crate::source::{cut_at, ended_by, is_name};
 use dc_words::read_number;
 
@@ -74,8 +74,8 @@ fn named(names: &Names, text: &[u8]) -> Result<Value, AsmKind>
         return Err(AsmKind::Immediate);
     }
     match names.find(text) {
-        Some(place) => Ok(Value {
-            plus: address(place.word),
+        Some(definition) => Ok(Value {
+            plus: address(definition.word),
             minus: 0,
         }),
         None => Err(AsmKind::Label),

@@ -2,7 +2,7 @@ ghost use Rattle.std.specs.Prelude.{◌≡◌, ◌<◌, ◌==◌, IfSome, length
 ghost use Rattle.std.specs.List.{list_all, list_any, position};
 ghost use Rattle.dc_asm.specs.Source.{bare, cut_at, defined, ended_by, is_blank, is_first, is_further, is_high, is_name, operands_of, line_parts, without_blanks, without_end, without_front};
 
-use dc_words::place;
+use dc_words::find;
 
 fn is_blank(c: u8) -> bool
     ensures { result ≡ is_blank c }
@@ -49,7 +49,7 @@ pub fn without_blanks(text: &[u8]) -> &[u8]
 pub fn cut_at(stop: u8, text: &[u8]) -> Option<(&[u8], &[u8])>
     ensures { option_map (λ x. (x.0.now, x.1.now)) result ≡ cut_at stop text.now }
 {
-    let end = place(stop, text)?;
+    let end = find(stop, text)?;
     Some((&text[..end], &text[end + 1..]))
 }
 

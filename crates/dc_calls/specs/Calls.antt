@@ -3,7 +3,7 @@ use Rattle.std.specs.Prelude.{◌≢◌, ℕ, ◌+◌, ◌≤◌, ◌<◌, ◌==
 use Rattle.dc_limits.specs.declared.bounds.TheConstants.{INPUT_BYTES}
 use Rattle.dc_limits.specs.declared.sizes.TheConstants.{MESSAGE_BYTES}
 use Rattle.dc_calls.specs.declared.call.Call.{Call}
-use Rattle.dc_calls.specs.declared.call.Call.TheVariants.{Exit, Output, Input, Clock, Random, Send, Receive, Own, BadArgument, Unknown}
+use Rattle.dc_calls.specs.declared.call.Call.TheVariants.{Exit, Output, Input, Clock, Random, Send, Receive, Number, BadArgument, Unknown}
 
 -- so many bytes from an address on lie within the memory
 abbrev pub is_within : ℕ → ℕ → ℕ → Bool
@@ -39,7 +39,7 @@ call_of x size p n = let number = slice_index x 17 in let first = slice_index x 
     else if number == 5 then Random
     else if number == 6 then send_of size p n first second (slice_index x 12)
     else if number == 7 then receive_of size first second
-    else if number == 8 then Own
+    else if number == 8 then Number
     else Unknown
 
 -- the registers after an answer: x10, and x11 where there is a second result

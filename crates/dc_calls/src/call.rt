@@ -22,7 +22,7 @@ pub enum Call {
     /// For the next message that came: where to put it, and how much room there is.
     Receive(u32, u32),
     /// For the guest's own number, and how many guests there are.
-    Own,
+    Number,
     /// A call whose arguments are refused.
     BadArgument,
     /// A call of a number that is not known.
@@ -58,7 +58,7 @@ pub fn read_call(regs: &Regs, size: u32, p: u32, n: u32) -> Call
             Call::Send(first, second, third)
         }
         7 if second >= MESSAGE && is_within(first, second, size) => Call::Receive(first, second),
-        8 => Call::Own,
+        8 => Call::Number,
         2 | 3 | 6 | 7 => Call::BadArgument,
         _ => Call::Unknown,
     }

@@ -115,15 +115,15 @@ all_rest n x acts rest is all = all_behind n x acts (subst (λ xs. All (λ y. y.
 abbrev pub is_drawn : ℕ → List Entry → ℕ → Taken → Bool
 is_drawn n schedule next x = nat_le next x.t && draws n (slice_get schedule x.t) x
 
-module _ {Mc : Type 0} (G : Guests Mc) (schedule : List Entry) (next place : ℕ) (w : World Mc) (x : Taken) (acts rest : List Taken) (told : Result (World Mc) ℕ)
-    (is : rest ≡ x ∷ acts) (e : told ≡ played_from G schedule next place w rest) where
+module _ {Mc : Type 0} (G : Guests Mc) (schedule : List Entry) (next position : ℕ) (w : World Mc) (x : Taken) (acts rest : List Taken) (told : Result (World Mc) ℕ)
+    (is : rest ≡ x ∷ acts) (e : told ≡ played_from G schedule next position w rest) where
   -- one act more was played
-  pub played_on : (v : World Mc) → is_drawn G.count schedule next x ≡ true → apply G w x.p x.act ≡ Some v → told ≡ played_from G schedule (x.t + 1) (place + 1) v acts
-  played_on v drawn there = e ∙ ap (played_from G schedule next place w) is ∙ rw (drawn, there, add-one x.t, add-one place) refl
+  pub played_on : (v : World Mc) → is_drawn G.count schedule next x ≡ true → apply G w x.p x.act ≡ Some v → told ≡ played_from G schedule (x.t + 1) (position + 1) v acts
+  played_on v drawn there = e ∙ ap (played_from G schedule next position w) is ∙ rw (drawn, there, add-one x.t, add-one position) refl
 
   -- an act that does not apply, and one that was not drawn
-  pub unapplied : is_drawn G.count schedule next x ≡ true → apply G w x.p x.act ≡ None → told ≡ Err place
-  unapplied drawn nowhere = e ∙ ap (played_from G schedule next place w) is ∙ rw (drawn, nowhere) refl
+  pub unapplied : is_drawn G.count schedule next x ≡ true → apply G w x.p x.act ≡ None → told ≡ Err position
+  unapplied drawn nowhere = e ∙ ap (played_from G schedule next position w) is ∙ rw (drawn, nowhere) refl
 
-  pub undrawn : is_drawn G.count schedule next x ≡ false → told ≡ Err place
-  undrawn not_so = e ∙ ap (played_from G schedule next place w) is ∙ rw not_so refl
+  pub undrawn : is_drawn G.count schedule next x ≡ false → told ≡ Err position
+  undrawn not_so = e ∙ ap (played_from G schedule next position w) is ∙ rw not_so refl

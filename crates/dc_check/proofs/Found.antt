@@ -25,7 +25,7 @@ module _ {Mc : Type 0} (G : Guests Mc) (schedule : List Entry) (acts : List Take
   }
 
   by_played : (r : Result (World Mc) ℕ) → played G schedule acts ≡ r → finding_by r out ≡ Passes visibles → IsPassing G schedule acts out visibles
-  by_played (Err place) at e = absurd (let never : ⊥ = cc in never)
+  by_played (Err position) at e = absurd (let never : ⊥ = cc in never)
   by_played (Ok w) at e = by_difference w at (difference_of (text_of w.visibles) out) refl e
 
   pub passing_is : (finding_of G schedule acts out ≡ Passes visibles) ↔ IsPassing G schedule acts out visibles

@@ -16,7 +16,7 @@ use Rattle.dc_check.specs.declared.finding.Difference.{Difference as difference'
 -- the output is that of the run of these acts, with so many visible records; an act leads nowhere; or a line differs
 pub data Finding : Type 0 where
   Passes : (visibles : ℕ) → Finding
-  NotARun : (place : ℕ) → Finding
+  NotARun : (position : ℕ) → Finding
   Differs : (difference : Difference) → Finding
 
 -- by the first difference from a world's lines, if there is one
@@ -26,7 +26,7 @@ compared visibles (Some difference) = Differs difference
 
 -- by what the acts lead to
 abbrev pub finding_by : {Mc : Type 0} → Result (World Mc) ℕ → List ℕ → Finding
-finding_by (Err place) out = NotARun place
+finding_by (Err position) out = NotARun position
 finding_by (Ok w) out = compared (length w.visibles) (difference_of (text_of w.visibles) out)
 
 -- of an output, by acts and the schedule that they were drawn from
@@ -40,7 +40,7 @@ seen_difference d = record { line = d.line; found = d.found.items; wanted = d.wa
 -- a finding as the code has it
 abbrev pub seen_finding : found' → Finding
 seen_finding (found.Passes visibles) = Passes visibles
-seen_finding (found.NotARun place) = NotARun place
+seen_finding (found.NotARun position) = NotARun position
 seen_finding (found.Differs difference) = Differs (seen_difference difference)
 
 -- an output whose lines all end passes: the acts were drawn and lead to a world, and its lines are those of that world's records, but for repeats of the first

@@ -13,14 +13,14 @@ use Rattle.dc_check.specs.declared.playing.Lines.{Lines}
 use Rattle.dc_check.specs.declared.playing.NotPlayed.{NotPlayed}
 use Rattle.dc_check.specs.declared.playing.NotPlayed.TheVariants.{At, Memory}
 
--- the world that acts lead to from one on, where each was drawn at its turn, from `next` on, and applies; else the place of the first of
--- which this does not hold, where places are counted from this one on
+-- the world that acts lead to from one on, where each was drawn at its turn, from `next` on, and applies; else the position of the first of
+-- which this does not hold, where positions are counted from this one on
 abbrev pub played_from : {Mc : Type 0} → Guests Mc → List Entry → ℕ → ℕ → World Mc → List Taken → Result (World Mc) ℕ
-played_from G schedule next place w [] = Ok w
-played_from G schedule next place w (x ∷ acts) = if nat_le next x.t && draws G.count (slice_get schedule x.t) x
-    then or_fault place (apply G w x.p x.act) >>= (λ v. played_from G schedule (suc x.t) (suc place) v acts) else Err place
+played_from G schedule next position w [] = Ok w
+played_from G schedule next position w (x ∷ acts) = if nat_le next x.t && draws G.count (slice_get schedule x.t) x
+    then or_fault position (apply G w x.p x.act) >>= (λ v. played_from G schedule (suc x.t) (suc position) v acts) else Err position
 
--- the world that acts lead to, or the place of the first that was not drawn at its turn or does not apply
+-- the world that acts lead to, or the position of the first that was not drawn at its turn or does not apply
 abbrev pub played : {Mc : Type 0} → Guests Mc → List Entry → List Taken → Result (World Mc) ℕ
 played G schedule acts = played_from G schedule 0 0 (opened G) acts
 
@@ -33,6 +33,6 @@ pub record Stands (plain : Played) (lines : Lines) (w : World Guest) : Type 0 wh
 -- what a player of acts found: the lines of the world that they lead to, or the first act that leads nowhere, unless it wanted memory
 abbrev pub Plays : Result Lines NotPlayed → Result (World Guest) ℕ → Type 0
 Plays (Ok lines) (Ok w) = (lines.text.items ≡ text_of w.visibles) × (lines.count ≡ length w.visibles)
-Plays (Ok lines) (Err place) = ⊥
-Plays (Err (At place)) told = told ≡ Err place
+Plays (Ok lines) (Err position) = ⊥
+Plays (Err (At position)) told = told ≡ Err position
 Plays (Err Memory) told = Unit {0}

@@ -31,7 +31,7 @@ pub fn check(
 {
     let lines = match play(alloc, images, inputs, schedule, acts) {
         Ok(lines) => lines,
-        Err(NotPlayed::At(place)) => return Ok(Finding::NotARun(place)),
+        Err(NotPlayed::At(position)) => return Ok(Finding::NotARun(position)),
         Err(NotPlayed::Memory) => return Err(AllocError),
     };
     match compare_lines(alloc, &lines.text, out) {

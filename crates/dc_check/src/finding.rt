@@ -15,7 +15,7 @@ pub struct Difference {
 pub enum Finding {
     /// They belong together, and so many visible records are shown.
     Passes(u32),
-    /// The act at that place, from 0 on, is the first that was not drawn at its turn or does not apply.
+    /// The act at that position, from 0 on, is the first that was not drawn at its turn or does not apply.
     NotARun(u32),
     /// The first line that differs.
     Differs(Difference),

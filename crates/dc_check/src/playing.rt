@@ -27,7 +27,7 @@ pub struct Lines {
 /// Why acts were not played.
 #[derive(Clone, Copy, Debug, PartialEq, Eq)]
 pub enum NotPlayed {
-    /// The act at that place, from 0 on, was not drawn at its turn or does not apply.
+    /// The act at that position, from 0 on, was not drawn at its turn or does not apply.
     At(u32),
     /// There was no memory for it.
     Memory,
@@ -131,19 +131,19 @@ pub fn play(
     };
     let count = images.len() as u32;
     let mut next: u64 = 0;
-    let mut place: u32 = 0;
+    let mut position: u32 = 0;
     let mut rest = acts;
     while let [taken, after @ ..] = rest {
         if !is_drawn(count, schedule, next, taken) {
-            return Err(NotPlayed::At(place));
+            return Err(NotPlayed::At(position));
         }
         match take(&mut plain, &mut lines, taken) {
             Ok(()) => {}
-            Err(ApplyFault::Illegal) => return Err(NotPlayed::At(place)),
+            Err(ApplyFault::Illegal) => return Err(NotPlayed::At(position)),
             Err(ApplyFault::Memory) => return Err(NotPlayed::Memory),
         }
         next = u64::from(taken.t) + 1;
-        place += 1;
+        position += 1;
         rest = after;
     }
     Ok(lines)

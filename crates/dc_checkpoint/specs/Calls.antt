@@ -22,7 +22,7 @@ device told stops faults untouched continues = record { told = told; stops = sto
 
 -- what a handle says of its store, whatever its device holds
 pub record Handle (C : Type 0) : Type 0 where
-  pub place : C → ℕ
+  pub index : C → ℕ
   pub size : C → ℕ
   pub form : C → Form
   pub first : C → State
@@ -30,12 +30,12 @@ pub record Handle (C : Type 0) : Type 0 where
 
 -- the handle that says these five
 abbrev pub handle : {C : Type 0} → (C → ℕ) → (C → ℕ) → (C → Form) → (C → State) → (C → ℕ) → Handle C
-handle place size form first floor = record { place = place; size = size; form = form; first = first; floor = floor }
+handle index size form first floor = record { index = index; size = size; form = form; first = first; floor = floor }
 
 -- what a store shows of itself, over a device that is lent to it
 pub record Store (C D : Type 0) : Type 1 where
   pub on : Device D
-  pub place : C → ℕ
+  pub index : C → ℕ
   pub size : C → ℕ
   pub form : C → Form
   pub first : C → State
@@ -47,7 +47,7 @@ pub record Store (C D : Type 0) : Type 1 where
 
 -- the store whose handle says these, over the device that shows those
 abbrev pub showing : {C D : Type 0} → Device D → Handle C → (C → D → Type 0) → (C → D → ℕ → Reading → Type 0) → (C → D → ℕ → Type 0) → (C → D → Type 0) → Store C D
-showing on of lent leaves numbers steady = record { on = on; place = of.place; size = of.size; form = of.form; first = of.first; floor = of.floor; lent = lent; leaves = leaves; numbers = numbers; steady = steady }
+showing on of lent leaves numbers steady = record { on = on; index = of.index; size = of.size; form = of.form; first = of.first; floor = of.floor; lent = lent; leaves = leaves; numbers = numbers; steady = steady }
 
 -- a store with the device that is lent to it
 pub record Moment (C D : Type 0) : Type 0 where
@@ -60,7 +60,7 @@ on store dev = record { store = store; dev = dev }
 
 -- the same store: its device, its memory's size, whose it is, and what it stands for before it was made
 pub record IsSameStore {C D : Type 0} (g : Store C D) (old new : C) : Type 0 where
-  pub place_same : g.place new ≡ g.place old
+  pub index_same : g.index new ≡ g.index old
   pub size_same : g.size new ≡ g.size old
   pub form_same : g.form new ≡ g.form old
   pub first_same : g.first new ≡ g.first old
@@ -89,25 +89,25 @@ AreFrom number numbers = (e : ℕ) → numbers e → (e ≡ 0) ⊎ (number ≤ e
 abbrev pub AreNoHigher : (ℕ → Type 0) → (ℕ → Type 0) → Type 0
 AreNoHigher old new = (m : ℕ) → ((e : ℕ) → old e → e ≤ m) → (e : ℕ) → new e → e ≤ m
 
--- what a call does to the counts of the device at its place: a stop and a fault are counted apart, an Ok counts neither, and what was told is told on
+-- what a call does to the counts of the device at its index: a stop and a fault are counted apart, an Ok counts neither, and what was told is told on
 -- unless a count stands at its last value
-pub record IsCounted {D T : Type 0} (on : Device D) (place : ℕ) (old new : D) (result : Result T CheckFault) : Type 0 where
-  pub stops_later : on.stops old place ≤ on.stops new place
-  pub faults_later : on.faults old place ≤ on.faults new place
-  pub stopped : IsErrOf result check.Stopped → Rose (on.stops old place) (on.stops new place)
-  pub failed : IsErrOf result check.Failed → Rose (on.faults old place) (on.faults new place)
-  pub calm : OnOk result ((on.stops new place ≡ on.stops old place) × (on.faults new place ≡ on.faults old place))
-  pub tells : on.stops new place < 2 ^ 64 - 1 → on.faults new place < 2 ^ 64 - 1 → on.told old place → on.told new place
+pub record IsCounted {D T : Type 0} (on : Device D) (index : ℕ) (old new : D) (result : Result T CheckFault) : Type 0 where
+  pub stops_later : on.stops old index ≤ on.stops new index
+  pub faults_later : on.faults old index ≤ on.faults new index
+  pub stopped : IsErrOf result check.Stopped → Rose (on.stops old index) (on.stops new index)
+  pub failed : IsErrOf result check.Failed → Rose (on.faults old index) (on.faults new index)
+  pub calm : OnOk result ((on.stops new index ≡ on.stops old index) × (on.faults new index ≡ on.faults old index))
+  pub tells : on.stops new index < 2 ^ 64 - 1 → on.faults new index < 2 ^ 64 - 1 → on.told old index → on.told new index
 
 -- the like of the making of a store: the second value says whether it was stopped, and where memory was wanting no count rose
-pub record IsMaking {C D : Type 0} (on : Device D) (place : ℕ) (old new : D) (result : Result (C × Bool) MakeFault) : Type 0 where
-  pub stops_later : on.stops old place ≤ on.stops new place
-  pub faults_later : on.faults old place ≤ on.faults new place
-  pub stopped : IfOk result (λ made. made.1 ≡ true → Rose (on.stops old place) (on.stops new place))
-  pub failed : IsErrOf result make.Failed → Rose (on.faults old place) (on.faults new place)
-  pub wanting : IsErrOf result make.Memory → (on.stops new place ≡ on.stops old place) × (on.faults new place ≡ on.faults old place)
-  pub calm : IfOk result (λ made. made.1 ≡ false → (on.stops new place ≡ on.stops old place) × (on.faults new place ≡ on.faults old place))
-  pub tells : on.stops new place < 2 ^ 64 - 1 → on.faults new place < 2 ^ 64 - 1 → on.told old place → on.told new place
+pub record IsMaking {C D : Type 0} (on : Device D) (index : ℕ) (old new : D) (result : Result (C × Bool) MakeFault) : Type 0 where
+  pub stops_later : on.stops old index ≤ on.stops new index
+  pub faults_later : on.faults old index ≤ on.faults new index
+  pub stopped : IfOk result (λ made. made.1 ≡ true → Rose (on.stops old index) (on.stops new index))
+  pub failed : IsErrOf result make.Failed → Rose (on.faults old index) (on.faults new index)
+  pub wanting : IsErrOf result make.Memory → (on.stops new index ≡ on.stops old index) × (on.faults new index ≡ on.faults old index)
+  pub calm : IfOk result (λ made. made.1 ≡ false → (on.stops new index ≡ on.stops old index) × (on.faults new index ≡ on.faults old index))
+  pub tells : on.stops new index < 2 ^ 64 - 1 → on.faults new index < 2 ^ 64 - 1 → on.told old index → on.told new index
 
 -- content is no reason to refuse this call
 abbrev pub IsUnrefused : {T : Type 0} → Result T CheckFault → Type 0
@@ -118,8 +118,8 @@ IsUnrefused result = (fault : StoreFault) → IsErrOf result (check.Refused faul
 pub record Touches {C D T : Type 0} (g : Store C D) (old new : Moment C D) (result : Result T CheckFault) : Type 0 where
   pub same : IsSameStore g old.store new.store
   pub lent : g.lent new.store new.dev
-  pub counts : IsCounted g.on (g.place old.store) old.dev new.dev result
-  pub others : (q : ℕ) → q ≢ g.place old.store → g.on.untouched old.dev new.dev q
+  pub counts : IsCounted g.on (g.index old.store) old.dev new.dev result
+  pub others : (q : ℕ) → q ≢ g.index old.store → g.on.untouched old.dev new.dev q
   pub continues : g.on.continues old.dev new.dev
 
 -- what a call leaves that decides nothing and goes on from a ready store: besides that, its floor no higher and no decided number over those that were there;
@@ -146,7 +146,7 @@ pub record AddsNothing {C D : Type 0} (g : Store C D) (old new : Moment C D) : T
 
 -- a handle over the store of process p, with this first state, and what it needs of the device
 pub record IsHandle {C D : Type 0} (g : Store C D) (p : ℕ) (memory kernel : List ℕ) (store : C) (dev : D) : Type 0 where
-  pub place_is : g.place store ≡ p
+  pub index_is : g.index store ≡ p
   pub size_is : g.size store ≡ length memory
   pub form_is : g.form store ≡ form_in kernel
   pub first_is : g.first store ≡ unlogged memory kernel

@@ -29,7 +29,7 @@ pub trait Checkpoint: Sized {
     type Device;
 
     /// The number of its device.
-    ghost place: { Self → ℕ };
+    ghost index: { Self → ℕ };
 
     /// How many words its memory has.
     ghost size: { Self → ℕ };
@@ -103,13 +103,13 @@ pub trait Checkpoint: Sized {
         memory: Vec<u32>,
         kernel: Vec<u32>,
     ) -> Result<(Self, bool), MakeFault>
-        requires place { p < STORES }
+        requires index { p < STORES }
         requires form { IsForm (form_in kernel.items) }
         requires process { (form_in kernel.items).p ≡ p }
         requires text { IsText (form_in kernel.items) kernel.items }
         requires number { 1 ≤ number_in kernel.items }
         requires pages { (pages : ℕ) × (length memory.items ≡ 1024 * pages) × (pages ≤ 256) }
-        ensures handle { IfOk result (λ made. IsHandle (showing (device told stops faults untouched continues) (handle place size form first floor) lent leaves numbers steady) p memory.items kernel.items made.0 dev.new) }
+        ensures handle { IfOk result (λ made. IsHandle (showing (device told stops faults untouched continues) (handle index size form first floor) lent leaves numbers steady) p memory.items kernel.items made.0 dev.new) }
         ensures ready { IfOk result (λ made. made.1 ≡ false → ready made.0 dev.new) }
         ensures memory { IfOk result (λ made. made.1 ≡ false → IfSome (contents made.0 dev.new) (λ words. words ≡ memory.items)) }
         ensures number { IfOk result (λ made. made.1 ≡ false → (number made.0 ≡ number_in kernel.items) × (logged made.0 ≡ 0)) }
@@ -128,14 +128,14 @@ pub trait Checkpoint: Sized {
         memory: Vec<u32>,
         kernel: Vec<u32>,
     ) -> Result<Self, AllocError>
-        requires place { p < STORES }
+        requires index { p < STORES }
         requires form { IsForm (form_in kernel.items) }
         requires process { (form_in kernel.items).p ≡ p }
         requires text { IsText (form_in kernel.items) kernel.items }
         requires number { 1 ≤ number_in kernel.items }
         requires pages { (pages : ℕ) × (length memory.items ≡ 1024 * pages) × (pages ≤ 256) }
         requires there { fits dev.now p (length memory.items) (form_in kernel.items) }
-        ensures handle { IfOk result (λ c. IsHandle (showing (device told stops faults untouched continues) (handle place size form first floor) lent leaves numbers steady) p memory.items kernel.items c dev.now) };
+        ensures handle { IfOk result (λ c. IsHandle (showing (device told stops faults untouched continues) (handle index size form first floor) lent leaves numbers steady) p memory.items kernel.items c dev.now) };
 
     /// The memory's word at an index.
     fn load(&self, dev: &Self::Device, i: u32) -> u32
@@ -149,8 +149,8 @@ pub trait Checkpoint: Sized {
         requires at { i < size self.old }
         requires lent { lent self.old dev.old }
         requires ready { ready self.old dev.old }
-        ensures call { IsCall (showing (device told stops faults untouched continues) (handle place size form first floor) lent leaves numbers steady) (on self.old dev.old) (on self.new dev.new) result }
-        ensures adds_nothing { AddsNothing (showing (device told stops faults untouched continues) (handle place size form first floor) lent leaves numbers steady) (on self.old dev.old) (on self.new dev.new) }
+        ensures call { IsCall (showing (device told stops faults untouched continues) (handle index size form first floor) lent leaves numbers steady) (on self.old dev.old) (on self.new dev.new) result }
+        ensures adds_nothing { AddsNothing (showing (device told stops faults untouched continues) (handle index size form first floor) lent leaves numbers steady) (on self.old dev.old) (on self.new dev.new) }
         ensures ready { OnOk result (ready self.new dev.new) }
         ensures memory { OnOk result (Becomes (contents self.old dev.old) (contents self.new dev.new) (λ before after. after ≡ slice_set before i (masked (slice_index before i) w mask))) }
         ensures number { OnOk result ((number self.new ≡ number self.old) × (logged self.new ≡ logged self.old)) };
@@ -162,7 +162,7 @@ pub trait Checkpoint: Sized {
         requires ready { ready self.old dev.old }
         requires text { IsText (form self.old) kernel.now }
         requires number { number self.old < number_in kernel.now }
-        ensures call { IsCall (showing (device told stops faults untouched continues) (handle place size form first floor) lent leaves numbers steady) (on self.old dev.old) (on self.new dev.new) result }
+        ensures call { IsCall (showing (device told stops faults untouched continues) (handle index size form first floor) lent leaves numbers steady) (on self.old dev.old) (on self.new dev.new) result }
         ensures ready { OnOk result (ready self.new dev.new) }
         ensures memory { OnOk result (Becomes (contents self.old dev.old) (contents self.new dev.new) (λ before after. after ≡ before)) }
         ensures number { OnOk result ((number self.new ≡ number_in kernel.now) × (logged self.new ≡ 0)) }
@@ -176,8 +176,8 @@ pub trait Checkpoint: Sized {
         requires record { IsRecord (form self.old).n rec.now }
         requires room { logged self.old < LOGGED_EVENTS }
         requires decisions { loggable self.old }
-        ensures call { IsCall (showing (device told stops faults untouched continues) (handle place size form first floor) lent leaves numbers steady) (on self.old dev.old) (on self.new dev.new) result }
-        ensures decided_stays { KeepsNumbers (showing (device told stops faults untouched continues) (handle place size form first floor) lent leaves numbers steady) always (on self.old dev.old) (on self.new dev.new) }
+        ensures call { IsCall (showing (device told stops faults untouched continues) (handle index size form first floor) lent leaves numbers steady) (on self.old dev.old) (on self.new dev.new) result }
+        ensures decided_stays { KeepsNumbers (showing (device told stops faults untouched continues) (handle index size form first floor) lent leaves numbers steady) always (on self.old dev.old) (on self.new dev.new) }
         ensures ready { OnOk result (ready self.new dev.new) }
         ensures memory { OnOk result (Becomes (contents self.old dev.old) (contents self.new dev.new) (λ before after. after ≡ before)) }
         ensures number { OnOk result ((number self.new ≡ number self.old) × (logged self.new ≡ logged self.old + 1)) }
@@ -191,8 +191,8 @@ pub trait Checkpoint: Sized {
         requires ready { ready self.old dev.old }
         requires text { IsText (form self.old) kernel.now }
         requires number { (number self.old < g) × (number_in kernel.now ≡ g) }
-        ensures call { IsCall (showing (device told stops faults untouched continues) (handle place size form first floor) lent leaves numbers steady) (on self.old dev.old) (on self.new dev.new) result }
-        ensures decided_stays { KeepsNumbers (showing (device told stops faults untouched continues) (handle place size form first floor) lent leaves numbers steady) (AreBelow g) (on self.old dev.old) (on self.new dev.new) }
+        ensures call { IsCall (showing (device told stops faults untouched continues) (handle index size form first floor) lent leaves numbers steady) (on self.old dev.old) (on self.new dev.new) result }
+        ensures decided_stays { KeepsNumbers (showing (device told stops faults untouched continues) (handle index size form first floor) lent leaves numbers steady) (AreBelow g) (on self.old dev.old) (on self.new dev.new) }
         ensures prepared { OnOk result (prepared self.new dev.new g) }
         ensures decidable { OnOk result (decidable self.new dev.new g) }
         ensures memory { OnOk result (Becomes (contents self.old dev.old) (contents self.new dev.new) (λ before after. after ≡ before)) }
@@ -205,7 +205,7 @@ pub trait Checkpoint: Sized {
         requires lent { lent self.old dev.old }
         requires awake { ready self.old dev.old ⊎ prepared self.old dev.old g }
         requires decidable { decidable self.old dev.old g }
-        ensures touches { Touches (showing (device told stops faults untouched continues) (handle place size form first floor) lent leaves numbers steady) (on self.old dev.old) (on self.new dev.new) result }
+        ensures touches { Touches (showing (device told stops faults untouched continues) (handle index size form first floor) lent leaves numbers steady) (on self.old dev.old) (on self.new dev.new) result }
         ensures awake { OnOk result ((ready self.old dev.old → ready self.new dev.new) × (prepared self.old dev.old g → prepared self.new dev.new g)) }
         ensures memory { OnOk result (Becomes (contents self.old dev.old) (contents self.new dev.new) (λ before after. after ≡ before)) }
         ensures number { OnOk result ((number self.new ≡ number self.old) × (logged self.new ≡ logged self.old)) }
@@ -220,8 +220,8 @@ pub trait Checkpoint: Sized {
     fn finish(&mut self, dev: &mut Self::Device, g: u32) -> Result<(), CheckFault>
         requires lent { lent self.old dev.old }
         requires prepared { prepared self.old dev.old g }
-        ensures touches { Touches (showing (device told stops faults untouched continues) (handle place size form first floor) lent leaves numbers steady) (on self.old dev.old) (on self.new dev.new) result }
-        ensures decided_stays { KeepsNumbers (showing (device told stops faults untouched continues) (handle place size form first floor) lent leaves numbers steady) (AreFrom g) (on self.old dev.old) (on self.new dev.new) }
+        ensures touches { Touches (showing (device told stops faults untouched continues) (handle index size form first floor) lent leaves numbers steady) (on self.old dev.old) (on self.new dev.new) result }
+        ensures decided_stays { KeepsNumbers (showing (device told stops faults untouched continues) (handle index size form first floor) lent leaves numbers steady) (AreFrom g) (on self.old dev.old) (on self.new dev.new) }
         ensures ready { OnOk result (ready self.new dev.new) }
         ensures memory { OnOk result (Becomes (contents self.old dev.old) (contents self.new dev.new) (λ before after. after ≡ before)) }
         ensures number { OnOk result ((number self.new ≡ g) × (logged self.new ≡ 0)) }
@@ -234,7 +234,7 @@ pub trait Checkpoint: Sized {
     fn decided(&mut self, dev: &mut Self::Device) -> Result<u32, CheckFault>
         requires first { (form self.old).p ≡ 0 }
         requires lent { lent self.old dev.old }
-        ensures touches { Touches (showing (device told stops faults untouched continues) (handle place size form first floor) lent leaves numbers steady) (on self.old dev.old) (on self.new dev.new) result }
+        ensures touches { Touches (showing (device told stops faults untouched continues) (handle index size form first floor) lent leaves numbers steady) (on self.old dev.old) (on self.new dev.new) result }
         ensures awake { OnOk result ((ready self.old dev.old → ready self.new dev.new) × ((g : ℕ) → prepared self.old dev.old g → prepared self.new dev.new g) × ((g : ℕ) → decidable self.old dev.old g → decidable self.new dev.new g)) }
         ensures memory { OnOk result (Becomes (contents self.old dev.old) (contents self.new dev.new) (λ before after. after ≡ before)) }
         ensures number { OnOk result ((number self.new ≡ number self.old) × (logged self.new ≡ logged self.old)) }
@@ -255,8 +255,8 @@ pub trait Checkpoint: Sized {
     ) -> Result<(), CheckFault>
         requires lent { lent self.old dev.old }
         requires fit { IsFit (form self.old) saved.old }
-        ensures touches { Touches (showing (device told stops faults untouched continues) (handle place size form first floor) lent leaves numbers steady) (on self.old dev.old) (on self.new dev.new) result }
-        ensures decided_stays { KeepsNumbers (showing (device told stops faults untouched continues) (handle place size form first floor) lent leaves numbers steady) (AreAll decided) (on self.old dev.old) (on self.new dev.new) }
+        ensures touches { Touches (showing (device told stops faults untouched continues) (handle index size form first floor) lent leaves numbers steady) (on self.old dev.old) (on self.new dev.new) result }
+        ensures decided_stays { KeepsNumbers (showing (device told stops faults untouched continues) (handle index size form first floor) lent leaves numbers steady) (AreAll decided) (on self.old dev.old) (on self.new dev.new) }
         ensures fit { IsFit (form self.old) saved.new }
         ensures ready { OnOk result (ready self.new dev.new × (floor self.new ≤ decided)) }
         ensures gives { OnOk result ((reading : Reading) → leaves self.new dev.new decided reading → Gives (contents self.new dev.new) saved.new reading) }
@@ -268,7 +268,7 @@ pub trait Checkpoint: Sized {
 
     /// Drops what is volatile. It makes no call of the device, and a recovery is owed.
     fn fall(&mut self)
-        ensures falls { FallsStore (showing (device told stops faults untouched continues) (handle place size form first floor) lent leaves numbers steady) self.old self.new };
+        ensures falls { FallsStore (showing (device told stops faults untouched continues) (handle index size form first floor) lent leaves numbers steady) self.old self.new };
 
     /// A ready store may log: it decided once at most since its last state.
     ghost may_log: { (c : Self) (dev : Self.Device) → ready c dev → loggable c };
@@ -277,28 +277,28 @@ pub trait Checkpoint: Sized {
     ghost settled: { (c : Self) (dev : Self.Device) → ready c dev → (d e : ℕ) (reading : Reading) → floor c ≤ d → floor c ≤ e → leaves c dev d reading → leaves c dev e reading };
 
     /// A told store stands for something under each decided number.
-    ghost some_reading: { (c : Self) (dev : Self.Device) → told dev (place c) → (d : ℕ) → (reading : Reading) × leaves c dev d reading };
+    ghost some_reading: { (c : Self) (dev : Self.Device) → told dev (index c) → (d : ℕ) → (reading : Reading) × leaves c dev d reading };
 
     /// It has a decided number.
-    ghost some_number: { (c : Self) (dev : Self.Device) → told dev (place c) → (e : ℕ) × numbers c dev e };
+    ghost some_number: { (c : Self) (dev : Self.Device) → told dev (index c) → (e : ℕ) × numbers c dev e };
 
     /// The memory's length is the store's size.
     ghost contents_long: { (c : Self) (dev : Self.Device) → lent c dev → IfSome (contents c dev) (λ words. length words ≡ size c) };
 
     /// The memory is told only where the device is.
-    ghost contents_told: { (c : Self) (dev : Self.Device) → IsSome (contents c dev) → told dev (place c) };
+    ghost contents_told: { (c : Self) (dev : Self.Device) → IsSome (contents c dev) → told dev (index c) };
 
     /// A ready store on a told device tells its memory.
-    ghost told_contents: { (c : Self) (dev : Self.Device) → ready c dev → told dev (place c) → IsSome (contents c dev) };
+    ghost told_contents: { (c : Self) (dev : Self.Device) → ready c dev → told dev (index c) → IsSome (contents c dev) };
 
     /// Two handles over one store stand for the same.
-    ghost leaves_alike: { (c e : Self) (dev : Self.Device) → IsSameStore (showing (device told stops faults untouched continues) (handle place size form first floor) lent leaves numbers steady) c e → (d : ℕ) (reading : Reading) → leaves c dev d reading → leaves e dev d reading };
+    ghost leaves_alike: { (c e : Self) (dev : Self.Device) → IsSameStore (showing (device told stops faults untouched continues) (handle index size form first floor) lent leaves numbers steady) c e → (d : ℕ) (reading : Reading) → leaves c dev d reading → leaves e dev d reading };
 
     /// And they have the same decided numbers.
-    ghost numbers_alike: { (c e : Self) (dev : Self.Device) → IsSameStore (showing (device told stops faults untouched continues) (handle place size form first floor) lent leaves numbers steady) c e → (d : ℕ) → numbers c dev d → numbers e dev d };
+    ghost numbers_alike: { (c e : Self) (dev : Self.Device) → IsSameStore (showing (device told stops faults untouched continues) (handle index size form first floor) lent leaves numbers steady) c e → (d : ℕ) → numbers c dev d → numbers e dev d };
 
     /// What one was lent another may be.
-    ghost lent_fits: { (c : Self) (dev : Self.Device) → lent c dev → fits dev (place c) (size c) (form c) };
+    ghost lent_fits: { (c : Self) (dev : Self.Device) → lent c dev → fits dev (index c) (size c) (form c) };
 
     /// A device is as it was where nothing was called.
     ghost untouched_self: { (dev : Self.Device) (q : ℕ) → untouched dev dev q };
@@ -316,28 +316,28 @@ pub trait Checkpoint: Sized {
     ghost counts_same: { (old new : Self.Device) (q : ℕ) → untouched old new q → (stops new q ≡ stops old q) × (faults new q ≡ faults old q) };
 
     /// A handle over it has what it needs.
-    ghost lent_still: { (c : Self) (old new : Self.Device) → untouched old new (place c) → lent c old → lent c new };
+    ghost lent_still: { (c : Self) (old new : Self.Device) → untouched old new (index c) → lent c old → lent c new };
 
     /// It may go on.
-    ghost ready_still: { (c : Self) (old new : Self.Device) → untouched old new (place c) → ready c old → ready c new };
+    ghost ready_still: { (c : Self) (old new : Self.Device) → untouched old new (index c) → ready c old → ready c new };
 
     /// What was prepared is.
-    ghost prepared_still: { (c : Self) (old new : Self.Device) (g : ℕ) → untouched old new (place c) → prepared c old g → prepared c new g };
+    ghost prepared_still: { (c : Self) (old new : Self.Device) (g : ℕ) → untouched old new (index c) → prepared c old g → prepared c new g };
 
     /// What could be decided can be.
-    ghost decidable_still: { (c : Self) (old new : Self.Device) (g : ℕ) → untouched old new (place c) → decidable c old g → decidable c new g };
+    ghost decidable_still: { (c : Self) (old new : Self.Device) (g : ℕ) → untouched old new (index c) → decidable c old g → decidable c new g };
 
     /// The decided number is still one that only `decide` and `commit` may change.
-    ghost steady_still: { (c : Self) (old new : Self.Device) → untouched old new (place c) → steady c old → steady c new };
+    ghost steady_still: { (c : Self) (old new : Self.Device) → untouched old new (index c) → steady c old → steady c new };
 
     /// The store stands for what it stood for.
-    ghost leaves_still: { (c : Self) (old new : Self.Device) (d : ℕ) (reading : Reading) → untouched old new (place c) → leaves c old d reading → leaves c new d reading };
+    ghost leaves_still: { (c : Self) (old new : Self.Device) (d : ℕ) (reading : Reading) → untouched old new (index c) → leaves c old d reading → leaves c new d reading };
 
     /// Its decided number is what it was.
-    ghost numbers_still: { (c : Self) (old new : Self.Device) (e : ℕ) → untouched old new (place c) → numbers c old e → numbers c new e };
+    ghost numbers_still: { (c : Self) (old new : Self.Device) (e : ℕ) → untouched old new (index c) → numbers c old e → numbers c new e };
 
     /// Its memory is what it was.
-    ghost contents_still: { (c : Self) (old new : Self.Device) → untouched old new (place c) → contents c new ≡ contents c old };
+    ghost contents_still: { (c : Self) (old new : Self.Device) → untouched old new (index c) → contents c new ≡ contents c old };
 
     /// A device continues itself.
     ghost continues_self: { (dev : Self.Device) → continues dev dev };

@@ -1,5 +1,5 @@
 -- An armed device from the beginning of a turn on.
-use Rattle.std.proofs.Common.{◌≡◌, ◌<◌, ◌+◌, ◌&&◌, ◌==◌, ◌∙◌, ℕ, true, Option, None, Some, IfSome, ap, arith, get_or, nat_lt, refl}
+use Rattle.std.proofs.Common.{◌≡◌, ◌<◌, ◌≤◌, ◌+◌, ◌-◌, ◌^◌, ◌&&◌, ◌==◌, ◌∙◌, ℕ, true, Option, None, Some, IfSome, ap, arith, get_or, nat_lt, refl}
 use Rattle.std.proofs.lemmas.Bool.{and_parts}
 use Rattle.std.proofs.lemmas.Bool.Decides.{nat_tests}
 use Rattle.std.specs.Option.{option_map}
@@ -40,3 +40,15 @@ module _ {D C : Type 0} (device : Device D C) (s m t : Armed D) (turn p : ℕ) (
   -- the first stop that is planned for the turn comes, or fewer calls were made
   pub fewer_at : IsFoundFirst (is_of turn p) (λ stop. stop.call) s.plan.stops (first_stop s.plan.stops turn p) → IfSome (first_stop s.plan.stops turn p) (λ stop. capped (device.calls t.device p) < capped (device.calls s.device p) + stop.call)
   fewer_at found = by (first_stop s.plan.stops turn p) refl found
+
+-- it comes no sooner than at its call
+module _ {D C : Type 0} (device : Device D C) (s m t : Armed D) (turn p : ℕ) (lent : m.device ≡ s.device) (came : m.plan.came ≡ s.plan.came) (waits : WaitFirst s.plan.stops turn m.plan.waiting) (later : IsLater device m t) where
+  pub punctual_at : (stop : PlannedStop) → first_stop s.plan.stops turn p ≡ Some stop → device.faults t.device p ≡ device.faults s.device p → device.faults t.device p < 2 ^ 64 - 1 → capped (device.calls t.device p) < 2 ^ 64 - 1
+      → all_stops device.stops s p + device.stops t.device p < all_stops device.stops t p + device.stops s.device p → capped (device.calls s.device p) + stop.call ≤ capped (device.calls t.device p) + 1
+  punctual_at stop is same sound below rose =
+      let left : calls_left (waiting_for m.plan p) ≡ stop.call = ap calls_left (waits p ∙ ap (option_map waiting_of) is) in
+      let calls = ap (λ d. capped (device.calls d p)) lent in
+      let faults = ap (λ d. device.faults d p) lent in
+      let planned = ap (λ all. get_or all p 0) came in
+      let at = (later.punctual p).came (record { faults_same = omega (arith, faults, same); faults_below = sound; calls_below = below }) (omega (arith, planned, rose)) in
+      omega (arith, left, calls, at)

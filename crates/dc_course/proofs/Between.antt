@@ -4,7 +4,7 @@ use Rattle.dc_checkpoint.specs.declared.checkpoint.Checkpoint as checkpoint
 use Rattle.dc_model.specs.declared.entry.Entry.{Entry}
 use Rattle.dc_model.specs.declared.mark.Mark.{Mark}
 use Rattle.dc_recovery.proofs.Follows.{get_drop}
-use Rattle.dc_world.specs.Stages.{IsTold, KeepsTelling, Stage}
+use Rattle.dc_processes.specs.Stages.{IsTold, KeepsTelling, Stage}
 use Rattle.dc_world.specs.declared.faults.TurnFault.{TurnFault}
 use Rattle.dc_course.specs.Headline.{Setting, IsCountedOn}
 use Rattle.dc_course.specs.Running.{IsRest, Moment, RunsOff, RunsOn, StepsOff, StepsOn}

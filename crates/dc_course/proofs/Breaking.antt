@@ -7,8 +7,8 @@ use Rattle.dc_model.specs.declared.entry.Entry.{Entry}
 use Rattle.dc_model.specs.declared.mark.Mark.{Mark}
 use Rattle.dc_model.specs.declared.mark.Mark.TheVariants as mark
 use Rattle.dc_recovery.specs.Core.{Core}
-use Rattle.dc_world.specs.Stages.{IsTold, Stage}
-use Rattle.dc_world.specs.Turns.{GoesOn, HasNoRun}
+use Rattle.dc_processes.specs.Stages.{IsTold, Stage}
+use Rattle.dc_processes.specs.Turns.{GoesOn, HasNoRun}
 use Rattle.dc_world.specs.Worlds.{IsCutOff, TakesPart}
 use Rattle.dc_world.specs.declared.faults.TurnFault.{TurnFault}
 use Rattle.dc_world.specs.declared.faults.TurnFault.TheVariants as fault

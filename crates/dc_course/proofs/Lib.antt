@@ -1,4 +1,4 @@
-mod Arming
+pub mod Arming
 mod Steps
 mod Promised
 mod Still
@@ -8,4 +8,5 @@ mod Counting
 mod Between
 mod Ups
 mod Whole
-mod Segments
+mod Tracing
+pub mod Within

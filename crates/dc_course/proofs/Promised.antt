@@ -13,7 +13,7 @@ use Rattle.dc_recovery.proofs.Recovering.{saved_leads}
 use Rattle.dc_recovery.specs.Core.{Core, opened_core, opening}
 use Rattle.dc_recovery.specs.Promise.{IsPromised}
 use Rattle.dc_recovery.specs.Turned.{LeadsTo}
-use Rattle.dc_world.specs.Stages.{Stage}
+use Rattle.dc_processes.specs.Stages.{Stage}
 use Rattle.dc_course.proofs.Steps.{sound}
 use Rattle.dc_course.specs.Headline.{AreUpAlike, IsHeadline, Last, Setting, marks_at, start_at, system_in, torn_at}
 use Rattle.dc_course.specs.Running.{IsEnded, Output}

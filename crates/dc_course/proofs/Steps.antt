@@ -1,5 +1,5 @@
 -- An entry leads a run on, or ends it.
-use Rattle.std.proofs.Common.{◌≡◌, ◌∙◌, ◌+◌, ◌++◌, ℕ, List, [], ◌∷◌, Option, None, Some, IsSomeAnd, ap, append_assoc, arith, length, refl, reverse, slice_get, subst, sym, take}
+use Rattle.std.proofs.Common.{◌≡◌, ◌∙◌, ◌+◌, ◌++◌, ◌∷◌, ℕ, List, [], Option, None, Some, IsSomeAnd, ap, append_assoc, arith, length, refl, reverse, slice_get, subst, sym, take}
 use Rattle.std.proofs.lemmas.List.{append-nil, length-append, length-reverse, reverse-append}
 use Rattle.std.proofs.lemmas.List.Concat.{flat_map-append}
 use Rattle.dc_acts.specs.Lines.{text_of, visible_line}
@@ -17,8 +17,8 @@ use Rattle.dc_recovery.specs.Core.{Core}
 use Rattle.dc_recovery.specs.Invariant.{Holds}
 use Rattle.dc_recovery.specs.Systems.{IsSound}
 use Rattle.dc_recovery.specs.Turned.{LeadsTo, Turned}
-use Rattle.dc_world.specs.Stages.{IsTold, IsWorld, Stage}
-use Rattle.dc_world.specs.Turns.{GoesOn, HasNoRun, IsTurned, lines_of}
+use Rattle.dc_processes.specs.Stages.{IsTold, IsWorld, Stage}
+use Rattle.dc_processes.specs.Turns.{GoesOn, HasNoRun, IsTurned, lines_of}
 use Rattle.dc_world.specs.Worlds.{IsCutOff}
 use Rattle.dc_course.specs.Headline.{Setting, Shows, start_at, system_in, turn_after}
 use Rattle.dc_course.specs.Headline.Last.{Whole, CutOff, Broken}
@@ -28,9 +28,9 @@ use Rattle.dc_course.specs.Running.{CanBegin, IsEnded, IsRunning, Output, output
 pub sound : (setting : Setting) → IsSound (system_in setting)
 sound setting = sound_system (system_in setting).guests setting.protocol 8 64 (omega arith)
 
--- the entry at a place
-at_place : (P : Entry → Type 0) (schedule : List Entry) (i j : ℕ) (entry : Entry) → i ≡ j → slice_get schedule j ≡ Some entry → P entry → IsSomeAnd (slice_get schedule i) P
-at_place P schedule i j entry same at holds = subst (λ o. IsSomeAnd o P) (sym (ap (slice_get schedule) same ∙ at)) holds
+-- the entry at an index
+at_index : (P : Entry → Type 0) (schedule : List Entry) (i j : ℕ) (entry : Entry) → i ≡ j → slice_get schedule j ≡ Some entry → P entry → IsSomeAnd (slice_get schedule i) P
+at_index P schedule i j entry same at holds = subst (λ o. IsSomeAnd o P) (sym (ap (slice_get schedule) same ∙ at)) holds
 
 -- the marks are as many, the last first
 counted : (setting : Setting) (marks : List Mark) → turn_after setting (reverse marks) ≡ turn_after setting marks
@@ -92,7 +92,7 @@ module _ {C D : Type 0} (g : checkpoint.Ghosts C D) (setting : Setting) (begun :
       led = (
         r.core,
         r.led,
-        at_place (λ e. Turned (system_in setting) (turn_after setting (reverse marks)) r.core e m t.after) setting.schedule (turn_after setting (reverse marks)) (turn_after setting marks) entry (counted setting marks) at
+        at_index (λ e. Turned (system_in setting) (turn_after setting (reverse marks)) r.core e m t.after) setting.schedule (turn_after setting (reverse marks)) (turn_after setting marks) entry (counted setting marks) at
             (subst (λ n. Turned (system_in setting) n r.core entry m t.after) (r.entries_are ∙ sym (counted setting marks))
             (subst (λ i. Turned (system setting.images i setting.protocol) old.entries r.core entry m t.after) r.of.inputs_are (subst (λ pr. Turned (system setting.images old.inputs pr) old.entries r.core entry m t.after) r.of.protocol_is t.turned))),
       )

@@ -7,13 +7,13 @@ use Rattle.dc_model.specs.declared.mark.Mark.{Mark}
 use Rattle.dc_model.specs.Runs.{own}
 use Rattle.dc_proc.proofs.Numbers.{numbered_less}
 use Rattle.dc_proc.specs.Processes.{IsAt}
-use Rattle.dc_proc.specs.Worlds.{IsUp}
+use Rattle.dc_processes.specs.Worlds.{IsUp}
 use Rattle.dc_protocols.specs.Rules.{is_joint}
 use Rattle.dc_recovery.specs.Core.{Core}
 use Rattle.dc_recovery.specs.Systems.{System}
 use Rattle.dc_twophase.proofs.Laws.{Laws, QuietLaws}
-use Rattle.dc_world.specs.Slots.{held_in, slot_at}
-use Rattle.dc_world.specs.Stages.{AreDecided, IsTold, IsWorld, Stage, decided_by, leaves_of, memory_of, numbers_of, seen_of, store_of, words_of}
+use Rattle.dc_processes.specs.Slots.{held_in, slot_at}
+use Rattle.dc_processes.specs.Stages.{AreDecided, IsTold, IsWorld, Stage, decided_by, leaves_of, memory_of, numbers_of, seen_of, store_of, words_of}
 use Rattle.dc_course.specs.Headline.{Setting, system_in}
 use Rattle.dc_course.specs.Running.{IsRunning, Output}
 
@@ -26,17 +26,17 @@ module _ {C D : Type 0} (g : checkpoint.Ghosts C D) (laws : Laws g) (quiet : Qui
     -- a memory is what it was
     memory_still : (o : Option C) → memory_of g o old ≡ memory_of g o new
     memory_still None = refl
-    memory_still (Some c) = sym (laws.contents_still c old new (still (g.place c)))
+    memory_still (Some c) = sym (laws.contents_still c old new (still (g.index c)))
 
     -- a store stands for what it stood for
     leaves_still : (o : Option C) (d : ℕ) (r : Reading) → IsSomeAnd o (λ c. g.leaves c new d r) → IsSomeAnd o (λ c. g.leaves c old d r)
     leaves_still None d r l = absurd l
-    leaves_still (Some c) d r l = laws.leaves_still c new old d r (laws.untouched_back old new (g.place c) (still (g.place c))) l
+    leaves_still (Some c) d r l = laws.leaves_still c new old d r (laws.untouched_back old new (g.index c) (still (g.index c))) l
 
     -- its decided number is what it was
     numbers_still : (o : Option C) (d : ℕ) → IsSomeAnd o (λ c. g.numbers c new d) → IsSomeAnd o (λ c. g.numbers c old d)
     numbers_still None d l = absurd l
-    numbers_still (Some c) d l = laws.numbers_still c new old d (laws.untouched_back old new (g.place c) (still (g.place c))) l
+    numbers_still (Some c) d l = laws.numbers_still c new old d (laws.untouched_back old new (g.index c) (still (g.index c))) l
 
     -- so are those under which images count
     decided_still : (b : Bool) (d : ℕ) → decided_by b (numbers_of g (over new x)) d → decided_by b (numbers_of g (over old x)) d
@@ -46,7 +46,7 @@ module _ {C D : Type 0} (g : checkpoint.Ghosts C D) (laws : Laws g) (quiet : Qui
     -- it is as steady
     steady_still : (o : Option C) → IsSomeAnd o (λ c. g.steady c old) → IsSomeAnd o (λ c. g.steady c new)
     steady_still None is = absurd is
-    steady_still (Some c) is = laws.steady_still c old new (still (g.place c)) is
+    steady_still (Some c) is = laws.steady_still c old new (still (g.index c)) is
 
     -- and decided as they are
     are_decided : AreDecided g (over old x) → AreDecided g (over new x)

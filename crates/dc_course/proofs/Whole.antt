@@ -9,25 +9,26 @@ use Rattle.dc_model.specs.declared.mark.Mark.{Mark}
 use Rattle.dc_protocols.specs.Rules.{is_joint}
 use Rattle.dc_guest.specs.Guest.{Guest}
 use Rattle.dc_proc.specs.Processes.{IsAt}
-use Rattle.dc_proc.specs.Worlds.{IsUp}
+use Rattle.dc_processes.specs.Worlds.{IsUp}
 use Rattle.dc_recovery.proofs.Unstopping.{determined}
 use Rattle.dc_recovery.specs.Core.{Core, at_start, opened_core, opening}
 use Rattle.dc_recovery.specs.Systems.{System}
 use Rattle.dc_recovery.specs.Turned.{LeadsTo}
 use Rattle.dc_world.specs.Ended.{HaveEnded}
-use Rattle.dc_world.specs.Slots.{slot_at}
-use Rattle.dc_world.specs.Joints.{IsDownAt, IsFitAt, IsOwn}
-use Rattle.dc_world.specs.Stages.{IsHandled, IsReady, IsTold, IsWorld, KeepsTelling, Stage, seen_of, stage_of}
+use Rattle.dc_processes.specs.Slots.{slot_at}
+use Rattle.dc_together.specs.Joints.{IsDownAt, IsFitAt, Belongs}
+use Rattle.dc_world.specs.Worlds.{IsReady}
+use Rattle.dc_processes.specs.Stages.{IsHandled, IsTold, IsWorld, KeepsTelling, Stage, seen_of, stage_of}
 use Rattle.dc_world.specs.declared.faults.TurnFault.{TurnFault}
 use Rattle.dc_world.specs.declared.faults.TurnFault.TheVariants as fault
-use Rattle.dc_world.specs.declared.processes.Processes.{Processes}
-use Rattle.dc_world.specs.declared.slot.Slot.{Slot}
-use Rattle.dc_world.specs.declared.slot.Slot.TheVariants.{Up, Down}
+use Rattle.dc_processes.specs.declared.processes.Processes.{Processes}
+use Rattle.dc_processes.specs.declared.slot.Slot.{Slot}
+use Rattle.dc_processes.specs.declared.slot.Slot.TheVariants.{Down, Up}
 use Rattle.dc_course.proofs.Between.{Later}
 use Rattle.dc_course.proofs.Promised.{led_opened, promised}
 use Rattle.dc_course.proofs.Steps.{steps_whole}
-use Rattle.dc_course.specs.Courses.{IsCourse, Counts, StoresLeft, TellsThroughout, ending_by, ending_of}
-use Rattle.dc_course.specs.Headline.{AreUpAlike, IsEnding, Last, Setting, PlannedCome, StopsTold, marks_at, system_in, turn_after}
+use Rattle.dc_course.specs.Courses.{IsCourse, Counts, PlannedCome, StoresLeft, TellsThroughout, ending_by, ending_of}
+use Rattle.dc_course.specs.Headline.{AreUpAlike, IsEnding, Last, Setting, StopsTold, marks_at, system_in, turn_after}
 use Rattle.dc_course.specs.Headline.Last.{Whole, CutOff, Broken}
 use Rattle.dc_course.specs.declared.ending.Ending.{Ending}
 use Rattle.dc_course.specs.Running.{IsEnded, IsEndedBy, IsRunning, Moment, Output, output}
@@ -108,7 +109,7 @@ module _ {C D : Type 0} (g : checkpoint.Ghosts C D) (c : C) (dev : D) where
   down_lent (Some (Down d)) is = is.0
 
 -- so is each store of a world that may run
-lent_of : {C D : Type 0} (g : checkpoint.Ghosts C D) (stores : List C) (dev : D) (w : Processes) → IsReady g stores dev w → (p : ℕ) (c : C) → slice_get stores p ≡ Some c → g.lent c dev
+pub lent_of : {C D : Type 0} (g : checkpoint.Ghosts C D) (stores : List C) (dev : D) (w : Processes) → IsReady g stores dev w → (p : ℕ) (c : C) → slice_get stores p ≡ Some c → g.lent c dev
 lent_of g stores dev w ready p c at = ⊎_elim
     (λ (together : is_joint w.protocol ≡ true). ⊎_elim (λ fit. fit_lent g c dev (slot_at w.slots.items p) (fit.0 p c at)) (λ down. down_lent g c dev (slot_at w.slots.items p) (down p c at)) (ready.together together).0)
     (λ (alone : is_joint w.protocol ≡ false). handled_lent g c dev w.left (slot_at w.slots.items p) (ready.handled alone p c at))
@@ -147,7 +148,7 @@ module _ {C D : Type 0} (g : checkpoint.Ghosts C D) (setting : Setting) (up : �
   stores_left = record {
     stores = stores;
     all = ready.stores_long ∙ long;
-    own = λ p c at. subst (λ n. IsOwn g n p c) long (ready.own p c at);
+    belongs = λ p c at. subst (λ n. Belongs g n p c) long (ready.belongs p c at);
     lent = lent_of g stores dev w ready;
     stand = ended.stores;
   }
@@ -161,10 +162,10 @@ module _ {C D : Type 0} (g : checkpoint.Ghosts C D) (setting : Setting) (up : �
   led_up below = subst (λ u. LeadsTo (system_in setting) setting.schedule (opening u) (marks_at last marks) ended.core) (λ i p. all_up below p i) (led_opened setting up from_is (marks_at last marks) ended.core ended.led)
 
   -- it keeps what it promises
-  pub course_is : (counts : Counts) (ending : Ending) → IsEnding setting ending marks last ended.core → StopsTold setting up marks counts.stops_before counts.stops_after
-      → ((p : ℕ) → p < length setting.images → PlannedCome setting last marks p (counts.calls_before p) (counts.calls_after p))
-      → IsCourse setting (record { acts = w.acts.items; marks = marks; lines = w.lines }) ending out counts (λ core. StoresLeft g setting core dev)
-  course_is counts ending is told come = record {
+  pub course_is : (counts : Counts D) (ending : Ending) → dev ≡ counts.after → IsEnding setting ending marks last ended.core → StopsTold setting up marks (counts.stops counts.before) (counts.stops counts.after)
+      → PlannedCome setting (opening up) (λ core d. StoresLeft g setting core d) counts last marks
+      → IsCourse setting (record { acts = w.acts.items; marks = marks; lines = w.lines }) ending out counts (λ core d. StoresLeft g setting core d)
+  course_is counts ending same is told come = record {
     last = last;
     up = up;
     alike = alike;
@@ -173,6 +174,6 @@ module _ {C D : Type 0} (g : checkpoint.Ghosts C D) (setting : Setting) (up : �
     ending_is = is;
     stops_told = told;
     planned_come = come;
-    left = stores_left;
+    left = subst (λ d. StoresLeft g setting ended.core d) same stores_left;
     determined = λ below only whole. determined (system_in setting) setting.schedule only (marks_at last marks) ended.core (led_up below) whole;
   }

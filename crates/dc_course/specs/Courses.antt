@@ -1,18 +1,21 @@
 -- What a whole run promises: of what it lists and shows, of how it ended, and of the devices that it was lent.
-use Rattle.std.specs.Prelude.{◌≡◌, ◌<◌, ◌-◌, ◌^◌, ℕ, Bool, true, false, List, IsSomeAnd, Some, length, map, slice_get}
+use Rattle.std.specs.Prelude.{◌≡◌, ◌<◌, ◌-◌, ◌^◌, ℕ, Bool, true, false, List, IsSomeAnd, Some, length, map, reverse, slice_get}
 use Rattle.dc_media.specs.declared.planned.PlannedStop.{PlannedStop}
 use Rattle.dc_checkpoint.specs.declared.checkpoint.Checkpoint as checkpoint
 use Rattle.dc_model.specs.declared.entry.Entry.{Entry}
+use Rattle.dc_model.specs.declared.mark.Mark.{Mark}
 use Rattle.dc_elf.specs.Loaded.{seen_image}
 use Rattle.dc_words.specs.Lists.{lists_of}
-use Rattle.dc_proc.specs.Worlds.{StoresStand}
+use Rattle.dc_processes.specs.Worlds.{StoresStand}
 use Rattle.dc_protocols.specs.Rules.{is_joint}
-use Rattle.dc_recovery.specs.Core.{Core}
+use Rattle.dc_recovery.specs.Core.{Core, Start, opening}
 use Rattle.dc_recovery.specs.Unstopped.{AreTurns, IsDetermined, Unstopped}
-use Rattle.dc_world.specs.Joints.{IsOwn}
-use Rattle.dc_world.specs.Stages.{decided_by}
+use Rattle.dc_together.specs.Joints.{Belongs}
+use Rattle.dc_processes.specs.Stages.{decided_by}
 use Rattle.dc_world.specs.declared.opening.Setup.{Setup}
-use Rattle.dc_course.specs.Headline.{Account, AreUpAlike, IsEnding, IsHeadline, Last, PlannedCome, Setting, StopsTold, marks_at, system_in}
+use Rattle.dc_course.specs.Headline.{Account, AreUpAlike, IsEnding, IsHeadline, Last, Setting, StopsTold, marks_at, system_in}
+use Rattle.dc_course.specs.Headline.Last.{Whole}
+use Rattle.dc_course.specs.Moments.{AreCalledOn, Moments}
 use Rattle.dc_course.specs.Running.{Output}
 use Rattle.dc_course.specs.declared.course.Course.{Course}
 use Rattle.dc_course.specs.declared.ending.Ending.{Ending}
@@ -28,16 +31,23 @@ setting_of setup schedule stops = record { protocol = setup.protocol; images = m
 abbrev pub account_of : Course → Account
 account_of course = record { acts = course.acts.items; marks = course.marks.items; lines = course.lines }
 
--- what was counted of each process's device before and after: its stops, other than those that were planned, and its calls
-pub record Counts : Type 0 where
-  pub stops_before : ℕ → ℕ
-  pub stops_after : ℕ → ℕ
-  pub calls_before : ℕ → ℕ
-  pub calls_after : ℕ → ℕ
+-- the devices of a run before and after, and what they count of each process: its stops, other than those that were planned, and its calls
+pub record Counts (D : Type 0) : Type 0 where
+  pub stops : D → ℕ → ℕ
+  pub calls : D → ℕ → ℕ
+  pub before : D
+  pub after : D
 
 -- these
-abbrev pub counts_of : {S : Type 0} → (S → ℕ → ℕ) → (S → ℕ → ℕ) → S → S → Counts
-counts_of stops calls old new = record { stops_before = stops old; stops_after = stops new; calls_before = calls old; calls_after = calls new }
+abbrev pub counts_of : {D : Type 0} → (D → ℕ → ℕ) → (D → ℕ → ℕ) → D → D → Counts D
+counts_of stops calls old new = record { stops = stops; calls = calls; before = old; after = new }
+
+-- the moments of a whole run from this start, up to the last entry that has a mark; of an entry that a fault ended nothing is said
+pub record PlannedCome {D : Type 0} (setting : Setting) (start : Start) (Left : Core → D → Type 0) (counts : Counts D) (last : Last) (marks : List Mark) : Type 0 where
+  pub now : D
+  pub moments : Moments setting start Left counts.calls counts.before (reverse marks) now
+  pub later : AreCalledOn (length setting.images) counts.calls now counts.after
+  pub whole : last ≡ Whole → now ≡ counts.after
 
 -- the devices of n processes were told before, and no count of theirs stands at its last value after
 pub record TellsThroughout {C D : Type 0} (g : checkpoint.Ghosts C D) (n : ℕ) (old new : D) : Type 0 where
@@ -49,12 +59,12 @@ pub record TellsThroughout {C D : Type 0} (g : checkpoint.Ghosts C D) (n : ℕ) 
 pub record StoresLeft {C D : Type 0} (g : checkpoint.Ghosts C D) (setting : Setting) (core : Core) (dev : D) : Type 0 where
   pub stores : List C
   pub all : length stores ≡ length setting.images
-  pub own : (p : ℕ) (c : C) → slice_get stores p ≡ Some c → IsOwn g (length setting.images) p c
+  pub belongs : (p : ℕ) (c : C) → slice_get stores p ≡ Some c → Belongs g (length setting.images) p c
   pub lent : (p : ℕ) (c : C) → slice_get stores p ≡ Some c → g.lent c dev
   pub stand : StoresStand (system_in setting) core (decided_by (is_joint setting.protocol) (λ d. IsSomeAnd (slice_get stores 0) (λ c. g.numbers c dev d))) (λ p d r. IsSomeAnd (slice_get stores p) (λ c. g.leaves c dev d r))
 
 -- A run: it keeps the promise, ended as it says, was stopped as planned and no more often than its devices say besides, and left its stores so.
-pub record IsCourse (setting : Setting) (run : Account) (ending : Ending) (out : Output) (counts : Counts) (Left : Core → Type 0) : Type 0 where
+pub record IsCourse {D : Type 0} (setting : Setting) (run : Account) (ending : Ending) (out : Output) (counts : Counts D) (Left : Core → D → Type 0) : Type 0 where
   pub last : Last
   -- which processes are up when the run begins
   pub up : ℕ → Bool
@@ -62,9 +72,9 @@ pub record IsCourse (setting : Setting) (run : Account) (ending : Ending) (out :
   pub core : Core
   pub headline : IsHeadline setting run last up core out.before out.now
   pub ending_is : IsEnding setting ending run.marks last core
-  pub stops_told : StopsTold setting up run.marks counts.stops_before counts.stops_after
-  pub planned_come : (p : ℕ) → p < length setting.images → PlannedCome setting last run.marks p (counts.calls_before p) (counts.calls_after p)
-  pub left : Left core
+  pub stops_told : StopsTold setting up run.marks (counts.stops counts.before) (counts.stops counts.after)
+  pub planned_come : PlannedCome setting (opening up) Left counts last run.marks
+  pub left : Left core counts.after
   -- where nothing was stopped, and only turns were given, marks, acts and lines have no choice
   pub determined : ((p : ℕ) → p < length setting.images → up p ≡ true) → AreTurns setting.schedule → Unstopped (marks_at last run.marks)
       → IsDetermined (system_in setting) setting.schedule (marks_at last run.marks) core

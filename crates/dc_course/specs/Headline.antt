@@ -170,23 +170,7 @@ StopsTold setting up marks before after = (p : ℕ) → p < length setting.image
 abbrev pub IsUnstopped : Setting → ℕ → ℕ → Mark → ℕ → ℕ → Type 0
 IsUnstopped setting p turn m before after = is_stopped m ≡ false → takes_part setting.protocol p (slice_get setting.schedule turn) ≡ true → IfSome (first_stop setting.stops turn p) (λ stop. after < before + stop.call)
 
--- the calls of a process's device in a run, entry by entry, by the marks, the last first: before the first entry those of the opening; no planned stop was left out
-abbrev pub StopsCome : Setting → ℕ → List Mark → ℕ → ℕ → Type 0
-StopsCome setting p [] before after = before ≤ after
-StopsCome setting p (m ∷ marks) before after = (from : ℕ) × StopsCome setting p marks before from × (from ≤ after) × IsUnstopped setting p (turn_after setting marks) m from after
-
--- so in the whole run; of an entry that a fault ended nothing is said
-pub record PlannedCome (setting : Setting) (last : Last) (marks : List Mark) (p before after : ℕ) : Type 0 where
-  pub made : ℕ
-  pub come : StopsCome setting p (reverse marks) before made
-  pub later : made ≤ after
-  pub whole : last ≡ Whole → made ≡ after
-
 -- from some marks to more, the stops of those that stop with a process, which no plan lists, are no fewer than those of the turns in which it takes part
 abbrev pub IsCountedOn : Setting → ℕ → List Mark → List Mark → (ℕ → ℕ) → (ℕ → ℕ) → Type 0
 IsCountedOn setting p old new before after =
     counted_with setting.protocol p before (length setting.images) + unplanned setting p (reverse new) ≤ counted_with setting.protocol p after (length setting.images) + unplanned setting p (reverse old)
-
--- and the calls of the process's device, between which no planned stop was left out
-abbrev pub IsCalledOn : Setting → ℕ → List Mark → List Mark → ℕ → ℕ → Type 0
-IsCalledOn setting p old new from after = (before : ℕ) → StopsCome setting p (reverse old) before from → StopsCome setting p (reverse new) before after

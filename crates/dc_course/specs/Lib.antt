@@ -2,4 +2,6 @@ pub mod Planned
 pub mod Headline
 pub mod Running
 pub mod Courses
-pub mod Segments
+pub mod Lent
+pub mod Moments
+pub mod Traces

@@ -1,5 +1,5 @@
 -- How far a run has come, and how one ended.
-use Rattle.std.specs.Prelude.{◌≡◌, ◌<◌, ◌+◌, ℕ, true, List, ◌++◌, drop, length, reverse, slice_get, Option, Some}
+use Rattle.std.specs.Prelude.{◌≡◌, ◌<◌, ◌+◌, ◌++◌, ℕ, true, List, drop, length, reverse, slice_get, Option, Some}
 use Rattle.dc_acts.specs.Lines.{text_of}
 use Rattle.dc_checkpoint.specs.declared.checkpoint.Checkpoint as checkpoint
 use Rattle.dc_media.specs.Told.{Becomes}
@@ -8,12 +8,12 @@ use Rattle.dc_model.specs.declared.entry.Entry.{Entry}
 use Rattle.dc_model.specs.declared.mark.Mark.{Mark}
 use Rattle.dc_model.specs.declared.visible.Visible.{Visible}
 use Rattle.dc_protocols.specs.Rules.{is_joint}
-use Rattle.dc_proc.specs.Worlds.{StoresStand}
+use Rattle.dc_processes.specs.Worlds.{StoresStand}
 use Rattle.dc_recovery.specs.Core.{Core}
 use Rattle.dc_recovery.specs.Invariant.{Holds}
 use Rattle.dc_recovery.specs.Turned.{LeadsTo}
-use Rattle.dc_world.specs.Slots.{is_up, slot_at}
-use Rattle.dc_world.specs.Stages.{IsTold, IsWorld, Stage, decided_by, leaves_of, numbers_of}
+use Rattle.dc_processes.specs.Slots.{is_up, slot_at}
+use Rattle.dc_processes.specs.Stages.{IsTold, IsWorld, Stage, decided_by, leaves_of, numbers_of}
 use Rattle.dc_world.specs.Worlds.{stage_in}
 use Rattle.dc_world.specs.declared.faults.TurnFault.{TurnFault}
 use Rattle.dc_world.specs.declared.faults.TurnFault.TheVariants as fault

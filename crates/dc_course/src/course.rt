@@ -7,8 +7,8 @@ ghost use Rattle.dc_course.specs.declared.ending.Ending.TheVariants as endings;
 ghost use Rattle.dc_media.specs.Causes.{Rose};
 ghost use Rattle.dc_media.specs.Told.{TellsOn};
 ghost use Rattle.dc_protocols.specs.Rules.{is_causal};
-ghost use Rattle.dc_world.specs.Opened.{CanOpen};
-ghost use Rattle.dc_world.specs.Stages.{KeepsTelling};
+ghost use Rattle.dc_world.specs.Opened.{CanOpen, IsCalmUnlessStopped};
+ghost use Rattle.dc_processes.specs.Stages.{KeepsTelling};
 ghost use Rattle.dc_world.specs.Worlds.{IsOfProcesses};
 ghost use Rattle.dc_world.specs.declared.faults.OpenFault.TheVariants as opening;
 
@@ -108,12 +108,14 @@ pub fn run<C: Planned + Drop, O: Sink>(
     // Where the devices tell what they hold, the promise; and what a fault of a device or of the output says.
     ensures headline { IfOk result (λ course. TellsThroughout C.Checkpoint (length setup.images.items) dev.old dev.new →
         IsCourse (setting_of setup schedule.now (C.planned dev.old)) (account_of course) course.ending (output (O.held out.old) (O.held out.new)) (counts_of C.unplanned C.calls dev.old dev.new)
-        (λ core. StoresLeft C.Checkpoint (setting_of setup schedule.now (C.planned dev.old)) core dev.new)) }
+        (λ core lent. StoresLeft C.Checkpoint (setting_of setup schedule.now (C.planned dev.old)) core lent)) }
     ensures device { IfOk result (λ course. (p : ℕ) → course.ending ≡ endings.Device p → Rose (C.faults dev.old p) (C.faults dev.new p)) }
     ensures sink { IfOk result (λ course. course.ending ≡ endings.Sink → Rose (O.faults out.old) (O.faults out.new)) }
     ensures marks { IfOk result (λ course. length course.marks.items ≤ length schedule.now) }
     // Nothing was run.
     ensures failed { (p : ℕ) → result ≡ Err (opening.Failed p) → (p < length setup.images.items) × Rose (C.faults dev.old p) (C.faults dev.new p) }
+    ensures wanting { result ≡ Err opening.Memory → (p : ℕ) → IsCalmUnlessStopped C.stops C.faults p dev.old dev.new }
+    ensures unplanned { result ≡ Err opening.Memory → (p : ℕ) → C.stops dev.new p + C.unplanned dev.old p ≤ C.unplanned dev.new p + C.stops dev.old p }
     ensures unopened { OnErr result (out.new ≡ out.old) }
     // What becomes of what was lent.
     ensures planned { (p : ℕ) → C.stops dev.new p + C.unplanned dev.old p ≤ C.unplanned dev.new p + C.stops dev.old p + length schedule.now }

@@ -4,11 +4,10 @@
 
 mod course;
 mod ending;
-mod memory;
 mod planned;
 mod running;
 
 pub use course::{Course, run};
 pub use ending::Ending;
-pub use memory::run_on_memory;
 pub use planned::Planned;
+pub use running::Running;

@@ -1,20 +1,13 @@
 //! Stores whose devices stop as a plan says.
 
-ghost use Rattle.std.specs.Prelude.{◌≡◌, ◌≤◌, ◌<◌, ◌+◌, ◌-◌, ◌^◌, ℕ, IfSome, List, false};
+ghost use Rattle.std.specs.Prelude.{◌≡◌, ◌≤◌, ◌<◌, ◌+◌, ◌-◌, ◌^◌, ℕ, IfSome, List, Some, false};
 ghost use Rattle.dc_media.specs.declared.planned.PlannedStop.{PlannedStop as PlannedStops};
 ghost use Rattle.dc_armed.specs.Armed.{IsUnrefused};
-ghost use Rattle.dc_armed.specs.Stops.{capped, first_stop};
-ghost use Rattle.dc_armed.specs.Turns.{WaitNone};
+ghost use Rattle.dc_armed.specs.Stops.{first_stop};
 ghost use Rattle.dc_course.specs.Headline.{is_planned};
-ghost use Rattle.dc_course.specs.Planned.{Lasts, lasts_on, lasts_self, lasts_within, none_within, stopped_within};
 ghost use Rattle.dc_media.specs.Causes.{Rose};
-ghost use Rattle.dc_media.specs.Devices.{of_words};
-ghost use Rattle.dc_media.specs.Told.{showing};
 
-use dc_armed::Armed;
 use dc_checkpoint::Checkpoint;
-use dc_media::Keeps;
-use dc_vista::Segment;
 
 /// A store whose device stops as a plan says.
 pub trait Planned: Checkpoint {
@@ -44,7 +37,9 @@ pub trait Planned: Checkpoint {
         ensures stopped { (now : Self.Device) (p : ℕ) → Self.continues dev.new now → is_planned (planned dev.old) turn p ≡ false
             → Rose (Self.stops dev.old p) (Self.stops now p) → Self.stops now p < 2 ^ 64 - 1 → unplanned dev.old p < unplanned now p }
         ensures comes { (now : Self.Device) (p : ℕ) → Self.continues dev.new now → IsUnrefused Self.stops Self.faults p dev.old now
-            → IfSome (first_stop (planned dev.old) turn p) (λ stop. calls now p < calls dev.old p + stop.call) };
+            → IfSome (first_stop (planned dev.old) turn p) (λ stop. calls now p < calls dev.old p + stop.call) }
+        ensures punctual { (now : Self.Device) (p : ℕ) (stop : PlannedStops) → Self.continues dev.new now → first_stop (planned dev.old) turn p ≡ Some stop → Self.faults now p ≡ Self.faults dev.old p → Self.faults now p < 2 ^ 64 - 1
+            → calls now p < 2 ^ 64 - 1 → Self.stops dev.old p + unplanned now p < Self.stops now p + unplanned dev.old p → calls dev.old p + stop.call ≤ calls now p + 1 };
 
     /// Where no planned stop waits none comes.
     ghost idle_none: { (old new : Self.Device) (p : ℕ) → idle old → Self.continues old new → Self.stops new p + unplanned old p ≤ unplanned new p + Self.stops old p };
@@ -75,43 +70,4 @@ pub trait Planned: Checkpoint {
 
     /// And no call.
     ghost calls_later: { (old new : Self.Device) (p : ℕ) → lasts old new → calls old p ≤ calls new p };
-}
-
-impl<K: Keeps> Planned for Segment<Armed<K>> {
-    ghost planned = { λ dev. dev.plan.stops };
-
-    ghost unplanned = { λ dev p. K.stops dev.device p };
-
-    ghost calls = { λ dev p. capped (K.calls dev.device p) };
-
-    ghost lasts = { λ old new. Lasts (of_words K.Keeps) old new };
-
-    ghost loan = { λ old new. K.continues old.device new.device };
-
-    ghost idle = { λ dev. WaitNone dev.plan.waiting };
-
-    #[tactic(auto, using(crate::proofs::Arming::fewer_at))]
-    fn at_turn(dev: &mut Armed<K>, turn: u32) {
-        dev.at_turn(turn);
-    }
-
-    ghost idle_none = { λ old new p none later. none_within (showing K.told K.extent K.stops K.faults K.calls K.continues) old new p none later };
-
-    ghost idle_stopped = { λ old new p none later rose less. stopped_within (showing K.told K.extent K.stops K.faults K.calls K.continues) old new p none later rose less };
-
-    ghost lasts_within = { λ old new later. lasts_within (showing K.told K.extent K.stops K.faults K.calls K.continues) old new later };
-
-    ghost lasts_self = { λ dev. lasts_self (showing K.told K.extent K.stops K.faults K.calls K.continues) K.continues_self dev };
-
-    ghost lasts_on = { λ old mid new first then. lasts_on (showing K.told K.extent K.stops K.faults K.calls K.continues) K.continues_on old mid new first then };
-
-    ghost loan_same = { λ old new last. last.later };
-
-    ghost planned_same = { λ old new last. last.stops_same };
-
-    ghost unplanned_later = { λ old new p last. last.stopped p };
-
-    ghost faults_later = { λ old new p last. last.failed p };
-
-    ghost calls_later = { λ old new p last. last.called p };
 }

@@ -1,14 +1,18 @@
 //! A run that was opened: one entry after the other.
 
-ghost use Rattle.std.specs.Prelude.{◌≡◌, ◌<◌, ◌≤◌, ◌+◌, ◌-◌, ◌^◌, ℕ, All, IfSome, IsErrOf, IsOk, OnErr, OnOk, Some, false, length, slice_get};
+ghost use Rattle.std.specs.Prelude.{◌≡◌, ◌<◌, ◌≤◌, ◌+◌, ◌-◌, ◌^◌, ◌++◌, ◌∷◌, [], ℕ, All, IfOk, IfSome, IsErrOf, IsOk, OnErr, OnOk, Some, false, length, slice_get};
 ghost use Rattle.dc_armed.specs.Armed.{IsUnrefused};
 ghost use Rattle.dc_armed.specs.Stops.{first_stop};
-ghost use Rattle.dc_course.specs.Headline.{IsCalledOn, IsCountedOn, is_planned, turn_after};
+ghost use Rattle.dc_course.specs.Headline.{IsCountedOn, is_planned, is_stopped, turn_after};
 ghost use Rattle.dc_course.specs.Headline.{Setting as Settings};
-ghost use Rattle.dc_course.specs.Running.{IsRest, IsSettingOf, RunsOff, RunsOn, StepsOff, StepsOn, moment_of};
+ghost use Rattle.dc_course.specs.Running.{CanBegin, IsRest, IsSettingOf, RunsOff, RunsOn, StepsOff, StepsOn, moment_of};
+ghost use Rattle.dc_course.specs.Traces.{RunsBy};
 ghost use Rattle.dc_media.specs.Causes.{Rose};
 ghost use Rattle.dc_media.specs.Told.{TellsOn};
-ghost use Rattle.dc_world.specs.Stages.{KeepsTelling};
+ghost use Rattle.dc_media.specs.declared.planned.PlannedStop.{PlannedStop as PlannedStops};
+ghost use Rattle.dc_model.specs.declared.mark.Mark.TheVariants as marks;
+ghost use Rattle.dc_recovery.specs.Core.{Core};
+ghost use Rattle.dc_processes.specs.Stages.{KeepsTelling};
 ghost use Rattle.dc_world.specs.Worlds.{IsOfProcesses, IsPartOf, MayRun};
 ghost use Rattle.dc_world.specs.declared.faults.TurnFault.TheVariants as faults;
 ghost use Rattle.dc_world.specs.declared.faults.TurnFault.{TurnFault as TurnFaults};
@@ -22,7 +26,7 @@ use dc_world::{TurnFault, World};
 
 /// A run that was opened: its world, the marks of its entries, and how many entries an earlier part of it took.
 #[derive(Drop)]
-pub(crate) struct Running<C: Drop> {
+pub struct Running<C: Drop> {
     pub world: World<C>,
     pub marks: Reserved<Mark>,
     pub from: u32,
@@ -41,6 +45,8 @@ fn begin<C: Planned + Drop>(world: &World<C>, dev: &mut C::Device, turn: u32)
         → Rose (C.stops dev.old p) (C.stops now p) → C.stops now p < 2 ^ 64 - 1 → C.unplanned dev.old p < C.unplanned now p }
     ensures comes { (now : C.Device) (p : ℕ) → C.continues dev.new now → IsUnrefused C.stops C.faults p dev.old now
         → IfSome (first_stop (C.planned dev.old) turn p) (λ stop. C.calls now p < C.calls dev.old p + stop.call) }
+    ensures punctual { (now : C.Device) (p : ℕ) (stop : PlannedStops) → C.continues dev.new now → first_stop (C.planned dev.old) turn p ≡ Some stop → C.faults now p ≡ C.faults dev.old p → C.faults now p < 2 ^ 64 - 1
+        → C.calls now p < 2 ^ 64 - 1 → C.stops dev.old p + C.unplanned now p < C.stops now p + C.unplanned dev.old p → C.calls dev.old p + stop.call ≤ C.calls now p + 1 }
 {
     C::at_turn(dev, turn);
 }
@@ -54,13 +60,13 @@ impl<C: Planned + Drop> Running<C> {
         self.from + self.marks.len() as u32
     }
 
-    /// Runs one entry, and notes its mark. At a fault it has none.
-    fn turn<O: Sink>(
+    /// Runs one entry, and notes and answers its mark. At a fault it has none.
+    pub fn entry<O: Sink>(
         &mut self,
         entry: &Entry,
         dev: &mut C::Device,
         out: &mut O,
-    ) -> Result<(), TurnFault>
+    ) -> Result<Mark, TurnFault>
         requires ready { MayRun C.Checkpoint self.old.world dev.old }
         requires left { 0 < self.old.world.processes.left }
         requires process { IsOfProcesses (length self.old.world.processes.slots.items) entry.now }
@@ -72,7 +78,7 @@ impl<C: Planned + Drop> Running<C> {
         ensures protocol { self.new.world.processes.protocol ≡ self.old.world.processes.protocol }
         ensures long { length self.new.world.processes.slots.items ≡ length self.old.world.processes.slots.items }
         ensures room { self.old.marks.room ≤ self.new.marks.room }
-        ensures marked { OnOk result (length self.new.marks.items ≡ length self.old.marks.items + 1) }
+        ensures noted { IfOk result (λ mark. self.new.marks.items ≡ self.old.marks.items ++ mark ∷ []) }
         ensures unmarked { OnErr result (self.new.marks.items ≡ self.old.marks.items) }
         ensures steps_on { OnOk result (StepsOn C.Checkpoint entry.now (moment_of self.old dev.old (O.held out.old)) (moment_of self.new dev.new (O.held out.new))) }
         ensures steps_off { (fault : TurnFaults) → IsErrOf result fault → StepsOff C.Checkpoint entry.now fault (moment_of self.old dev.old (O.held out.old)) (moment_of self.new dev.new (O.held out.new)) }
@@ -81,8 +87,14 @@ impl<C: Planned + Drop> Running<C> {
         ensures lasts { C.lasts dev.old dev.new }
         ensures stops { (setting : Settings) (p : ℕ) → IsSettingOf self.old setting → setting.stops ≡ C.planned dev.old → slice_get setting.schedule (turn_after setting self.old.marks.items) ≡ Some entry.now → ((q : ℕ) → q < length setting.images → C.stops dev.new q < 2 ^ 64 - 1)
             → IsCountedOn setting p self.old.marks.items self.new.marks.items (C.unplanned dev.old) (C.unplanned dev.new) }
-        ensures comes { OnOk result ((setting : Settings) (p : ℕ) → p < length setting.images → IsSettingOf self.old setting → setting.stops ≡ C.planned dev.old → slice_get setting.schedule (turn_after setting self.old.marks.items) ≡ Some entry.now → C.stops dev.new p < 2 ^ 64 - 1 → C.faults dev.new p < 2 ^ 64 - 1
-            → IsCalledOn setting p self.old.marks.items self.new.marks.items (C.calls dev.old p) (C.calls dev.new p)) }
+        // Between the devices before and after: no stop that was planned was passed over, and none came sooner than at its call.
+        ensures come { IfOk result (λ mark. (p : ℕ) → is_stopped mark ≡ false → IsPartOf self.old.world p entry.now → C.stops dev.new p < 2 ^ 64 - 1 → C.faults dev.new p < 2 ^ 64 - 1
+            → IfSome (first_stop (C.planned dev.old) (self.old.from + length self.old.marks.items) p) (λ stop. C.calls dev.new p < C.calls dev.old p + stop.call)) }
+        ensures punctual { (p : ℕ) (stop : PlannedStops) → first_stop (C.planned dev.old) (self.old.from + length self.old.marks.items) p ≡ Some stop → C.faults dev.new p ≡ C.faults dev.old p → C.faults dev.new p < 2 ^ 64 - 1
+            → C.calls dev.new p < 2 ^ 64 - 1 → C.stops dev.old p + C.unplanned dev.new p < C.stops dev.new p + C.unplanned dev.old p → C.calls dev.old p + stop.call ≤ C.calls dev.new p + 1 }
+        ensures stopped { IfOk result (λ mark. mark ≡ marks.Stopped → (p : ℕ) × IsPartOf self.old.world p entry.now × Rose (C.stops dev.old p) (C.stops dev.new p)) }
+        ensures unplanned { IfOk result (λ mark. mark ≡ marks.Stopped → ((p : ℕ) → IsPartOf self.old.world p entry.now → (is_planned (C.planned dev.old) (self.old.from + length self.old.marks.items) p ≡ false) × (C.stops dev.new p < 2 ^ 64 - 1))
+            → (p : ℕ) × IsPartOf self.old.world p entry.now × (C.unplanned dev.old p < C.unplanned dev.new p)) }
         ensures once { (p : ℕ) → C.stops dev.new p + C.unplanned dev.old p ≤ C.unplanned dev.new p + C.stops dev.old p + 1 }
         ensures later { (p : ℕ) → (C.stops dev.old p ≤ C.stops dev.new p) × (C.faults dev.old p ≤ C.faults dev.new p) }
         ensures tells { (p : ℕ) → KeepsTelling C.Checkpoint dev.old dev.new p }
@@ -94,7 +106,7 @@ impl<C: Planned + Drop> Running<C> {
         match self.world.turn(entry, dev, out) {
             Ok(mark) => {
                 self.marks.push(mark);
-                Ok(())
+                Ok(mark)
             }
             Err(fault) => Err(fault),
         }
@@ -124,8 +136,8 @@ impl<C: Planned + Drop> Running<C> {
         ensures lasts { C.lasts dev.old dev.new }
         ensures stops { (setting : Settings) (p : ℕ) → IsSettingOf self.old setting → setting.stops ≡ C.planned dev.old → IsRest setting schedule.now → ((q : ℕ) → q < length setting.images → C.stops dev.new q < 2 ^ 64 - 1)
             → IsCountedOn setting p self.old.marks.items self.new.marks.items (C.unplanned dev.old) (C.unplanned dev.new) }
-        ensures come { (setting : Settings) (p : ℕ) → p < length setting.images → IsSettingOf self.old setting → setting.stops ≡ C.planned dev.old → IsRest setting schedule.now → C.stops dev.new p < 2 ^ 64 - 1 → C.faults dev.new p < 2 ^ 64 - 1
-            → (made : ℕ) × IsCalledOn setting p self.old.marks.items self.new.marks.items (C.calls dev.old p) made × (made ≤ C.calls dev.new p) × (IsOk result → made ≡ C.calls dev.new p) }
+        ensures come { (setting : Settings) (begun : Core) → CanBegin setting begun → IsSettingOf self.old setting → setting.stops ≡ C.planned dev.old → IsRest setting schedule.now
+            → RunsBy C.Checkpoint C.calls setting begun (moment_of self.old dev.old (O.held out.old)) (moment_of self.new dev.new (O.held out.new)) (IsOk result) }
         ensures planned { (p : ℕ) → C.stops dev.new p + C.unplanned dev.old p ≤ C.unplanned dev.new p + C.stops dev.old p + length schedule.now }
         ensures later { (p : ℕ) → (C.stops dev.old p ≤ C.stops dev.new p) × (C.faults dev.old p ≤ C.faults dev.new p) }
         ensures tells { (p : ℕ) → KeepsTelling C.Checkpoint dev.old dev.new p }
@@ -134,8 +146,8 @@ impl<C: Planned + Drop> Running<C> {
         ensures out_later { O.faults out.old ≤ O.faults out.new }
     {
         for entry in schedule {
-            match self.turn(entry, dev, out) {
-                Ok(()) => {}
+            match self.entry(entry, dev, out) {
+                Ok(_mark) => {}
                 Err(fault) => return Err(fault),
             }
         }

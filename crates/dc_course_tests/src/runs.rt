@@ -18,6 +18,7 @@ use dc_cases::is_read;
 use dc_media::PlannedStop;
 use dc_memmedia::ListedCall;
 use dc_model::Entry;
+use dc_processes::processes_learn;
 use runs::{run_lent, run_refused};
 use setting::schedule;
 use spoiled::run_spoiled;
@@ -186,4 +187,9 @@ fn a_store_that_another_hand_changed(rt: HostRuntime) -> Result<(), Fail> {
     let entries = schedule(rt.alloc(), SPOILED)?;
     let ran = run_spoiled(rt.alloc(), SPOILED, &entries)?;
     comes_to(rt.alloc(), SPOILED, &ran, entries.len())
+}
+
+#[test]
+fn the_law_is_called() {
+    processes_learn();
 }

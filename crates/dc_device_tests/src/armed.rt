@@ -58,7 +58,7 @@ fn write_at(disk: &mut Armed<FakeDisk>, p: u32, at: u64, piece: &[u8]) -> u64 {
     9
 }
 
-/// The bytes at a place, or the refusal.
+/// The bytes at an offset, or the refusal.
 fn bytes_at(
     disk: &mut Armed<FakeDisk>,
     alloc: Global,

@@ -9,7 +9,7 @@ use Rattle.dc_elf.specs.declared.faults.ElfFault.{ElfFault}
 use Rattle.dc_elf.specs.declared.faults.ElfFault.TheVariants.{Short, Magic, Class, Order, FileType, Machine, Flags, Headers, Segment}
 use Rattle.dc_elf.specs.declared.faults.ElfFault.TheVariants.{Entry}
 
--- the program header at a place
+-- the program header at an offset
 abbrev pub part_at : List ℕ → ℕ → Part
 part_at file at = record {
   kind = word_at file at;
@@ -19,7 +19,7 @@ part_at file at = record {
   sized = word_at file (at + 20);
 }
 
--- so many program headers, of 32 bytes each, from a place on
+-- so many program headers, of 32 bytes each, from an offset on
 abbrev pub parts_from : List ℕ → ℕ → ℕ → List Part
 parts_from file at zero = []
 parts_from file at (suc count) = part_at file at ∷ parts_from file (at + 32) count

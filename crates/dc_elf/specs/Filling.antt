@@ -1,4 +1,4 @@
--- A memory that is filled from the last part on, and where its filled places end.
+-- A memory that is filled from the last part on, and where its filled bytes end.
 use Rattle.std.specs.Prelude.{◌≡◌, ℕ, ◌<◌, ◌≤◌, Bool, true, List, ◌∷◌, length, if◌then◌else◌, nat_lt, slice_index}
 use Rattle.std.specs.List.{list_any}
 use Rattle.dc_elf.specs.declared.part.Part.{Part}

@@ -5,7 +5,7 @@ ghost use Rattle.dc_words.specs.Words.{half_at, word_at};
 use crate::part::Part;
 use byteorder::{ByteOrder, LittleEndian};
 
-/// The number of two bytes at a place, the lowest first.
+/// The number of two bytes at an offset, the lowest first.
 pub fn half_at(file: &[u8], at: usize) -> u16
     requires { at + 2 ≤ length file.now }
     ensures { result ≡ half_at file.now at }
@@ -13,7 +13,7 @@ pub fn half_at(file: &[u8], at: usize) -> u16
     LittleEndian::read_u16(&file[at..])
 }
 
-/// The number of four bytes at a place, the lowest first.
+/// The number of four bytes at an offset, the lowest first.
 pub fn word_at(file: &[u8], at: usize) -> u32
     requires { at + 4 ≤ length file.now }
     ensures { result ≡ word_at file.now at }
@@ -21,7 +21,7 @@ pub fn word_at(file: &[u8], at: usize) -> u32
     LittleEndian::read_u32(&file[at..])
 }
 
-/// The program header at a place.
+/// The program header at an offset.
 pub fn part_at(file: &[u8], at: usize) -> Part
     requires { at + 32 ≤ length file.now }
     ensures { result ≡ part_at file.now at }

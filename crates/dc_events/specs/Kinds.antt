@@ -16,7 +16,7 @@ kind_of (Call calls.Clock) = Clock
 kind_of (Call calls.Random) = Random
 kind_of (Call (calls.Send q from count)) = Send
 kind_of (Call (calls.Receive to room)) = Receive
-kind_of (Call calls.Own) = Internal
+kind_of (Call calls.Number) = Internal
 kind_of (Call calls.BadArgument) = Internal
 kind_of (Call calls.Unknown) = Internal
 

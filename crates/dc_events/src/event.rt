@@ -58,7 +58,7 @@ fn call_kind(call: Call) -> Kind
         Call::Random => Kind::Random,
         Call::Send(_, _, _) => Kind::Send,
         Call::Receive(_, _) => Kind::Receive,
-        Call::Own => Kind::Internal,
+        Call::Number => Kind::Internal,
         Call::BadArgument => Kind::Internal,
         Call::Unknown => Kind::Internal,
     }

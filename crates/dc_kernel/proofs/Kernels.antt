@@ -222,7 +222,7 @@ pub read_values : (n p : ℕ) (words : List ℕ) (status : Status) (regs : Regs)
       commit = slice_index words 5;
       position = slice_index words 6;
       visible = slice_index words 7;
-      place = slice_index words 8;
+      inputs_taken = slice_index words 8;
       regs = regs;
       received = received;
       links = links;

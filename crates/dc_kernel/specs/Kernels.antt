@@ -10,7 +10,7 @@ use Rattle.dc_kernel.specs.declared.status.Status.{Status}
 use Rattle.dc_kernel.specs.declared.status.Status.TheVariants.{Running, Exited, Trapped}
 
 -- the kernel of process p of n: its status, its commit number, its position (how many events it has taken: an instruction, a call or a trap),
--- how many of its records were seen, its place in its input, its registers, and for each process how many messages it received from it, and
+-- how many of its records were seen, how many inputs it took, its registers, and for each process how many messages it received from it, and
 -- what it sent to it
 pub record Kernel : Type 0 where
   pub n : ℕ
@@ -19,7 +19,7 @@ pub record Kernel : Type 0 where
   pub commit : ℕ
   pub position : ℕ
   pub visible : ℕ
-  pub place : ℕ
+  pub inputs_taken : ℕ
   pub regs : Regs
   pub received : List ℕ
   pub links : List Link
@@ -33,7 +33,7 @@ fresh n p = record {
   commit = 0;
   position = 0;
   visible = 0;
-  place = 0;
+  inputs_taken = 0;
   regs = record { x = replicate 32 0; pc = 0 };
   received = replicate n 0;
   links = replicate n unused;

@@ -39,8 +39,8 @@ abbrev pub visible_at : ℕ
 visible_at = 7
 
 -- how many records of its input it has taken
-abbrev pub place_at : ℕ
-place_at = 8
+abbrev pub inputs_taken_at : ℕ
+inputs_taken_at = 8
 
 -- the address of the next instruction
 abbrev pub pc_at : ℕ

@@ -4,7 +4,7 @@ use Rattle.dc_isa.specs.declared.regs.Regs.{Regs}
 use Rattle.dc_links.specs.Links.{Link}
 use Rattle.dc_words.specs.Words.{bytes_in}
 use Rattle.dc_kernel.specs.Kernels.{Kernel}
-use Rattle.dc_kernel.specs.Layout.{bytes_at, code_at, commit_at, entries_of, kept_at, length_at, pc_at, place_at, received_at, register_count, registers_at, position_at, sent_at, slots_of, status_at, visible_at}
+use Rattle.dc_kernel.specs.Layout.{bytes_at, code_at, commit_at, entries_of, kept_at, length_at, pc_at, inputs_taken_at, received_at, register_count, registers_at, position_at, sent_at, slots_of, status_at, visible_at}
 use Rattle.dc_kernel.specs.declared.faults.KernelFault.{KernelFault}
 use Rattle.dc_kernel.specs.declared.status.Status.{Status}
 use Rattle.dc_kernel.specs.declared.status.Status.TheVariants.{Running, Exited, Trapped}
@@ -38,7 +38,7 @@ kernel_in n p words = record {
   commit = slice_index words commit_at;
   position = slice_index words position_at;
   visible = slice_index words visible_at;
-  place = slice_index words place_at;
+  inputs_taken = slice_index words inputs_taken_at;
   regs = regs_in words;
   received = map received_in (entries_of n words);
   links = map link_in (entries_of n words);

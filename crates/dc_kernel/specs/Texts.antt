@@ -40,7 +40,7 @@ entries_text _ _ = []
 
 -- the words before the registers
 abbrev pub header_text : Kernel → List ℕ
-header_text k = version ∷ k.n ∷ k.p ∷ status_word k.status ∷ status_code k.status ∷ k.commit ∷ k.position ∷ k.visible ∷ k.place ∷ k.regs.pc ∷ []
+header_text k = version ∷ k.n ∷ k.p ∷ status_word k.status ∷ status_code k.status ∷ k.commit ∷ k.position ∷ k.visible ∷ k.inputs_taken ∷ k.regs.pc ∷ []
 
 -- the text: the header, x1 to x31, and the entries
 unfoldable pub text_of : Kernel → List ℕ

@@ -11,8 +11,8 @@ use crate::checking::{fault_in, slot_bytes};
 use crate::faults::KernelFault;
 use crate::kernel::Kernel;
 use crate::layout::{
-    CODE_AT, COMMIT_AT, ENTRIES_AT, ENTRY_WORDS, KEPT_AT, LENGTH_AT, PC_AT, PLACE_AT, POSITION_AT,
-    RECEIVED_AT, REGISTERS_AT, SENT_AT, SLOT_WORDS, SLOTS_AT, STATUS_AT, VISIBLE_AT,
+    CODE_AT, COMMIT_AT, ENTRIES_AT, ENTRY_WORDS, INPUTS_TAKEN_AT, KEPT_AT, LENGTH_AT, PC_AT,
+    POSITION_AT, RECEIVED_AT, REGISTERS_AT, SENT_AT, SLOT_WORDS, SLOTS_AT, STATUS_AT, VISIBLE_AT,
 };
 use crate::status::Status;
 use dc_isa::Regs;
@@ -96,7 +96,7 @@ impl Kernel {
         self.commit = words[COMMIT_AT];
         self.position = words[POSITION_AT];
         self.visible = words[VISIBLE_AT];
-        self.place = words[PLACE_AT];
+        self.inputs_taken = words[INPUTS_TAKEN_AT];
         self.regs = regs_in(words);
         read_entries(&mut self.received, &mut self.links, &words[ENTRIES_AT..]);
     }

@@ -8,9 +8,9 @@ ghost use Rattle.dc_links.specs.Links.{link_to};
 
 use crate::kernel::Kernel;
 use crate::layout::{
-    BYTES_AT, CODE_AT, COMMIT_AT, ENTRIES_AT, ENTRY_WORDS, KEPT_AT, LENGTH_AT, N_AT, P_AT, PC_AT,
-    PLACE_AT, POSITION_AT, RECEIVED_AT, REGISTERS_AT, SENT_AT, SLOT_WORDS, SLOTS_AT, STATUS_AT,
-    VERSION, VERSION_AT, VISIBLE_AT,
+    BYTES_AT, CODE_AT, COMMIT_AT, ENTRIES_AT, ENTRY_WORDS, INPUTS_TAKEN_AT, KEPT_AT, LENGTH_AT,
+    N_AT, P_AT, PC_AT, POSITION_AT, RECEIVED_AT, REGISTERS_AT, SENT_AT, SLOT_WORDS, SLOTS_AT,
+    STATUS_AT, VERSION, VERSION_AT, VISIBLE_AT,
 };
 use crate::status::Status;
 use dc_limits::PROCESSES;
@@ -106,7 +106,7 @@ impl Kernel {
         header[COMMIT_AT] = self.commit;
         header[POSITION_AT] = self.position;
         header[VISIBLE_AT] = self.visible;
-        header[PLACE_AT] = self.place;
+        header[INPUTS_TAKEN_AT] = self.inputs_taken;
         header[PC_AT] = self.regs.pc;
         header
     }

@@ -19,7 +19,7 @@ pub struct Kernel {
     pub(crate) commit: u32,
     pub(crate) position: u32,
     pub(crate) visible: u32,
-    pub(crate) place: u32,
+    pub(crate) inputs_taken: u32,
     pub(crate) regs: Regs,
     pub(crate) received: Vec<u32>,
     pub(crate) links: Links,
@@ -37,7 +37,7 @@ impl Model for Kernel {
       commit = k.commit;
       position = k.position;
       visible = k.visible;
-      place = k.place;
+      inputs_taken = k.inputs_taken;
       regs = k.regs;
       received = k.received.items;
       links = k.links;
@@ -60,7 +60,7 @@ impl Kernel {
             commit: 0,
             position: 0,
             visible: 0,
-            place: 0,
+            inputs_taken: 0,
             regs: Regs { x: [0; 32], pc: 0 },
             received: vec![in alloc; 0; n as usize]?,
             links: Links::new(alloc, n)?,
@@ -143,17 +143,17 @@ impl Kernel {
     }
 
     /// How many records of its input the process has taken.
-    pub fn place(&self) -> u32
-        ensures { result ≡ self.now.place }
+    pub fn inputs_taken(&self) -> u32
+        ensures { result ≡ self.now.inputs_taken }
     {
-        self.place
+        self.inputs_taken
     }
 
     /// Nothing else changes.
-    pub fn set_place(&mut self, place: u32)
-        ensures { self.new ≡ record self.old { place = place } }
+    pub fn set_inputs_taken(&mut self, inputs_taken: u32)
+        ensures { self.new ≡ record self.old { inputs_taken = inputs_taken } }
     {
-        self.place = place;
+        self.inputs_taken = inputs_taken;
     }
 
     /// The registers, and the address of the next instruction.

@@ -33,7 +33,7 @@ pub const POSITION_AT: usize = 6;
 pub const VISIBLE_AT: usize = 7;
 
 /// How many records of its input it has taken.
-pub const PLACE_AT: usize = 8;
+pub const INPUTS_TAKEN_AT: usize = 8;
 
 /// The address of the next instruction, in bytes.
 pub const PC_AT: usize = 9;

@@ -61,11 +61,11 @@ impl Link {
         self.ring.is_full()
     }
 
-    /// The kept message at a place, counted from the oldest.
-    pub fn kept(&self, place: u32) -> Option<&Message>
-        ensures { option_copied result ≡ slice_get self.now.kept place }
+    /// The kept message at an index, counted from the oldest.
+    pub fn kept(&self, index: u32) -> Option<&Message>
+        ensures { option_copied result ≡ slice_get self.now.kept index }
     {
-        self.ring.get(place as usize)
+        self.ring.get(index as usize)
     }
 
     /// The message of a number, where it is kept.

@@ -64,12 +64,12 @@ impl Links {
         self.links[q as usize].is_full()
     }
 
-    /// The message kept for receiver `q` at a place, counted from the oldest.
-    pub fn kept(&self, q: u32, place: u32) -> Option<&Message>
+    /// The message kept for receiver `q` at an index, counted from the oldest.
+    pub fn kept(&self, q: u32, index: u32) -> Option<&Message>
         requires { q < length self.now }
-        ensures { option_copied result ≡ slice_get (link_to self.now q).kept place }
+        ensures { option_copied result ≡ slice_get (link_to self.now q).kept index }
     {
-        self.links[q as usize].kept(place)
+        self.links[q as usize].kept(index)
     }
 
     /// The message to receiver `q` of that number, where it is kept.

@@ -68,9 +68,9 @@ const BARE: &str = "\
 5 0 0 12 0 2 3|Random
 5 1 1 12 0 2 3|Random
 5 4294967295 4294967295 12 0 2 3|Random
-8 0 0 12 0 2 3|Own
-8 1 1 12 0 2 3|Own
-8 4294967295 4294967295 12 0 2 3|Own
+8 0 0 12 0 2 3|Number
+8 1 1 12 0 2 3|Number
+8 4294967295 4294967295 12 0 2 3|Number
 ";
 
 /// A message goes to another guest and has at most 64 bytes.

@@ -184,7 +184,7 @@ fn is_image(alloc: Global, file: &[u8], memory: &[u8], entry: u32) -> Result<(),
     holds(image.entry == entry, "the entry")
 }
 
-/// Writes bytes over those from a place on.
+/// Writes bytes over those from an offset on.
 fn put(file: &mut [u8], at: usize, bytes: &[u8]) {
     for (i, byte) in bytes.iter().enumerate() {
         if let Some(slot) = file.get_mut(at.saturating_add(i)) {

@@ -16,7 +16,7 @@ fn each_event_has_its_kind() -> Result<(), Fail> {
         (Next::Call(Call::Random), Kind::Random),
         (Next::Call(Call::Send(1, 512, 0)), Kind::Send),
         (Next::Call(Call::Receive(512, 64)), Kind::Receive),
-        (Next::Call(Call::Own), Kind::Internal),
+        (Next::Call(Call::Number), Kind::Internal),
         (Next::Call(Call::BadArgument), Kind::Internal),
         (Next::Call(Call::Unknown), Kind::Internal),
     ];

@@ -136,7 +136,7 @@ fn plays(plain: &mut Plain, moves: &str) -> Result<(), Fail> {
     Ok(())
 }
 
-/// The record at a place shows these bytes, as the k-th of process p.
+/// The record at an index shows these bytes, as the k-th of process p.
 fn shows(plain: &Plain, at: usize, p: u32, k: u32, bytes: &[u8]) -> Result<(), Fail> {
     match plain.visibles().get(at) {
         Some(
@@ -150,7 +150,7 @@ fn shows(plain: &Plain, at: usize, p: u32, k: u32, bytes: &[u8]) -> Result<(), F
     }
 }
 
-/// The record at a place is the end of process p, as its k-th, with this code.
+/// The record at an index is the end of process p, as its k-th, with this code.
 fn ends(plain: &Plain, at: usize, p: u32, k: u32, code: u32) -> Result<(), Fail> {
     match plain.visibles().get(at) {
         Some(
@@ -164,7 +164,7 @@ fn ends(plain: &Plain, at: usize, p: u32, k: u32, code: u32) -> Result<(), Fail>
     }
 }
 
-/// The record at a place is a trap of process p, its first, of this cause at this pc.
+/// The record at an index is a trap of process p, its first, of this cause at this pc.
 fn traps(plain: &Plain, at: usize, p: u32, cause: u32, pc: u32) -> Result<(), Fail> {
     match plain.visibles().get(at) {
         Some(

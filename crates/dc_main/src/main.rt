@@ -1,5 +1,9 @@
-//! The program: runs a command over real files and streams.
+//! The program: runs a command over real files and streams, or tells of itself.
 #![tactic(auto)]
+
+mod telling;
+mod texts;
+mod topic;
 
 use dc_host::{FileLibrary, LateFile, StreamSink};
 use dc_memmedia::{MemDisks, MemKeeps};
@@ -8,6 +12,8 @@ use std::alloc::AllocError;
 use std::io::Write;
 use std::process::ExitCode;
 use std::rt::Files;
+use telling::tell;
+use topic::topic_of;
 
 /// Carries out the command of these words over stores and disks in memory, with the report in the file `dc.report`.
 fn carry_out<R: Files + AllocGlobal + Clone + Drop, W: Write + Drop>(
@@ -31,14 +37,31 @@ fn carry_out<R: Files + AllocGlobal + Clone + Drop, W: Write + Drop>(
     ))
 }
 
-/// Carries out the command of its arguments, says the outcome on standard error and ends with its status.
+/// Does what the words ask: carries out their command, or tells of the program. None where it was told, since nothing is to be said of
+/// that.
+fn answer<R: Files + AllocGlobal + Clone + Drop, W: Write + Drop>(
+    rt: &R,
+    words: &[String],
+    out: W,
+) -> Option<Outcome> {
+    let verdict = match topic_of(words) {
+        Some(topic) => tell(rt, words, topic, &mut StreamSink::new(out)).err()?,
+        None => match carry_out(rt, words, out) {
+            Ok(outcome) => return Some(outcome),
+            Err(AllocError) => Verdict::WantOfMemory,
+        },
+    };
+    Some(Outcome::idle(rt.alloc(), verdict))
+}
+
+/// Does what its arguments ask, says the outcome on standard error and ends with its status.
 fn main(rt: HostRuntime) -> ExitCode {
     let outcome = match words_of(&rt) {
-        Ok(words) => match carry_out(&rt, &words, rt.stdout()) {
-            Ok(outcome) => outcome,
-            Err(AllocError) => Outcome::idle(rt.alloc(), Verdict::WantOfMemory),
-        },
-        Err(verdict) => Outcome::idle(rt.alloc(), verdict),
+        Ok(words) => answer(&rt, words.as_slice(), rt.stdout()),
+        Err(verdict) => Some(Outcome::idle(rt.alloc(), verdict)),
+    };
+    let Some(outcome) = outcome else {
+        return ExitCode::SUCCESS;
     };
     let status = conclude(&outcome, &mut StreamSink::new(rt.stderr()));
     ExitCode::from(status)

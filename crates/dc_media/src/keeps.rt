@@ -58,7 +58,7 @@ pub trait Keeps {
     /// Copies a line of 16 words to an index that is the same or lies apart. A refused call copies the first of them, in order.
     fn copy_line(&mut self, p: u32, from: u32, to: u32) -> Result<(), DeviceFault>
         requires source { from + 16 ≤ extent self.old p }
-        requires place { to + 16 ≤ extent self.old p }
+        requires index { to + 16 ≤ extent self.old p }
         requires apart { AreSameOrApart from to }
         ensures call { IsCall (showing told extent stops faults calls continues) p self.old self.new result }
         ensures line { CopiesLine from to result (told self.old p) (told self.new p) }

@@ -119,7 +119,7 @@ impl DiskBytes {
         })
     }
 
-    /// How many bytes the disk has, which fits a place on it.
+    /// How many bytes the disk has, which an offset on it fits.
     pub fn len(&self) -> usize
         ensures len { result ≡ length self.now.content }
         ensures fits { result < 2 ^ 63 }
@@ -128,7 +128,7 @@ impl DiskBytes {
         self.content.len()
     }
 
-    /// The bytes at a place, pending or not.
+    /// The bytes at an offset, pending or not.
     pub fn read(&self, at: usize, to: &mut [u8])
         requires { at + length to.old ≤ length self.now.content }
         ensures { to.new ≡ take (length to.old) (drop at self.now.content) }

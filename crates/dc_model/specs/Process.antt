@@ -5,10 +5,10 @@ use Rattle.dc_model.specs.Guests.Event.{AtVisible, AtSend}
 use Rattle.dc_model.specs.Guests.Answer.{Plain, Clock, Random, InputNone, InputNext, InputEnd, ReceiveNone, ReceiveFrom}
 use Rattle.dc_model.specs.declared.visible.Visible.{Visible}
 
--- its machine, its place in its inputs, how many messages it received from each, all that it sent to each, and how many visible events it had
+-- its machine, how many inputs it took, how many messages it received from each, all that it sent to each, and how many visible events it had
 pub record Local (Mc : Type 0) : Type 0 where
   pub machine : Mc
-  pub place : ℕ
+  pub inputs_taken : ℕ
   pub received : ℕ → ℕ
   pub sent : ℕ → List (List ℕ)
   pub visible : ℕ
@@ -41,7 +41,7 @@ shows _ = 0
 abbrev pub moved : {Mc : Type 0} → Guests Mc → Local Mc → Answer → Local Mc
 moved G l a = record {
   machine = G.after l.machine a;
-  place = l.place + took_input a;
+  inputs_taken = l.inputs_taken + took_input a;
   received = λ s. l.received s + took_from a s;
   sent = λ q. l.sent q ++ posted (comes G l a) q;
   visible = l.visible + shows (comes G l a);
@@ -49,7 +49,7 @@ moved G l a = record {
 
 -- before its first answer
 abbrev pub begun : {Mc : Type 0} → Guests Mc → ℕ → Local Mc
-begun G p = record { machine = G.start p; place = 0; received = λ s. 0; sent = λ q. []; visible = 0 }
+begun G p = record { machine = G.start p; inputs_taken = 0; received = λ s. 0; sent = λ q. []; visible = 0 }
 
 -- after its answers
 abbrev pub local : {Mc : Type 0} → Guests Mc → ℕ → List Answer → Local Mc
@@ -76,8 +76,8 @@ fits G p l Plain = is_sure (G.next l.machine)
 fits G p l (Clock v) = is_clock (G.next l.machine)
 fits G p l (Random v) = is_random (G.next l.machine)
 fits G p l InputNone = is_input (G.next l.machine)
-fits G p l (InputNext bytes) = is_input (G.next l.machine) && is_next_input bytes (slice_get (G.inputs p) l.place)
-fits G p l InputEnd = is_input (G.next l.machine) && not (nat_lt l.place (length (G.inputs p)))
+fits G p l (InputNext bytes) = is_input (G.next l.machine) && is_next_input bytes (slice_get (G.inputs p) l.inputs_taken)
+fits G p l InputEnd = is_input (G.next l.machine) && not (nat_lt l.inputs_taken (length (G.inputs p)))
 fits G p l ReceiveNone = is_receive (G.next l.machine)
 fits G p l (ReceiveFrom s message) = is_receive (G.next l.machine)
 

@@ -30,7 +30,7 @@ answer_for G w p act.Plain = Some answer.Plain
 answer_for G w p (act.Clock v) = Some (answer.Clock v)
 answer_for G w p (act.Random v) = Some (answer.Random v)
 answer_for G w p act.InputNone = Some answer.InputNone
-answer_for G w p act.InputNext = option_map answer.InputNext (slice_get (G.inputs p) (w.procs p).place)
+answer_for G w p act.InputNext = option_map answer.InputNext (slice_get (G.inputs p) (w.procs p).inputs_taken)
 answer_for G w p act.InputEnd = Some answer.InputEnd
 answer_for G w p act.ReceiveNone = Some answer.ReceiveNone
 answer_for G w p (act.ReceiveFrom s) = if s == p then None else option_map (answer.ReceiveFrom s) (slice_get ((w.procs s).sent p) ((w.procs p).received s))

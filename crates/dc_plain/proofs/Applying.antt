@@ -34,7 +34,7 @@ module _ {Mc : Type 0} (G : Guests Mc) (w : World Mc) (p : ℕ) where
 -- the value of the code's guests is their world
 local_is : (n p : ℕ) (o : Option Process) → local_in n p (option_map standing_of o) ≡ local_at n p o
 local_is n p None = refl
-local_is n p (Some l) = λ i. record { machine = l.guest; place = l.place; received = λ s. (local_at n p (Some l)).received s; sent = λ q. items_are l.sent.items q i; visible = l.visible }
+local_is n p (Some l) = λ i. record { machine = l.guest; inputs_taken = l.inputs_taken; received = λ s. (local_at n p (Some l)).received s; sent = λ q. items_are l.sent.items q i; visible = l.visible }
 
 pub world_is : (processes : List Process) (inputs : List (Vec (List ℕ) Global)) (visibles : List Visible) → world_in (played processes inputs visibles) ≡ world_at processes visibles
 world_is processes inputs visibles = λ i. record { procs = λ p. proc p i; visibles = visibles }

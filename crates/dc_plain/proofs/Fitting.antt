@@ -117,12 +117,12 @@ and_true : (b : Bool) → b ≡ (b && true)
 and_true true = refl
 and_true false = refl
 
-left_some : (place : ℕ) (records : List (List ℕ)) → nat_lt place (length records) ≡ is_some (slice_get records place)
-left_some place [] = rw (le-ltb place 0 (omega arith)) refl
+left_some : (inputs_taken : ℕ) (records : List (List ℕ)) → nat_lt inputs_taken (length records) ≡ is_some (slice_get records inputs_taken)
+left_some inputs_taken [] = rw (le-ltb inputs_taken 0 (omega arith)) refl
 left_some zero (x ∷ records) = rw (lt-ltb 0 (length (x ∷ records)) (omega arith)) refl
-left_some (suc place) (x ∷ records) = same ∙ left_some place records
+left_some (suc inputs_taken) (x ∷ records) = same ∙ left_some inputs_taken records
   where
-    same : nat_lt (suc place) (length (x ∷ records)) ≡ nat_lt place (length records)
+    same : nat_lt (suc inputs_taken) (length (x ∷ records)) ≡ nat_lt inputs_taken (length records)
     same = grind (arith, nat_tests)
 
 -- the record that an answer hands over is the next one
@@ -133,16 +133,16 @@ module _ (images : List Image) (inputs : List (List (List ℕ))) where
   abbrev G : Guests Guest
   G = guests_of images inputs
 
-  fits_by : (p : ℕ) (l : Local Guest) (a : Answer) → Hands a (slice_get (G.inputs p) l.place)
-      → fits G p l a ≡ (can_be l.machine a && ends_well a (slice_get (G.inputs p) l.place))
+  fits_by : (p : ℕ) (l : Local Guest) (a : Answer) → Hands a (slice_get (G.inputs p) l.inputs_taken)
+      → fits G p l a ≡ (can_be l.machine a && ends_well a (slice_get (G.inputs p) l.inputs_taken))
   fits_by p l answer.Plain hands = tested l.machine answer.Plain ∙ and_true (can_be l.machine answer.Plain)
   fits_by p l (answer.Clock v) hands = tested l.machine (answer.Clock v) ∙ and_true (can_be l.machine (answer.Clock v))
   fits_by p l (answer.Random v) hands = tested l.machine (answer.Random v) ∙ and_true (can_be l.machine (answer.Random v))
   fits_by p l answer.InputNone hands = tested l.machine answer.InputNone ∙ and_true (can_be l.machine answer.InputNone)
   fits_by p l (answer.InputNext bytes) hands = ap (λ o. is_input (coming l.machine) && is_next_input bytes o) (hands bytes refl)
       ∙ ap (λ b. is_input (coming l.machine) && b) ((bytes_eq-Decides bytes bytes).1 refl) ∙ ap (λ b. b && true) (tested l.machine (answer.InputNext bytes))
-  fits_by p l answer.InputEnd hands = ap (λ b. is_input (coming l.machine) && not b) (left_some l.place (G.inputs p))
-      ∙ ap (λ b. b && not (is_some (slice_get (G.inputs p) l.place))) (tested l.machine answer.InputEnd)
+  fits_by p l answer.InputEnd hands = ap (λ b. is_input (coming l.machine) && not b) (left_some l.inputs_taken (G.inputs p))
+      ∙ ap (λ b. b && not (is_some (slice_get (G.inputs p) l.inputs_taken))) (tested l.machine answer.InputEnd)
   fits_by p l answer.ReceiveNone hands = tested l.machine answer.ReceiveNone ∙ and_true (can_be l.machine answer.ReceiveNone)
   fits_by p l (answer.ReceiveFrom s message) hands = tested l.machine (answer.ReceiveFrom s message) ∙ and_true (can_be l.machine (answer.ReceiveFrom s message))
 
@@ -150,24 +150,24 @@ module _ (images : List Image) (inputs : List (List (List ℕ))) where
   next_is None a is = cc
   next_is (Some bytes) a is = λ taken same. let one : bytes ≡ taken = cc in ap (λ (xs : List ℕ). Some xs) one
 
-  answer_hands : (w : World Guest) (p : ℕ) (b : Act) (a : Answer) → answer_for G w p b ≡ Some a → Hands a (slice_get (G.inputs p) (w.procs p).place)
+  answer_hands : (w : World Guest) (p : ℕ) (b : Act) (a : Answer) → answer_for G w p b ≡ Some a → Hands a (slice_get (G.inputs p) (w.procs p).inputs_taken)
   answer_hands w p act.Plain a is = λ bytes same. absurd cc
   answer_hands w p (act.Clock v) a is = λ bytes same. absurd cc
   answer_hands w p (act.Random v) a is = λ bytes same. absurd cc
   answer_hands w p act.InputNone a is = λ bytes same. absurd cc
-  answer_hands w p act.InputNext a is = next_is (slice_get (G.inputs p) (w.procs p).place) a is
+  answer_hands w p act.InputNext a is = next_is (slice_get (G.inputs p) (w.procs p).inputs_taken) a is
   answer_hands w p act.InputEnd a is = λ bytes same. absurd cc
   answer_hands w p act.ReceiveNone a is = λ bytes same. absurd cc
   answer_hands w p (act.ReceiveFrom s) a is = from (s == p) (slice_get ((w.procs s).sent p) ((w.procs p).received s)) is
     where
-      from : (b : Bool) (o : Option (List ℕ)) → (if b then None else option_map (answer.ReceiveFrom s) o) ≡ Some a → Hands a (slice_get (G.inputs p) (w.procs p).place)
+      from : (b : Bool) (o : Option (List ℕ)) → (if b then None else option_map (answer.ReceiveFrom s) o) ≡ Some a → Hands a (slice_get (G.inputs p) (w.procs p).inputs_taken)
       from true o sent = cc
       from false None sent = cc
       from false (Some message) sent = λ bytes same. absurd cc
 
   -- the answer of an act, where it fits
   pub fits_answer : (w : World Guest) (p : ℕ) (b : Act) (a : Answer) (fit : Bool) → answer_for G w p b ≡ Some a
-      → fit ≡ (can_be (w.procs p).machine a && ends_well a (slice_get (G.inputs p) (w.procs p).place)) → answer_to G w p b ≡ (if fit then Some a else None)
+      → fit ≡ (can_be (w.procs p).machine a && ends_well a (slice_get (G.inputs p) (w.procs p).inputs_taken)) → answer_to G w p b ≡ (if fit then Some a else None)
   fits_answer w p b a fit is tests = rw is (ap (λ (c : Bool). if c then Some a else None) (fits_by p (w.procs p) a (answer_hands w p b a is) ∙ sym tests))
 
 -- the records of a process are the items of its vector
@@ -190,11 +190,11 @@ module _ (images : List Image) (inputs : List (Vec (List ℕ) Global)) (processe
   no_answer is = rw is refl
 
   pub answer_fits : (a : Answer) (process : Process) (next : Option (List ℕ)) (fit : Bool) → answer_for G' w' p b ≡ Some a → slice_get processes p ≡ Some process
-      → next ≡ slice_get (items_of (slice_get inputs p)) process.place → fit ≡ (can_be process.guest a && ends_well a next)
+      → next ≡ slice_get (items_of (slice_get inputs p)) process.inputs_taken → fit ≡ (can_be process.guest a && ends_well a next)
       → (if fit then Some a else None) ≡ answer_to G' w' p b
   answer_fits a process next fit is there next_is tests = sym (fits_answer images (lists_of inputs) w' p b a fit is
-      (tests ∙ ap (λ o. can_be process.guest a && ends_well a o) (next_is ∙ ap (λ xs. slice_get xs process.place) (sym (items_are inputs p)))
-      ∙ ap (λ (l : Local Guest). can_be l.machine a && ends_well a (slice_get (G'.inputs p) l.place)) (sym here)))
+      (tests ∙ ap (λ o. can_be process.guest a && ends_well a o) (next_is ∙ ap (λ xs. slice_get xs process.inputs_taken) (sym (items_are inputs p)))
+      ∙ ap (λ (l : Local Guest). can_be l.machine a && ends_well a (slice_get (G'.inputs p) l.inputs_taken)) (sym here)))
     where
       here : procs_of processes p ≡ local_of process
       here = ap (local_at (length processes) p) there

@@ -1,4 +1,4 @@
--- The item at a place of a list that grew or changed.
+-- The item at an index of a list that grew or changed.
 use Rattle.std.proofs.Common.{◌≡◌, ◌≢◌, ◌<◌, ℕ, zero, suc, List, [], ◌∷◌, ◌++◌, Some, length, slice_get, slice_set, ap, arith, refl}
 
 -- a list after one item was set

@@ -66,22 +66,22 @@ module _ (sent : List (Vec (List ℕ) Global)) (to : ℕ) (old new : Vec (List �
       (λ (ne : to ≢ q). rw (get_set_other sent to q new ne, ne_eqb to q ne) (sym (append-nil (items_of (slice_get sent q)))))
       (cases_eq to q)
 
--- a process whose guest, place and counts moved has moved, by what is visibles of the event
-module _ (images : List Image) (inputs : List (List (List ℕ))) (l : Local Guest) (a : Answer) (guest : Guest) (place : ℕ) (received : ℕ → ℕ)
-    (guest_is : guest ≡ after_answer l.machine a) (place_is : place ≡ l.place + took_input a) (got_is : (s : ℕ) → received s ≡ l.received s + took_from a s) where
+-- a process whose guest and counts moved has moved, by what is visibles of the event
+module _ (images : List Image) (inputs : List (List (List ℕ))) (l : Local Guest) (a : Answer) (guest : Guest) (inputs_taken : ℕ) (received : ℕ → ℕ)
+    (guest_is : guest ≡ after_answer l.machine a) (inputs_taken_is : inputs_taken ≡ l.inputs_taken + took_input a) (got_is : (s : ℕ) → received s ≡ l.received s + took_from a s) where
   has_moved : (sent : ℕ → List (List ℕ)) (visible : ℕ) → ((q : ℕ) → sent q ≡ l.sent q ++ posted (coming l.machine) q) → visible ≡ l.visible + shows (coming l.machine)
-      → record { machine = guest; place = place; received = received; sent = sent; visible = visible } ≡ moved (guests_of images inputs) l a
-  has_moved sent visible sent_is visible_is = λ i. record { machine = guest_is i; place = place_is i; received = λ s. got_is s i; sent = λ q. sent_is q i; visible = visible_is i }
+      → record { machine = guest; inputs_taken = inputs_taken; received = received; sent = sent; visible = visible } ≡ moved (guests_of images inputs) l a
+  has_moved sent visible sent_is visible_is = λ i. record { machine = guest_is i; inputs_taken = inputs_taken_is i; received = λ s. got_is s i; sent = λ q. sent_is q i; visible = visible_is i }
 
-  pub moved_unseen : Nothing ≡ effect_of (coming l.machine) → record { machine = guest; place = place; received = received; sent = l.sent; visible = l.visible } ≡ moved (guests_of images inputs) l a
+  pub moved_unseen : Nothing ≡ effect_of (coming l.machine) → record { machine = guest; inputs_taken = inputs_taken; received = received; sent = l.sent; visible = l.visible } ≡ moved (guests_of images inputs) l a
   moved_unseen is = let facts = unseen (coming l.machine) (sym is) in has_moved l.sent l.visible
       (λ q. sym (append-nil (l.sent q)) ∙ ap (λ more. l.sent q ++ more) (sym (facts.1 q))) (rw facts.0 (omega arith))
 
-  pub moved_showing : (body : Body) → Shows body ≡ effect_of (coming l.machine) → record { machine = guest; place = place; received = received; sent = l.sent; visible = l.visible + 1 } ≡ moved (guests_of images inputs) l a
+  pub moved_showing : (body : Body) → Shows body ≡ effect_of (coming l.machine) → record { machine = guest; inputs_taken = inputs_taken; received = received; sent = l.sent; visible = l.visible + 1 } ≡ moved (guests_of images inputs) l a
   moved_showing body is = let facts = showing (coming l.machine) body (sym is) in has_moved l.sent (l.visible + 1)
       (λ q. sym (append-nil (l.sent q)) ∙ ap (λ more. l.sent q ++ more) (sym (facts.1 q))) (rw facts.0 refl)
 
   pub moved_sending : (to : ℕ) (message : List ℕ) (sent : ℕ → List (List ℕ)) → Sends to message ≡ effect_of (coming l.machine)
-      → ((q : ℕ) → sent q ≡ l.sent q ++ posted (AtSend to message) q) → record { machine = guest; place = place; received = received; sent = sent; visible = l.visible } ≡ moved (guests_of images inputs) l a
+      → ((q : ℕ) → sent q ≡ l.sent q ++ posted (AtSend to message) q) → record { machine = guest; inputs_taken = inputs_taken; received = received; sent = sent; visible = l.visible } ≡ moved (guests_of images inputs) l a
   moved_sending to message sent is more = let at = sending (coming l.machine) to message (sym is) in has_moved sent l.visible
       (λ q. more q ∙ ap (λ e. l.sent q ++ posted e q) (sym at)) (rw at (omega arith))

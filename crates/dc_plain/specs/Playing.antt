@@ -20,7 +20,7 @@ use Rattle.dc_model.specs.declared.visible.Visible.{Visible}
 abbrev pub local_of : Process → Local Guest
 local_of l = record {
   machine = l.guest;
-  place = l.place;
+  inputs_taken = l.inputs_taken;
   received = λ s. slice_index l.received.items s;
   sent = λ q. items_of (slice_get l.sent.items q);
   visible = l.visible;
@@ -28,7 +28,7 @@ local_of l = record {
 
 -- process p of n before its first act, by its image
 abbrev pub started_at : ℕ → ℕ → Option Image → Local Guest
-started_at p n image = record { machine = started p n image; place = 0; received = λ s. 0; sent = λ q. []; visible = 0 }
+started_at p n image = record { machine = started p n image; inputs_taken = 0; received = λ s. 0; sent = λ q. []; visible = 0 }
 
 -- the same, by an image that is there
 abbrev pub begun_at : ℕ → ℕ → Image → Local Guest
@@ -72,12 +72,12 @@ CanCount received _ = Unit {0}
 
 -- an input can be counted
 abbrev pub CanTake : ℕ → Answer → Type 0
-CanTake place (InputNext bytes) = place + 1 < 2 ^ 64
-CanTake place _ = Unit {0}
+CanTake inputs_taken (InputNext bytes) = inputs_taken + 1 < 2 ^ 64
+CanTake inputs_taken _ = Unit {0}
 
 -- an input or a message that it hands over can be counted
 abbrev pub IsWithin : Process → Answer → Type 0
-IsWithin l a = CanTake l.place a × CanCount l.received.items a
+IsWithin l a = CanTake l.inputs_taken a × CanCount l.received.items a
 
 -- there is room for a message that is sent next
 abbrev pub RoomAt : Process → Event → Type 0
@@ -97,17 +97,17 @@ body_of _ = None
 abbrev pub world_at : List Process → List Visible → World Guest
 world_at processes visibles = record { procs = procs_of processes; visibles = visibles }
 
--- what a process has come to, as lists: its guest, its place in its inputs, how many messages it received from each, all that it sent to each, and how many visible events it had
+-- what a process has come to, as lists: its guest, how many inputs it took, how many messages it received from each, all that it sent to each, and how many visible events it had
 pub record Standing : Type 0 where
   pub guest : Guest
-  pub place : ℕ
+  pub inputs_taken : ℕ
   pub received : List ℕ
   pub sent : List (List (List ℕ))
   pub visible : ℕ
 
 -- what a process of the code has come to
 abbrev pub standing_of : Process → Standing
-standing_of l = record { guest = l.guest; place = l.place; received = l.received.items; sent = lists_of l.sent.items; visible = l.visible }
+standing_of l = record { guest = l.guest; inputs_taken = l.inputs_taken; received = l.received.items; sent = lists_of l.sent.items; visible = l.visible }
 
 -- guests that are played: what each has come to, their inputs, and the visible records
 pub record Played : Type 0 where
@@ -122,7 +122,7 @@ played processes inputs visibles = record { processes = map standing_of processe
 -- the world that they have come to
 abbrev pub local_in : ℕ → ℕ → Option Standing → Local Guest
 local_in n p None = started_at p n None
-local_in n p (Some s) = record { machine = s.guest; place = s.place; received = λ q. slice_index s.received q; sent = λ q. unwrap_or (slice_get s.sent q) []; visible = s.visible }
+local_in n p (Some s) = record { machine = s.guest; inputs_taken = s.inputs_taken; received = λ q. slice_index s.received q; sent = λ q. unwrap_or (slice_get s.sent q) []; visible = s.visible }
 
 -- the world that they have come to
 abbrev pub world_in : Played → World Guest

@@ -29,11 +29,11 @@ pub enum ApplyFault {
 }
 
 /// The input that a process takes next, if there is one.
-fn next_input(inputs: &[Vec<Message>], p: usize, place: usize) -> Option<Message>
-    ensures exact { result ≡ slice_get (items_of (slice_get inputs.now p)) place }
-    ensures few { IfSome result (λ message. place + 1 < 2 ^ 64) }
+fn next_input(inputs: &[Vec<Message>], p: usize, inputs_taken: usize) -> Option<Message>
+    ensures exact { result ≡ slice_get (items_of (slice_get inputs.now p)) inputs_taken }
+    ensures few { IfSome result (λ message. inputs_taken + 1 < 2 ^ 64) }
 {
-    inputs.get(p)?.get(place).copied()
+    inputs.get(p)?.get(inputs_taken).copied()
 }
 
 /// The message of another process that a process receives next, if there is one.
@@ -63,7 +63,7 @@ fn answer_for(processes: &[Process], inputs: &[Vec<Message>], p: u32, act: &Act)
         Act::Random(word) => Some(Answer::Random(word)),
         Act::InputNone => Some(Answer::InputNone),
         Act::InputNext => {
-            let message = next_input(inputs, own, processes[own].place)?;
+            let message = next_input(inputs, own, processes[own].inputs_taken)?;
             Some(Answer::InputNext(message))
         }
         Act::InputEnd => Some(Answer::InputEnd),
@@ -104,7 +104,7 @@ fn fitting(processes: &[Process], inputs: &[Vec<Message>], p: u32, act: &Act) ->
 {
     let answer = answer_for(processes, inputs, p, act)?;
     let process = &processes[p as usize];
-    let next = next_input(inputs, p as usize, process.place);
+    let next = next_input(inputs, p as usize, process.inputs_taken);
     if fits(process, next, &answer) {
         Some(answer)
     } else {

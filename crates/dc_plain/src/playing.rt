@@ -21,12 +21,12 @@ use dc_words::to_words;
 use std::alloc::{AllocError, Global};
 
 /// Counts an input that was taken.
-fn count_taken(place: &mut usize, answer: &Answer)
-    requires { CanTake place.old (answer_of answer.now) }
-    ensures { place.new ≡ place.old + took_input (answer_of answer.now) }
+fn count_taken(inputs_taken: &mut usize, answer: &Answer)
+    requires { CanTake inputs_taken.old (answer_of answer.now) }
+    ensures { inputs_taken.new ≡ inputs_taken.old + took_input (answer_of answer.now) }
 {
     if let Answer::InputNext(_) = *answer {
-        *place += 1;
+        *inputs_taken += 1;
     }
 }
 
@@ -63,7 +63,7 @@ impl Process {
         let words = to_words(alloc, &image.memory)?;
         Ok(Process {
             guest: HostedGuest::new(p, count, words, image.entry),
-            place: 0,
+            inputs_taken: 0,
             received: vec![in alloc; 0; count as usize]?,
             sent: empty_lists(alloc, count)?,
             visible: 0,
@@ -104,7 +104,7 @@ impl Process {
         ensures count { self.new.guest.count ≡ self.old.guest.count }
     {
         let effect = self.guest.turn(answer);
-        count_taken(&mut self.place, answer);
+        count_taken(&mut self.inputs_taken, answer);
         count_received(&mut self.received, answer);
         match effect {
             Effect::Nothing => None,

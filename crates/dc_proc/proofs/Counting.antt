@@ -10,7 +10,7 @@ use Rattle.dc_links.specs.Links.{Link, link_to, trimmed, unused, with_sent}
 use Rattle.dc_model.specs.Guests.{Answer}
 use Rattle.dc_model.specs.Guests.Answer.{InputNext, ReceiveFrom}
 use Rattle.dc_model.specs.Process.{took_from, took_input}
-use Rattle.dc_proc.proofs.Happening.{answer_place, answer_received, answer_rest, effect_rest}
+use Rattle.dc_proc.proofs.Happening.{answer_taken, answer_received, answer_rest, effect_rest}
 use Rattle.dc_proc.proofs.Taken.{bare}
 use Rattle.dc_proc.specs.Events.{HasCountsFor, kernel_after, sent_links, with_answer, with_effect}
 use Rattle.dc_proc.specs.Processes.{Held, committed_held}
@@ -67,7 +67,7 @@ pub counts_after : (turns : ℕ) (others : List ℕ) (n : Next) (a : Answer) (e 
 counts_after turns others n a e k0 k k2 same0 same2 number received_long links_long has = record {
   position = let p2 = ap (λ (z : Kernel). z.position) same2 in let p0 = ap (λ (z : Kernel). z.position) same0 in let h = has.position in omega (arith, p2, p0, h, (effect_rest others e (with_answer a k)).0, (answer_rest a k).0);
   visible = let p2 = ap (λ (z : Kernel). z.visible) same2 in let p0 = ap (λ (z : Kernel). z.visible) same0 in let h = has.visible in omega (arith, p2, p0, h, shown_once others e (with_answer a k), (answer_rest a k).1);
-  place = let p2 = ap (λ (z : Kernel). z.place) same2 in let p0 = ap (λ (z : Kernel). z.place) same0 in let h = has.place in omega (arith, p2, p0, h, (effect_rest others e (with_answer a k)).1, answer_place a k, input_once a);
+  inputs_taken = let p2 = ap (λ (z : Kernel). z.inputs_taken) same2 in let p0 = ap (λ (z : Kernel). z.inputs_taken) same0 in let h = has.inputs_taken in omega (arith, p2, p0, h, (effect_rest others e (with_answer a k)).1, answer_taken a k, input_once a);
   received = λ s less. let p2 = ap (λ (z : Kernel). slice_index z.received s) same2 in let p0 = ap (λ (z : Kernel). slice_index z.received s) same0 in let h = has.received s (inside s less) in
       let e2 = ap (λ (l : List ℕ). slice_index l s) (effect_rest others e (with_answer a k)).2 in
       let e1 = answer_received a k s (subst (λ m. s < m) (sym (ap (λ (z : Kernel). length z.received) same0 ∙ received_long)) (inside s less)) in omega (arith, p2, p0, h, e2, e1, received_once a s);

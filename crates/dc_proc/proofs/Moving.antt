@@ -1,4 +1,4 @@
--- An event leaves a process at the next position of its place in the theory.
+-- An event leaves a process at the next position in the theory.
 use Rattle.std.proofs.Common.{◌≡◌, ◌∙◌, ◌<◌, ◌+◌, ◌||◌, ℕ, suc, List, ◌++◌, map, Bool, true, false, Option, None, Some, IfSome, refl, sym, ap, subst, length, arith, drop, slice_index, if◌then◌else◌}
 use Rattle.std.proofs.lemmas.Bool.{true≢false}
 use Rattle.dc_checkpoint.specs.States.{Reading}
@@ -16,7 +16,7 @@ use Rattle.dc_media.specs.Told.{Becomes}
 use Rattle.dc_model.specs.Guests.{Answer, Event, Guests}
 use Rattle.dc_model.specs.Guests.Answer.{InputNext, ReceiveFrom}
 use Rattle.dc_model.specs.Process.{Local, at_position, comes, local, moved, posted, shows, took_from, took_input}
-use Rattle.dc_proc.proofs.Happening.{answer_place, answer_received, answer_rest, effect_rest, event_links, event_visible, map_drop, status_is, there_within}
+use Rattle.dc_proc.proofs.Happening.{answer_taken, answer_received, answer_rest, effect_rest, event_links, event_visible, map_drop, status_is, there_within}
 use Rattle.dc_proc.proofs.Ruling.{event_is, guest_is}
 use Rattle.dc_proc.specs.Carried.{system}
 use Rattle.dc_proc.specs.Events.{kernel_after, status_after, with_answer, with_effect}
@@ -26,7 +26,7 @@ use Rattle.dc_proc.specs.declared.up.Up.{Up}
 use Rattle.dc_protocols.specs.declared.protocol.Protocol.{Protocol}
 use Rattle.dc_recovery.proofs.Spans.{oldest_next}
 use Rattle.dc_recovery.specs.Core.{Status}
-use Rattle.dc_recovery.specs.Parts.{passed, sets_own}
+use Rattle.dc_recovery.specs.Parts.{passed, sets_unlogged}
 use Rattle.dc_recovery.specs.Saves.{answer_at}
 use Rattle.dc_recovery.specs.Systems.{System}
 use Rattle.dc_rv32.specs.Machine.{machine_of}
@@ -51,7 +51,7 @@ running (Trapped cause) e = absurd (true≢false e)
 module _ (images : List Image) (inputs : List (List (List ℕ))) (pr : Protocol) (p : ℕ) (answers : List Answer) (st : Status) (a : Answer) (there : answer_at st.position answers ≡ Some a)
     (u u2 : Up) (whole : IsWhole u) (whole2 : IsWhole u2) (runs : u.guest.ended ≡ false) (n : Next) (e : Effect) (replay log : Bool)
     (kernel_is : u2.kernel ≡ kernel_after u.others.items n a e u.kernel) (unread_is : (held u2).unread ≡ (if replay then drop 1 (held u).unread else (held u).unread))
-    (own_is : u2.own ≡ (u.own || sets_own log replay a)) (left_same : u2.log_left ≡ u.log_left) (based_same : u2.based.items ≡ u.based.items) (others_same : u2.others.items ≡ u.others.items) where
+    (unlogged_is : u2.unlogged ≡ (u.unlogged || sets_unlogged log replay a)) (left_same : u2.log_left ≡ u.log_left) (based_same : u2.based.items ≡ u.based.items) (others_same : u2.others.items ≡ u.others.items) where
   abbrev S : System Guest
   S = system images inputs pr
 
@@ -117,7 +117,7 @@ module _ (images : List Image) (inputs : List (List (List ℕ))) (pr : Protocol)
       status = status_next;
       position = ap (λ (k : Kernel). k.position) kernel_is ∙ ap (λ i. i + 1) ((effect_rest u.others.items e k1).0 ∙ (answer_rest a u.kernel).0 ∙ is.kernel_is.position) ∙ omega arith;
       visible = ap (λ (k : Kernel). k.visible) kernel_is ∙ ap (λ f. (with_effect u.others.items f k1).visible) effect_is ∙ event_visible u.others.items came k1 ∙ ap (λ i. i + shows came) ((answer_rest a u.kernel).1 ∙ is.kernel_is.visible);
-      place = ap (λ (k : Kernel). k.place) kernel_is ∙ (effect_rest u.others.items e k1).1 ∙ answer_place a u.kernel ∙ ap (λ i. i + took_input a) is.kernel_is.place;
+      inputs_taken = ap (λ (k : Kernel). k.inputs_taken) kernel_is ∙ (effect_rest u.others.items e k1).1 ∙ answer_taken a u.kernel ∙ ap (λ i. i + took_input a) is.kernel_is.inputs_taken;
       received = λ s less. ap (λ (k : Kernel). slice_index k.received s) kernel_is ∙ ap (λ xs. slice_index xs s) (effect_rest u.others.items e k1).2
           ∙ answer_received a u.kernel s (subst (λ m. s < m) (sym (whole.received_long ∙ is.kernel_is.n_is)) less) ∙ ap (λ i. i + took_from a s) (is.kernel_is.received s less);
       links = λ q less. (links_next q less).0;
@@ -127,20 +127,20 @@ module _ (images : List Image) (inputs : List (List (List ℕ))) (pr : Protocol)
     unread_next true = map_drop logged_of (held u).unread ∙ ap (drop 1) is.unread_is
     unread_next false = is.unread_is
 
-    pub at_next : IsAt S p answers (passed replay (sets_own log replay a) st) after (held u2)
+    pub at_next : IsAt S p answers (passed replay (sets_unlogged log replay a) st) after (held u2)
     at_next = record {
       kernel_is = subst (λ (z : Local Guest). IsKernelAt G.count p (suc st.position) z after (held u2).kernel) (sym moved_is) kernel_next;
       kept = λ q less. (links_next q less).1 ∙ ap (λ xs. drop (slice_index xs q) (l.sent q ++ posted came q)) (sym others_same)
           ∙ ap (λ (z : Local Guest). drop (slice_index u2.others.items q) (z.sent q)) (sym moved_is);
       unread_is = ap (map logged_of) unread_is ∙ unread_next replay;
-      own_is = own_is ∙ ap (λ b. b || sets_own log replay a) is.own_is;
+      unlogged_is = unlogged_is ∙ ap (λ b. b || sets_unlogged log replay a) is.unlogged_is;
       left_is = left_same ∙ is.left_is;
       based_is = λ s less. ap (λ xs. slice_index xs s) based_same ∙ is.based_is s less;
       number_is = ap (λ (k : Kernel). k.commit) kernel_is ∙ effect_commit u.others.items e k1 ∙ answer_commit a u.kernel ∙ is.number_is;
     }
 
   process_next : (old new : Option (List ℕ)) → IsProcess S p answers st old (held u) → IfSome old (λ w. n ≡ next_of (over u.guest w)) → IfSome old (λ w. e ≡ effect_of (event_of n (machine_over u.guest w)))
-      → Becomes old new (λ b w. over u2.guest w ≡ after_next n a (over u.guest b)) → IsProcess S p answers (passed replay (sets_own log replay a) st) new (held u2)
+      → Becomes old new (λ b w. over u2.guest w ≡ after_next n a (over u.guest b)) → IsProcess S p answers (passed replay (sets_unlogged log replay a) st) new (held u2)
   process_next old None is n_is e_is taken = tt
   process_next None (Some w) is n_is e_is taken = absurd taken
   process_next (Some b) (Some w) is n_is e_is taken = at_next b w is n_is e_is taken
@@ -148,9 +148,9 @@ module _ (images : List Image) (inputs : List (List (List ℕ))) (pr : Protocol)
   -- the whole of it
   pub over_next : (old new : Option (List ℕ)) (before leaves : Reading → Type 0) → IsOver S p answers st old (held u) before → IfSome old (λ w. n ≡ next_of (over u.guest w))
       → IfSome old (λ w. e ≡ effect_of (event_of n (machine_over u.guest w))) → Becomes old new (λ b w. over u2.guest w ≡ after_next n a (over u.guest b)) → ((r : Reading) → leaves r → before r)
-      → IsOver S p answers (passed replay (sets_own log replay a) st) new (held u2) leaves
+      → IsOver S p answers (passed replay (sets_unlogged log replay a) st) new (held u2) leaves
   over_next old new before leaves over n_is e_is taken less = record {
     going = record { up = over.going.up; one = over.going.one; from = let f = over.going.from in omega (arith, f); within = let w = there_within st.position answers a there in omega (arith, w) };
     process = process_next old new over.process n_is e_is taken;
-    stands = subst (λ xs. Stands G p answers (slice_index xs) (passed replay (sets_own log replay a) st) leaves) (sym others_same) (λ r l. over.stands r (less r l));
+    stands = subst (λ xs. Stands G p answers (slice_index xs) (passed replay (sets_unlogged log replay a) st) leaves) (sym others_same) (λ r l. over.stands r (less r l));
   }

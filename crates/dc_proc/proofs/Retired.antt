@@ -26,7 +26,7 @@ use Rattle.dc_protocols.specs.declared.protocol.Rule.{Rule}
 use Rattle.dc_recovery.specs.Alone.{answers_alone, event_alone, status_alone, without_commits}
 use Rattle.dc_recovery.specs.Answers.{replays, since}
 use Rattle.dc_recovery.specs.Core.{Status}
-use Rattle.dc_recovery.specs.Parts.{Place, left_of, may_store, passed, sets_own}
+use Rattle.dc_recovery.specs.Parts.{Place, left_of, may_store, passed, sets_unlogged}
 use Rattle.dc_recovery.specs.Parts.Place.{Nowhere, InEvent}
 use Rattle.dc_recovery.specs.Systems.{System, kind_at}
 use Rattle.dc_rv32.specs.Machine.{stores}
@@ -92,7 +92,7 @@ module _ (images : List Image) (inputs : List (List (List ℕ))) (pr : Protocol)
     })
 
     -- it was not
-    pub retired : (memory : Option (List ℕ)) (u2 : Up) (leaves : Reading → Type 0) → IsOver S p more (passed false (sets_own false false Plain) st) memory (held u2) leaves
+    pub retired : (memory : Option (List ℕ)) (u2 : Up) (leaves : Reading → Type 0) → IsOver S p more (passed false (sets_unlogged false false Plain) st) memory (held u2) leaves
         → IsOver S p (answers_alone answers st a Nowhere) (status_alone S p answers st a Nowhere) memory (held u2) leaves
     retired memory u2 leaves over = subst (λ b. IsOver S p (answers_alone answers st b Nowhere) (status_alone S p answers st b Nowhere) memory (held u2) leaves) (sym plain)
-        (over_as S p more memory (held u2) leaves (passed false (sets_own false false Plain) st) (status_alone S p answers st Plain Nowhere) (sym (status_retired Nowhere)) over)
+        (over_as S p more memory (held u2) leaves (passed false (sets_unlogged false false Plain) st) (status_alone S p answers st Plain Nowhere) (sym (status_retired Nowhere)) over)

@@ -48,7 +48,7 @@ mapped (y ∷ l) = ap suc (mapped l)
 
 module _ (S : System Guest) (room : S.log_room ≡ 64) (p : ℕ) (answers : List Answer) (others : ℕ → ℕ) (st : Status) (memory : Option (List ℕ)) (saved : Saved) (h : Held) (leaves : Reading → Type 0) (m q : ℕ)
     (given_kernel : IsKernel m q saved.kernel) (gives : (r : Reading) → leaves r → Gives memory saved r)
-    (kernel_is : h.kernel ≡ saved.kernel) (unread_is : h.unread ≡ saved.log.items) (own_is : h.own ≡ false) (left_is : h.log_left + length saved.log.items ≡ 64)
+    (kernel_is : h.kernel ≡ saved.kernel) (unread_is : h.unread ≡ saved.log.items) (unlogged_is : h.unlogged ≡ false) (left_is : h.log_left + length saved.log.items ≡ 64)
     (based_is : (s : ℕ) → s < saved.kernel.n → slice_index h.based s ≡ slice_index saved.kernel.received s)
     (others_are : (r : ℕ) → r < saved.kernel.n → slice_index h.others r ≡ number_of_first (link_to saved.kernel.links r)) where
   abbrev G : Guests Guest
@@ -92,7 +92,7 @@ module _ (S : System Guest) (room : S.log_room ≡ 64) (p : ℕ) (answers : List
       kernel_is = subst (λ z. IsKernelAt G.count p s.position (at_position G p s.position kept) x.words z) (sym kernel_is) kernel_at;
       kept = λ r less. ap (λ (z : Kernel). (link_to z.links r).kept) kernel_is ∙ (kernel_at.links r less).kept ∙ ap (λ n. drop n ((at_position G p s.position kept).sent r)) (sym (first_at r less));
       unread_is = ap (map logged_of) (unread_is ∙ sym log_same) ∙ is.log_is;
-      own_is = own_is;
+      unlogged_is = unlogged_is;
       left_is = let e = ap (λ l. length l) log_same in let f = ap (λ l. length l) is.log_is in let l = mapped x.log in omega (arith, left_is, e, f, l, room);
       based_is = λ r less. based_is r (subst (λ n. r < n) (sym count_is) less) ∙ kernel_at.received r less;
       number_is = ap (λ (z : Kernel). z.commit) kernel_is ∙ number_kept;
@@ -144,16 +144,16 @@ module _ (S : System Guest) (room : S.log_room ≡ 64) (p : ℕ) (answers : List
 
 -- at what was read for it, whoever read it, where that is a save
 pub risen_at : (S : System Guest) (p : ℕ) (answers : List Answer) (others : ℕ → ℕ) (s : Save) (memory : Option (List ℕ)) (saved : Saved) (h : Held) (m q : ℕ) → S.log_room ≡ 64
-    → IsKernel m q saved.kernel → h.kernel ≡ saved.kernel → h.unread ≡ saved.log.items → h.own ≡ false → h.log_left + length saved.log.items ≡ 64
+    → IsKernel m q saved.kernel → h.kernel ≡ saved.kernel → h.unread ≡ saved.log.items → h.unlogged ≡ false → h.log_left + length saved.log.items ≡ 64
     → ((r : ℕ) → r < saved.kernel.n → slice_index h.based r ≡ slice_index saved.kernel.received r)
     → ((r : ℕ) → r < saved.kernel.n → slice_index h.others r ≡ number_of_first (link_to saved.kernel.links r))
     → (r : Reading) → Gives memory saved r → IsSavedAs S.guests p answers others s r → reach S p answers s ≤ length answers
     → IsProcess S p (oldest (reach S p answers s) answers) (risen s) memory h × ((z : ℕ) → z < S.guests.count → slice_index h.others z ≤ others z)
 unfolding risen_by
-risen_at S p answers others s memory saved h m q room ok kernel_is unread_is own_is left_is based_is others_are (Err e) gives is within = absurd gives
-risen_at S p answers others s memory saved h m q room ok kernel_is unread_is own_is left_is based_is others_are (Ok state) gives is within =
+risen_at S p answers others s memory saved h m q room ok kernel_is unread_is unlogged_is left_is based_is others_are (Err e) gives is within = absurd gives
+risen_at S p answers others s memory saved h m q room ok kernel_is unread_is unlogged_is left_is based_is others_are (Ok state) gives is within =
     let only : (r : Reading) → r ≡ Ok state → Gives memory saved r = λ r e. subst (Gives memory saved) (sym e) gives in
-    let back = risen_by S room p answers others (risen s) memory saved h (λ r. r ≡ Ok state) m q ok only kernel_is unread_is own_is left_is based_is others_are Older is.0 state within is.2 is.1 gives in
+    let back = risen_by S room p answers others (risen s) memory saved h (λ r. r ≡ Ok state) m q ok only kernel_is unread_is unlogged_is left_is based_is others_are Older is.0 state within is.2 is.1 gives in
     (back.0.over.process, back.1)
 
 -- nor of a later commit than the images that were there before

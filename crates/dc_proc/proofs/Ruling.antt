@@ -40,7 +40,7 @@ kind_is (next.Call calls.Clock) m = refl
 kind_is (next.Call calls.Random) m = refl
 kind_is (next.Call (calls.Send q from count)) m = refl
 kind_is (next.Call (calls.Receive to room)) m = refl
-kind_is (next.Call calls.Own) m = refl
+kind_is (next.Call calls.Number) m = refl
 kind_is (next.Call calls.BadArgument) m = refl
 kind_is (next.Call calls.Unknown) m = refl
 
@@ -55,7 +55,7 @@ request_is (next.Call calls.Clock) m = refl
 request_is (next.Call calls.Random) m = refl
 request_is (next.Call (calls.Send q from count)) m = refl
 request_is (next.Call (calls.Receive to room)) m = refl
-request_is (next.Call calls.Own) m = refl
+request_is (next.Call calls.Number) m = refl
 request_is (next.Call calls.BadArgument) m = refl
 request_is (next.Call calls.Unknown) m = refl
 
@@ -88,7 +88,7 @@ full_is left n is = ⊎_elim
     (λ (h : 64 ≤ n). let e : left ≡ 0 = omega (arith, is, h) in eq-eqb left 0 e ∙ sym (le-leb 64 n h))
     (cases_lt n 64)
 
--- a process at its place in the theory
+-- a process at its state in the theory
 module _ (images : List Image) (inputs : List (List (List ℕ))) (pr : Protocol) (p : ℕ) (answers : List Answer) (st : Status) (words : List ℕ) (u : Up) (whole : IsWhole u)
     (is : IsAt (system images inputs pr) p answers st words (held u)) where
   abbrev S : System Guest
@@ -117,14 +117,14 @@ module _ (images : List Image) (inputs : List (List (List ℕ))) (pr : Protocol)
 
       -- what the code finds, where it was told whether any process had an unlogged nondeterministic event
       abbrev pub found : Bool → Kind → Since
-      found any kind = record { own = u.own; any = any; full = nat_eq u.log_left 0; eighth = makes_eight u.kernel.received u.based.items a; replay = at_inputs kind && not (is_none (held u).unread) }
+      found any kind = record { unlogged = u.unlogged; any = any; full = nat_eq u.log_left 0; eighth = makes_eight u.kernel.received u.based.items a; replay = at_inputs kind && not (is_none (held u).unread) }
 
       pub replay_is : (at_inputs (kind_of (next_of (over u.guest words))) && not (is_none (held u).unread)) ≡ replays (event_alone S.guests p answers st a) st
       replay_is = ap (λ b. b && not (is_none (held u).unread)) (sym (request_is (next_of (over u.guest words)) (machine_over u.guest words)) ∙ ap is_request (sym (event_is a)))
           ∙ ap (λ b. is_request (event_alone S.guests p answers st a) && not b) (none_is (held u).unread ∙ ap is_empty_log is.unread_is)
 
       since_is : (any : Bool) → found any (kind_of (next_of (over u.guest words))) ≡ since 64 (event_alone S.guests p answers st a) st any (makes_most S p answers st a)
-      since_is any = rw (is.own_is, full_is u.log_left (length st.older.log) is.left_is, eight_is, replay_is, sym going.one) refl
+      since_is any = rw (is.unlogged_is, full_is u.log_left (length st.older.log) is.left_is, eight_is, replay_is, sym going.one) refl
 
       -- so what its protocol asks there is what the theory's asks
       pub asked_is : (any : Bool) → rule_of pr (kind_of (next_of (over u.guest words))) (found any (kind_of (next_of (over u.guest words))))

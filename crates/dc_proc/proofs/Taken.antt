@@ -56,7 +56,7 @@ ended_is (next.Call calls.Clock) status run = ap has_ended (sym run)
 ended_is (next.Call calls.Random) status run = ap has_ended (sym run)
 ended_is (next.Call (calls.Send q from count)) status run = ap has_ended (sym run)
 ended_is (next.Call (calls.Receive to room)) status run = ap has_ended (sym run)
-ended_is (next.Call calls.Own) status run = ap has_ended (sym run)
+ended_is (next.Call calls.Number) status run = ap has_ended (sym run)
 ended_is (next.Call calls.BadArgument) status run = ap has_ended (sym run)
 ended_is (next.Call calls.Unknown) status run = ap has_ended (sym run)
 
@@ -74,7 +74,7 @@ links_same others (Sends q message) k = let more = slice_set k.links q (with_sen
 
 -- a process is whole after an event
 module _ (u u2 : Up) (whole : IsWhole u) (runs : u.guest.ended ≡ false) (n : Next) (a : Answer) (e : Effect) (kernel_is : u2.kernel ≡ kernel_after u.others.items n a e u.kernel)
-    (rest : u2 ≡ record u { kernel = u2.kernel; guest = u2.guest; read = u2.read; own = u2.own }) (number_same : u2.guest.number ≡ u.guest.number) (count_same : u2.guest.count ≡ u.guest.count) (ended : u2.guest.ended ≡ ends n) where
+    (rest : u2 ≡ record u { kernel = u2.kernel; guest = u2.guest; read = u2.read; unlogged = u2.unlogged }) (number_same : u2.guest.number ≡ u.guest.number) (count_same : u2.guest.count ≡ u.guest.count) (ended : u2.guest.ended ≡ ends n) where
   abbrev k1 : Kernel
   k1 = with_answer a u.kernel
 

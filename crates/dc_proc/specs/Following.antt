@@ -52,15 +52,15 @@ module _ {C D : Type 0} (g : checkpoint.Ghosts C D) (laws : DeviceLaws g) where
     touches = record {
       same = same_then before.same after.same;
       lent = after.lent;
-      counts = let t = subst (λ z. IsCounted (showing_of g).on z b.dev c.dev r) before.same.place_same after.counts in record {
+      counts = let t = subst (λ z. IsCounted (showing_of g).on z b.dev c.dev r) before.same.index_same after.counts in record {
         stops_later = omega (arith, before.counts.calm.0, t.stops_later);
         faults_later = omega (arith, before.counts.calm.1, t.faults_later);
-        stopped = λ h. subst (λ z. Rose z (g.stops c.dev (g.place a.store))) before.counts.calm.0 (t.stopped h);
-        failed = λ h. subst (λ z. Rose z (g.faults c.dev (g.place a.store))) before.counts.calm.1 (t.failed h);
+        stopped = λ h. subst (λ z. Rose z (g.stops c.dev (g.index a.store))) before.counts.calm.0 (t.stopped h);
+        failed = λ h. subst (λ z. Rose z (g.faults c.dev (g.index a.store))) before.counts.calm.1 (t.failed h);
         calm = on_ok_weaker r (λ h. (h.0 ∙ before.counts.calm.0, h.1 ∙ before.counts.calm.1)) t.calm;
         tells = λ s f x. t.tells s f (before.counts.tells (omega (arith, s, t.stops_later)) (omega (arith, f, t.faults_later)) x);
       };
-      others = λ q ne. laws.untouched_on a.dev b.dev c.dev q (before.others q ne) (after.others q (λ e. ne (e ∙ before.same.place_same)));
+      others = λ q ne. laws.untouched_on a.dev b.dev c.dev q (before.others q ne) (after.others q (λ e. ne (e ∙ before.same.index_same)));
       continues = laws.continues_on a.dev b.dev c.dev before.continues after.continues;
     };
     floor = let f = one.floor in let k = two.floor in omega arith;

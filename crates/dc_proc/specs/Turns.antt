@@ -45,7 +45,7 @@ is_none (x ∷ unread) = false
 -- had since its last commit
 abbrev pub since_of : Up → Kind → Answer → Bool → Since
 since_of u kind a any = record {
-  own = u.own;
+  unlogged = u.unlogged;
   any = any;
   full = nat_eq u.log_left 0;
   eighth = makes_eight u.kernel.received u.based.items a;

@@ -11,7 +11,7 @@ abbrev pub held : Up → Held
 held u = record {
   kernel = record u.kernel { regs = record { x = u.guest.registers; pc = u.guest.pc } };
   unread = drop u.read u.log.items;
-  own = u.own;
+  unlogged = u.unlogged;
   log_left = u.log_left;
   based = u.based.items;
   others = u.others.items;

@@ -50,16 +50,16 @@ impl Up {
         self.kernel.encode(&mut self.text);
     }
 
-    /// Notes that a commit was acknowledged: nothing is left to read, own is clear, the log is empty.
+    /// Notes that a commit was acknowledged: nothing is left to read, the mark of an unlogged event is clear, the log is empty.
     pub fn settle(&mut self)
         requires whole { IsWhole self.old }
-        ensures held { held self.new ≡ record (held self.old) { unread = []; own = false; log_left = LOGGED_EVENTS; based = self.new.based.items } }
+        ensures held { held self.new ≡ record (held self.old) { unread = []; unlogged = false; log_left = LOGGED_EVENTS; based = self.new.based.items } }
         ensures based { IsCopied self.old.kernel self.new.based.items }
         ensures same { IsSameUp self.old self.new }
         ensures whole { IsWhole self.new }
     {
         self.read = self.log.len();
-        self.own = false;
+        self.unlogged = false;
         self.log_left = LOGGED_EVENTS;
         copy_received(&self.kernel, &mut self.based);
     }

@@ -72,7 +72,7 @@ impl Down {
         requires log { length self.saved.log.items ≤ LOGGED_EVENTS }
         ensures kernel { (held result).kernel ≡ self.saved.kernel }
         ensures log { (held result).unread ≡ self.saved.log.items }
-        ensures own { (held result).own ≡ false }
+        ensures unlogged { (held result).unlogged ≡ false }
         ensures left { (held result).log_left + length self.saved.log.items ≡ LOGGED_EVENTS }
         ensures based { IsCopied self.saved.kernel (held result).based }
         ensures others { (q : ℕ) → q < self.saved.kernel.n → slice_index (held result).others q ≡ number_of_first (link_to self.saved.kernel.links q) }
@@ -103,7 +103,7 @@ impl Down {
             guest,
             log,
             read: 0,
-            own: false,
+            unlogged: false,
             log_left,
             based,
             others,
@@ -111,7 +111,7 @@ impl Down {
         }
     }
 
-    /// Recovers: the process is exactly what its store stands for, with its log to read, and own is clear. Refused by content, that is
+    /// Recovers: the process is exactly what its store stands for, with its log to read, and the mark of an unlogged event is clear. Refused by content, that is
     /// what the store stands for; stopped, failed or refused, it is down as it was and may try again.
     pub fn recover<C: Checkpoint>(
         self,
@@ -126,7 +126,7 @@ impl Down {
         ensures ready { OnOk result (C.ready store.new dev.new) }
         ensures paired { IfOk result (λ up. IsPaired (held up) (C.form store.new) (C.number store.new) (C.logged store.new)) }
         ensures whole { IfOk result IsWhole }
-        ensures own { IfOk result (λ up. (held up).own ≡ false) }
+        ensures unlogged { IfOk result (λ up. (held up).unlogged ≡ false) }
         ensures protocol { IfOk result (λ up. (up.protocol ≡ self.protocol) × (up.size ≡ self.size)) }
         ensures down { IfErr result (λ e. IsDown e.0 × IsOf self.saved.kernel.n self.saved.kernel.p self.protocol self.size e.0) }
         ensures kept { IfErr result (λ e. based_of e.0 ≡ based_of self) }
@@ -153,7 +153,7 @@ impl Down {
         requires room { LOGGED_EVENTS ≤ vec_capacity saved.old.log }
         ensures kernel { (held result).kernel ≡ saved.old.kernel }
         ensures log { (held result).unread ≡ saved.old.log.items }
-        ensures own { (held result).own ≡ false }
+        ensures unlogged { (held result).unlogged ≡ false }
         ensures left { (held result).log_left + length saved.old.log.items ≡ LOGGED_EVENTS }
         ensures based { IsCopied saved.old.kernel (held result).based }
         ensures others { (q : ℕ) → q < saved.old.kernel.n → slice_index (held result).others q ≡ number_of_first (link_to saved.old.kernel.links q) }
@@ -161,7 +161,7 @@ impl Down {
         ensures whole { IsWhole result }
         ensures protocol { (result.protocol ≡ self.protocol) × (result.size ≡ self.size) }
         ensures room { LOGGED_EVENTS ≤ vec_capacity saved.new.log }
-        ensures place { (saved.new.kernel.n ≡ saved.old.kernel.n) × (saved.new.kernel.p ≡ saved.old.kernel.p) }
+        ensures process { (saved.new.kernel.n ≡ saved.old.kernel.n) × (saved.new.kernel.p ≡ saved.old.kernel.p) }
     {
         let mut down = self;
         mem::swap(&mut down.saved, saved);

@@ -83,7 +83,7 @@ impl Up {
         kernel: Kernel,
     ) -> Result<Up, AllocError>
         ensures kernel { IfOk result (λ up. (held up).kernel ≡ kernel) }
-        ensures fresh { IfOk result (λ up. ((held up).unread ≡ []) × ((held up).own ≡ false) × ((held up).log_left ≡ 64)) }
+        ensures fresh { IfOk result (λ up. ((held up).unread ≡ []) × ((held up).unlogged ≡ false) × ((held up).log_left ≡ 64)) }
         ensures based { IfOk result (λ up. IsCopied kernel (held up).based) }
         ensures others { IfOk result (λ up. (q : ℕ) → q < kernel.n → slice_index (held up).others q ≡ number_of_first (link_to kernel.links q)) }
         ensures whole { IfOk result IsWhole }
@@ -106,7 +106,7 @@ impl Up {
             guest,
             log,
             read: 0,
-            own: false,
+            unlogged: false,
             log_left: LOGGED_EVENTS,
             based,
             others,
@@ -129,10 +129,10 @@ impl Up {
     }
 
     /// Whether it had an unlogged nondeterministic event since its last commit.
-    pub fn own(&self) -> bool
-        ensures { result ≡ (held self.now).own }
+    pub fn unlogged(&self) -> bool
+        ensures { result ≡ (held self.now).unlogged }
     {
-        self.own
+        self.unlogged
     }
 
     /// The log record that is read next, where one is unread.
@@ -165,7 +165,7 @@ impl Up {
         if self.kernel.position() > most || self.kernel.visible() > most {
             return false;
         }
-        if self.kernel.place() > most || !has_commits(&self.kernel, turns) {
+        if self.kernel.inputs_taken() > most || !has_commits(&self.kernel, turns) {
             return false;
         }
         has_message_counts(&self.kernel, most)

@@ -8,7 +8,7 @@ ghost use Rattle.dc_model.specs.Guests.Answer.{Plain};
 ghost use Rattle.dc_proc.specs.Events.{HasCounts, HasRoom, IsSender, kernel_after, status_after, with_answer, with_effect, with_step};
 ghost use Rattle.dc_proc.specs.Turns.{shown_of};
 ghost use Rattle.dc_proc.specs.Ups.{held};
-ghost use Rattle.dc_recovery.specs.Parts.{sets_own};
+ghost use Rattle.dc_recovery.specs.Parts.{sets_unlogged};
 
 use crate::shown::Shown;
 use crate::up::Up;
@@ -20,12 +20,12 @@ use dc_kernel::{Kernel, Status};
 /// Counts what an answer hands over.
 fn note_answer(kernel: &mut Kernel, answer: &Answer)
     requires sender { IsSender kernel.old (answer_of answer.now) }
-    requires place { kernel.old.place < 2 ^ 32 - 1 }
+    requires inputs_taken { kernel.old.inputs_taken < 2 ^ 32 - 1 }
     requires received { (s : ℕ) → s < kernel.old.n → slice_index kernel.old.received s < 2 ^ 32 - 1 }
     ensures { kernel.new ≡ with_answer (answer_of answer.now) kernel.old }
 {
     match *answer {
-        Answer::InputNext(_) => kernel.set_place(kernel.place() + 1),
+        Answer::InputNext(_) => kernel.set_inputs_taken(kernel.inputs_taken() + 1),
         Answer::ReceiveFrom(sender, _) => {
             kernel.set_received(sender, kernel.received(sender) + 1);
         }
@@ -72,8 +72,8 @@ fn note_step(kernel: &mut Kernel, next: &Next)
 }
 
 /// Whether an answer is one that could have been another, and is not in the log.
-fn sets_own(log: bool, replay: bool, answer: &Answer) -> bool
-    ensures { result ≡ sets_own log replay (answer_of answer.now) }
+fn sets_unlogged(log: bool, replay: bool, answer: &Answer) -> bool
+    ensures { result ≡ sets_unlogged log replay (answer_of answer.now) }
 {
     match answer {
         Answer::Plain => false,
@@ -97,8 +97,8 @@ impl Up {
         requires position { self.old.kernel.position < 2 ^ 32 - 1 }
         ensures kernel { self.new.kernel ≡ kernel_after self.old.others.items Next.Retire Plain Effect.Nothing self.old.kernel }
         ensures unread { (held self.new).unread ≡ (held self.old).unread }
-        ensures own { self.new.own ≡ (self.old.own || sets_own false false Plain) }
-        ensures rest { self.new ≡ record self.old { kernel = self.new.kernel; read = self.new.read; own = self.new.own } }
+        ensures unlogged { self.new.unlogged ≡ (self.old.unlogged || sets_unlogged false false Plain) }
+        ensures rest { self.new ≡ record self.old { kernel = self.new.kernel; read = self.new.read; unlogged = self.new.unlogged } }
     {
         self.kernel.set_position(self.kernel.position() + 1);
     }
@@ -119,15 +119,15 @@ impl Up {
         requires long { length self.old.others.items ≡ self.old.kernel.n }
         ensures kernel { self.new.kernel ≡ kernel_after self.old.others.items next.now (answer_of answer.now) effect self.old.kernel }
         ensures unread { (held self.new).unread ≡ (if replay then drop 1 (held self.old).unread else (held self.old).unread) }
-        ensures own { self.new.own ≡ (self.old.own || sets_own log replay (answer_of answer.now)) }
-        ensures rest { self.new ≡ record self.old { kernel = self.new.kernel; read = self.new.read; own = self.new.own } }
+        ensures unlogged { self.new.unlogged ≡ (self.old.unlogged || sets_unlogged log replay (answer_of answer.now)) }
+        ensures rest { self.new ≡ record self.old { kernel = self.new.kernel; read = self.new.read; unlogged = self.new.unlogged } }
         ensures shown { result ≡ shown_of effect self.old.kernel.visible }
     {
         note_answer(&mut self.kernel, answer);
         let shown = note_effect(&mut self.kernel, &self.others, effect);
         note_step(&mut self.kernel, next);
         self.pass_record(replay);
-        self.own = self.own || sets_own(log, replay, answer);
+        self.unlogged = self.unlogged || sets_unlogged(log, replay, answer);
         shown
     }
 }

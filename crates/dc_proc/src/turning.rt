@@ -67,7 +67,7 @@ impl Up {
         ensures { result ≡ rule_of self.now.protocol kind (since_of self.now kind (answer_of answer.now) any) }
     {
         let since = Since {
-            own: self.own,
+            unlogged: self.unlogged,
             any,
             full: self.log_left == 0,
             eighth: makes_eight(&self.kernel, &self.based, answer),

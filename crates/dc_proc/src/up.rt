@@ -16,7 +16,7 @@ pub struct Up {
     pub(crate) guest: Guest,
     pub(crate) log: Vec<LogRecord>,
     pub(crate) read: usize,
-    pub(crate) own: bool,
+    pub(crate) unlogged: bool,
     pub(crate) log_left: u32,
     pub(crate) based: Vec<u32>,
     pub(crate) others: Vec<u32>,

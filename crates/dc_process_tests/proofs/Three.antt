@@ -23,7 +23,7 @@ module _ {C D : Type 0} (store : checkpoint.Ghosts C D) (old new : List C) (long
   apart_still apart i j b c at there ne e =
       let x = before_it old new i b long at in
       let y = before_it old new j c long there in
-      apart i j x.0 y.0 x.1 y.1 ne (sym (same i x.0 b x.1 at).place_same ∙ e ∙ (same j y.0 c y.1 there).place_same)
+      apart i j x.0 y.0 x.1 y.1 ne (sym (same i x.0 b x.1 at).index_same ∙ e ∙ (same j y.0 c y.1 there).index_same)
 
   pub forms_still : AreOf store old → AreOf store new
   forms_still forms i c at =

@@ -68,33 +68,33 @@ struct Course {
 }
 
 /// The input of a number.
-fn input(place: u32) -> Answer {
-    match INPUTS.get(place as usize) {
+fn input(index: u32) -> Answer {
+    match INPUTS.get(index as usize) {
         Some(bytes) if bytes.len() <= 64 => Answer::InputNext(Message::new(bytes)),
         _ => Answer::InputEnd,
     }
 }
 
 /// An act as it is answered again.
-fn again(act: &Act, place: u32) -> Option<Answer> {
+fn again(act: &Act, index: u32) -> Option<Answer> {
     match *act {
         Act::Plain => Some(Answer::Plain),
         Act::Clock(clock) => Some(Answer::Clock(clock)),
         Act::Random(word) => Some(Answer::Random(word)),
         Act::InputNone => Some(Answer::InputNone),
-        Act::InputNext => Some(input(place)),
+        Act::InputNext => Some(input(index)),
         Act::InputEnd => Some(Answer::InputEnd),
         Act::ReceiveNone | Act::ReceiveFrom(_) => None,
     }
 }
 
 /// What a new call is answered at a turn.
-fn drawn(call: Option<Call>, t: u32, place: u32) -> Answer {
+fn drawn(call: Option<Call>, t: u32, index: u32) -> Answer {
     match call {
         Some(Call::Clock) => Answer::Clock(u64::from(t)),
         Some(Call::Random) => Answer::Random(t),
         Some(Call::Input(_, _)) if t % 3 == 0 => Answer::InputNone,
-        Some(Call::Input(_, _)) => input(place),
+        Some(Call::Input(_, _)) => input(index),
         _ => Answer::Plain,
     }
 }
@@ -103,12 +103,12 @@ fn drawn(call: Option<Call>, t: u32, place: u32) -> Answer {
 fn answer<C: Checkpoint>(up: &Up, store: &C, dev: &C::Device, t: u32, acts: &Acts) -> Option<Answer>
     requires fit { IsFit C.Checkpoint up.now store.now dev.now }
 {
-    let place = up.kernel().place();
+    let inputs_taken = up.kernel().inputs_taken();
     let at = up.kernel().position();
     if at < acts.len() {
-        return again(&acts.at(at).act, place);
+        return again(&acts.at(at).act, inputs_taken);
     }
-    Some(drawn(up.next_call(store, dev), t, place))
+    Some(drawn(up.next_call(store, dev), t, inputs_taken))
 }
 
 /// Whether two records show the same.

@@ -83,10 +83,10 @@ const PROTOCOLS: [Protocol; 8] = [
 
 const KINDS: [Kind; 7] = [Internal, Clock, Random, Input, Receive, Visible, Send];
 
-/// Five facts in a number below 32: own counts 1, any 2, full 4, eighth 8 and replay 16.
+/// Five facts in a number below 32: unlogged counts 1, any 2, full 4, eighth 8 and replay 16.
 fn combination(number: u32) -> Since {
     Since {
-        own: number & 1 != 0,
+        unlogged: number & 1 != 0,
         any: number & 2 != 0,
         full: number & 4 != 0,
         eighth: number & 8 != 0,
@@ -157,7 +157,7 @@ fn is_rule(protocol: Protocol, kind: Kind, since: &Since, want: Rule) -> Result<
 
 /// An event that finds nothing.
 const NOTHING: Since = Since {
-    own: false,
+    unlogged: false,
     any: false,
     full: false,
     eighth: false,
@@ -197,13 +197,13 @@ const ROOM_AND_LOG: Rule = Rule {
 
 #[test]
 fn a_commit_follows_a_nondeterministic_event() -> Result<(), Fail> {
-    let own = Since {
-        own: true,
+    let unlogged = Since {
+        unlogged: true,
         ..NOTHING
     };
     is_rule(Cand, Clock, &NOTHING, AFTER)?;
     is_rule(Cand, Receive, &NOTHING, AFTER)?;
-    is_rule(Cand, Visible, &own, NEITHER)?;
+    is_rule(Cand, Visible, &unlogged, NEITHER)?;
     is_rule(CandLog, Clock, &NOTHING, AFTER)
 }
 
@@ -213,7 +213,10 @@ fn an_answer_is_logged_in_place_of_a_commit() -> Result<(), Fail> {
         full: true,
         ..NOTHING
     };
-    let own = Since { own: true, ..full };
+    let unlogged = Since {
+        unlogged: true,
+        ..full
+    };
     let replay = Since {
         replay: true,
         ..full
@@ -222,7 +225,7 @@ fn an_answer_is_logged_in_place_of_a_commit() -> Result<(), Fail> {
     is_rule(CandLog, Input, &full, ROOM_AND_LOG)?;
     is_rule(CandLog, Input, &replay, NEITHER)?;
     is_rule(CbndvsLog, Input, &full, ROOM_AND_LOG)?;
-    is_rule(CbndvsLog, Input, &own, NEITHER)?;
+    is_rule(CbndvsLog, Input, &unlogged, NEITHER)?;
     is_rule(CbndvsLog, Input, &replay, NEITHER)
 }
 
@@ -232,12 +235,15 @@ fn a_commit_comes_before_what_others_see() -> Result<(), Fail> {
         any: true,
         ..NOTHING
     };
-    let own = Since { own: true, ..other };
+    let unlogged = Since {
+        unlogged: true,
+        ..other
+    };
     is_rule(Cpvs, Send, &NOTHING, BEFORE)?;
-    is_rule(Cbndvs, Visible, &own, BEFORE)?;
+    is_rule(Cbndvs, Visible, &unlogged, BEFORE)?;
     is_rule(Cbndvs, Visible, &other, NEITHER)?;
     is_rule(Cpv2pc, Visible, &NOTHING, BEFORE)?;
-    is_rule(Cpv2pc, Send, &own, NEITHER)?;
+    is_rule(Cpv2pc, Send, &unlogged, NEITHER)?;
     is_rule(Cbndv2pc, Visible, &other, BEFORE)?;
     is_rule(Cbndv2pc, Visible, &NOTHING, NEITHER)
 }
@@ -248,8 +254,8 @@ fn the_eighth_receipt_is_committed_once() -> Result<(), Fail> {
         eighth: true,
         ..NOTHING
     };
-    let own = Since {
-        own: true,
+    let unlogged = Since {
+        unlogged: true,
         ..eighth
     };
     let full = Since {
@@ -260,7 +266,7 @@ fn the_eighth_receipt_is_committed_once() -> Result<(), Fail> {
         replay: true,
         ..full
     };
-    is_rule(Cbndvs, Receive, &own, AFTER)?;
+    is_rule(Cbndvs, Receive, &unlogged, AFTER)?;
     is_rule(CandLog, Receive, &full, ROOM_AND_LOG)?;
     is_rule(CandLog, Receive, &replay, AFTER)
 }

@@ -48,7 +48,7 @@ fn open<C: Checkpoint + Drop>(alloc: Global, dev: &mut C::Device, p: u32, pages:
     requires pages { (1 ≤ pages) × (pages ≤ 256) }
     ensures lent { IfSome result (λ store. C.lent store dev.new) }
     ensures ready { IfSome result (λ store. C.ready store dev.new) }
-    ensures place { IfSome result (λ store. C.place store ≡ p) }
+    ensures index { IfSome result (λ store. C.index store ≡ p) }
     ensures process { IfSome result (λ store. ((C.form store).n ≡ 3) × ((C.form store).p ≡ p)) }
     ensures number { IfSome result (λ store. C.number store ≡ 1) }
     ensures others { (q : ℕ) → q ≢ p → C.untouched dev.old dev.new q }

@@ -46,8 +46,8 @@ abbrev pub row_of : Protocol → Kind → Since → Rule
 row_of Cand kind since = record { before = never; log = never; after = at_every_nondeterministic kind }
 row_of CandLog kind since = record { before = at_inputs kind && since.full && not since.replay; log = at_inputs kind && not since.replay; after = at_clock_and_random kind }
 row_of Cpvs kind since = record { before = at_outputs kind; log = never; after = never }
-row_of Cbndvs kind since = record { before = at_outputs kind && since.own; log = never; after = never }
-row_of CbndvsLog kind since = record { before = (at_outputs kind && since.own) || (at_inputs kind && not since.own && since.full && not since.replay); log = at_inputs kind && not since.own && not since.replay; after = never }
+row_of Cbndvs kind since = record { before = at_outputs kind && since.unlogged; log = never; after = never }
+row_of CbndvsLog kind since = record { before = (at_outputs kind && since.unlogged) || (at_inputs kind && not since.unlogged && since.full && not since.replay); log = at_inputs kind && not since.unlogged && not since.replay; after = never }
 row_of Cpv2pc kind since = record { before = at_visible kind; log = never; after = never }
 row_of Cbndv2pc kind since = record { before = at_visible kind && since.any; log = never; after = never }
 row_of Cbndv2pcCausal kind since = record { before = at_visible kind && since.any; log = never; after = never }

@@ -29,7 +29,7 @@ use Rattle.dc_recovery.specs.Causes.{AreSaved, Before, Caused, IsTold, IsTracked
 use Rattle.dc_recovery.specs.Core.{Core, Status, Ties, Which, numbers_of, opened_core, opening, save_of, stands, untied}
 use Rattle.dc_recovery.specs.Core.Which.{Newer, Older}
 use Rattle.dc_recovery.specs.Invariant.{Holds}
-use Rattle.dc_recovery.specs.Parts.{Place, at_one, commit_if, commits_in, committed_as, each, fallen, is_with, left, may_stop, passed, risen, sets_own, torn_as, torn_in}
+use Rattle.dc_recovery.specs.Parts.{Place, at_one, commit_if, commits_in, committed_as, each, fallen, is_with, left, may_stop, passed, risen, sets_unlogged, torn_as, torn_in}
 use Rattle.dc_recovery.specs.Parts.Place.{InAfter, InBefore, InEvent, InLog, Nowhere}
 use Rattle.dc_recovery.specs.Saves.{Logged, answer_at, logged_at, span}
 use Rattle.dc_recovery.specs.Systems.{IsSound, System, kind_at}
@@ -70,7 +70,7 @@ module _ {Mc : Type 0} (S : System Mc) (sound : IsSound S) (schedule : List Entr
   rep = replays (comes S.guests (stands S.guests c p) a) (c.procs p)
 
   abbrev sets : Bool
-  sets = sets_own f.log rep a
+  sets = sets_unlogged f.log rep a
 
   abbrev jn : JointNow false S c.acts c.procs c.ties
   jn = joint_now S sound schedule t c now p a told up inside g false (λ on. absurd (true≢false (sym on)))
@@ -78,10 +78,10 @@ module _ {Mc : Type 0} (S : System Mc) (sound : IsSound S) (schedule : List Entr
   off : (rule_at S c p a).log ≡ false
   off = log_off S sound schedule t c now p a told up inside g
 
-  quiet : sets_own (rule_at S c p a).log (replays (comes S.guests (stands S.guests c p) a) (c.procs p)) a ≡ false → is_plain a ≡ true
+  quiet : sets_unlogged (rule_at S c p a).log (replays (comes S.guests (stands S.guests c p) a) (c.procs p)) a ≡ false → is_plain a ≡ true
   quiet = quiet_here S sound schedule t c now p a told up inside g
 
-  loud : sets_own (rule_at S c p a).log (replays (comes S.guests (stands S.guests c p) a) (c.procs p)) a ≡ true → is_plain a ≡ false
+  loud : sets_unlogged (rule_at S c p a).log (replays (comes S.guests (stands S.guests c p) a) (c.procs p)) a ≡ true → is_plain a ≡ false
   loud = loud_sets S sound schedule t c now p a told up inside g false (λ on. absurd (true≢false (sym on))) off quiet (λ on. absurd (true≢false (sym on)))
 
   abbrev firsts : ℕ → Status

@@ -67,7 +67,7 @@ module _ {Mc : Type 0} (G : Guests Mc) (c : Core) (p word clock : ℕ) where
   named s n e = let k = or_parts (s == n) _ e in let m = or_parts (s == p) _ k.1 in (λ same. true≢false (sym (eq-eqb s p same) ∙ m.0), not-false (c.procs s).up m.1)
 
   drawn_mail : (e : Event) → IsMailUp G c p (drawn_answer G c p word clock e)
-  drawn_mail AtInput = input_mail (word % 2 == 1) (slice_get (G.inputs p) (stands G c p).place)
+  drawn_mail AtInput = input_mail (word % 2 == 1) (slice_get (G.inputs p) (stands G c p).inputs_taken)
   drawn_mail AtReceive = receive_mail _ (word % (G.count + 1)) _ (named (word % (G.count + 1)) G.count) refl
   drawn_mail AtEnd = tt
   drawn_mail AtInternal = tt

@@ -24,7 +24,7 @@ use Rattle.dc_recovery.proofs.Worlds.{all_read, all_up, more_new, more_old, olde
 use Rattle.dc_recovery.specs.Answers.{replays, rule_at}
 use Rattle.dc_recovery.specs.Core.{Core, Status, Ties, numbers_of, stands, untied}
 use Rattle.dc_recovery.specs.Invariant.{Holds, Running}
-use Rattle.dc_recovery.specs.Parts.{Place, at_one, commit_if, commits_in, committed_as, each, fallen, is_with, left, passed, sets_own, torn_as, torn_in}
+use Rattle.dc_recovery.specs.Parts.{Place, at_one, commit_if, commits_in, committed_as, each, fallen, is_with, left, passed, sets_unlogged, torn_as, torn_in}
 use Rattle.dc_recovery.specs.Parts.Place.{InAfter, InBefore, InEvent, InLog, Nowhere}
 use Rattle.dc_recovery.specs.Recoveries.{SavedBeforeShown}
 use Rattle.dc_recovery.specs.Saves.{Logged, answer_at, is_empty_log, last_sure, logged_at, logged_if, span}
@@ -93,7 +93,7 @@ module _ {Mc : Type 0} (S : System Mc) (sound : IsSound S) (schedule : List Entr
 
   -- the event, after a commit before or none
   module _ (procs : ℕ → Status) (ties : Ties) (sets : Bool) (same : (q : ℕ) → (procs q).position ≡ (c.procs q).position) (ok : JointNow strict S c.acts procs ties)
-      (quiet : sets ≡ false → is_plain a ≡ true) (loud : sets ≡ true → is_plain a ≡ false) (clear : strict ≡ true → is_visible (comes S.guests (stands S.guests c p) a) ≡ true → (q : ℕ) → (procs q).own ≡ false) where
+      (quiet : sets ≡ false → is_plain a ≡ true) (loud : sets ≡ true → is_plain a ≡ false) (clear : strict ≡ true → is_visible (comes S.guests (stands S.guests c p) a) ≡ true → (q : ℕ) → (procs q).unlogged ≡ false) where
     abbrev more : List Given
     more = with_act t c p a
 
@@ -109,7 +109,7 @@ module _ {Mc : Type 0} (S : System Mc) (sound : IsSound S) (schedule : List Entr
     plain_old : (c.procs p).position < length (own p c.acts) → answer_at (c.procs p).position (own p c.acts) ≡ Some a → is_plain a ≡ true
     plain_old h e = noted_none (c.procs p).position a (ap (logged_if (c.procs p).position) (sym e) ∙ sym (span_one (logged_at (own p c.acts)) (c.procs p).position) ∙ (rest_old h).0)
 
-    clear_plain : (procs p).own ≡ false → is_plain a ≡ true → span (logged_at (own p more)) (procs p).older.position (length (own p more)) ≡ []
+    clear_plain : (procs p).unlogged ≡ false → is_plain a ≡ true → span (logged_at (own p more)) (procs p).older.position (length (own p more)) ≡ []
     clear_plain off plain = ⊎_elim
         (λ x. rw (own_old x.0) (ok.clear p off))
         (λ x. rw (own_new (omega (arith, x.0)), span_more a (own p c.acts) (procs p).older.position (ok.within p), noted_plain (length (own p c.acts)) a plain, ok.clear p off) refl)
@@ -151,16 +151,16 @@ module _ {Mc : Type 0} (S : System Mc) (sound : IsSound S) (schedule : List Entr
           (λ x. rw (own_old x.0) (rest_old x.0).1)
           (λ x. rw (own_new (omega (arith, x.0))) (let e = x.0 in span_none (logged_at (a ∷ own p c.acts)) (suc (c.procs p).position) (suc (length (own p c.acts))) (omega arith)))
           told);
-      clear = λ off. let parts = or_parts (procs p).own sets off in clear_plain parts.0 (quiet parts.1);
+      clear = λ off. let parts = or_parts (procs p).unlogged sets off in clear_plain parts.0 (quiet parts.1);
       told = λ on was. ⊎_elim
-          (λ x. rw (own_old x.0) (⊎_elim was (λ (set : sets ≡ true). absurd (true≢false (sym (plain_old x.0 x.1) ∙ loud set))) (or_cases (procs p).own sets on)))
+          (λ x. rw (own_old x.0) (⊎_elim was (λ (set : sets ≡ true). absurd (true≢false (sym (plain_old x.0 x.1) ∙ loud set))) (or_cases (procs p).unlogged sets on)))
           (λ x. rw (own_new (omega (arith, x.0)), span_more a (own p c.acts) (procs p).older.position (ok.within p)) (⊎_elim
-          (λ (held : (procs p).own ≡ true). some_first (span (logged_at (own p c.acts)) (procs p).older.position (length (own p c.acts))) (logged_if (length (own p c.acts)) (Some a)) (was held))
+          (λ (held : (procs p).unlogged ≡ true). some_first (span (logged_at (own p c.acts)) (procs p).older.position (length (own p c.acts))) (logged_if (length (own p c.acts)) (Some a)) (was held))
           (λ (set : sets ≡ true). rw (noted_told (length (own p c.acts)) a (loud set)) (some_last (span (logged_at (own p c.acts)) (procs p).older.position (length (own p c.acts))) (record { position = length (own p c.acts); answer = a })))
-          (or_cases (procs p).own sets on)))
+          (or_cases (procs p).unlogged sets on)))
           told;
       last = λ on was. ⊎_elim
-          (λ x. absurd (⊎_elim (λ held. let e : (procs p).position ≡ length (own p c.acts) = was held in let k = same p in let lt = x.0 in absurd (omega arith)) (λ (set : sets ≡ true). true≢false (sym (plain_old x.0 x.1) ∙ loud set)) (or_cases (procs p).own sets on)))
+          (λ x. absurd (⊎_elim (λ held. let e : (procs p).position ≡ length (own p c.acts) = was held in let k = same p in let lt = x.0 in absurd (omega arith)) (λ (set : sets ≡ true). true≢false (sym (plain_old x.0 x.1) ∙ loud set)) (or_cases (procs p).unlogged sets on)))
           (λ x. rw (own_new (omega (arith, x.0))) (let e = x.0 in let k = same p in omega arith))
           told;
       mail = λ s. rw (same p, same s) (⊎_elim
@@ -202,7 +202,7 @@ module _ {Mc : Type 0} (S : System Mc) (sound : IsSound S) (schedule : List Entr
     event_down lines tied =
         joint_down strict S (with_act t c p a) lines (each (is_with S.protocol p) fallen procs) tied
         (λ q. ap (λ (st : Status). st.up) (all_fall q))
-        (λ q. ap (λ (st : Status). st.own) (all_fall q))
+        (λ q. ap (λ (st : Status). st.unlogged) (all_fall q))
         (subst (JointOk strict S (with_act t c p a)) (λ i q. (sym (all_fall q) i).older) older_event)
         (subst (JointOk strict S (with_act t c p a)) (λ i q. (sym (ap (λ (st : Status). st.newer) (all_fall q) ∙ ok.one q)) i) older_event)
       where
@@ -215,7 +215,7 @@ module _ {Mc : Type 0} (S : System Mc) (sound : IsSound S) (schedule : List Entr
   torn_down acts lines procs ties tied last ns ok =
       joint_down strict S acts lines (torn_in (is_with S.protocol p) (members S ties last p) ns procs) tied
       (λ q. cond_both (members S ties last p q) (torn_as (ns q) (procs q)) (each (is_with S.protocol p) fallen procs q) (λ (st : Status). st.up ≡ false) (λ _. refl) (λ _. ap (λ (st : Status). st.up) (all_fall q)))
-      (λ q. cond_both (members S ties last p q) (torn_as (ns q) (procs q)) (each (is_with S.protocol p) fallen procs q) (λ (st : Status). st.own ≡ false) (λ _. refl) (λ _. ap (λ (st : Status). st.own) (all_fall q)))
+      (λ q. cond_both (members S ties last p q) (torn_as (ns q) (procs q)) (each (is_with S.protocol p) fallen procs q) (λ (st : Status). st.unlogged ≡ false) (λ _. refl) (λ _. ap (λ (st : Status). st.unlogged) (all_fall q)))
       (subst (JointOk strict S acts) (λ i q. (sym (torn_older q)) i) ok.older)
       (subst (JointOk strict S acts) (λ i q. (torn_newer q) i) (older_after strict S sound acts procs ties ok (members S ties last p) ns (members_apart strict S acts procs ties last ok g p) (members_closed strict S acts procs ties last ok p)))
     where
@@ -233,12 +233,12 @@ module _ {Mc : Type 0} (S : System Mc) (sound : IsSound S) (schedule : List Entr
           by_flag false = sym (ap (λ (st : Status). st.newer) (all_fall q) ∙ ok.one q)
 
   module _ (log_off : (rule_at S c p a).log ≡ false)
-      (quiet : sets_own (rule_at S c p a).log (replays (comes S.guests (stands S.guests c p) a) (c.procs p)) a ≡ false → is_plain a ≡ true)
-      (clear : strict ≡ true → is_visible (comes S.guests (stands S.guests c p) a) ≡ true → (q : ℕ) → (commit_if (rule_at S c p a).before (members S c.ties (numbers_of c.procs) p) (next_numbers S (numbers_of c.procs)) c.procs q).own ≡ false) where
+      (quiet : sets_unlogged (rule_at S c p a).log (replays (comes S.guests (stands S.guests c p) a) (c.procs p)) a ≡ false → is_plain a ≡ true)
+      (clear : strict ≡ true → is_visible (comes S.guests (stands S.guests c p) a) ≡ true → (q : ℕ) → (commit_if (rule_at S c p a).before (members S c.ties (numbers_of c.procs) p) (next_numbers S (numbers_of c.procs)) c.procs q).unlogged ≡ false) where
     abbrev f : Rule
     f = rule_at S c p a
 
-    loud : sets_own (rule_at S c p a).log (replays (comes S.guests (stands S.guests c p) a) (c.procs p)) a ≡ true → is_plain a ≡ false
+    loud : sets_unlogged (rule_at S c p a).log (replays (comes S.guests (stands S.guests c p) a) (c.procs p)) a ≡ true → is_plain a ≡ false
     loud on = not_true (is_plain a) (and_parts (not (is_plain a)) _ on).0
       where
         not_true : (b : Bool) → not b ≡ true → b ≡ false
@@ -255,20 +255,20 @@ module _ {Mc : Type 0} (S : System Mc) (sound : IsSound S) (schedule : List Entr
     firsts = commit_if f.before (members S c.ties (numbers_of c.procs) p) (next_numbers S (numbers_of c.procs)) c.procs
 
     abbrev thirds : ℕ → Status
-    thirds = at_one p (passed replay (sets_own f.log replay a)) (commit_if f.before (members S c.ties (numbers_of c.procs) p) (next_numbers S (numbers_of c.procs)) c.procs)
+    thirds = at_one p (passed replay (sets_unlogged f.log replay a)) (commit_if f.before (members S c.ties (numbers_of c.procs) p) (next_numbers S (numbers_of c.procs)) c.procs)
 
     pub first_position : (b : Bool) (test : ℕ → Bool) (ns : ℕ → ℕ) (q : ℕ) → (commit_if b test ns c.procs q).position ≡ (c.procs q).position
     first_position true test ns q = cond_both (test q) (committed_as (ns q) (c.procs q)) (c.procs q) (λ (st : Status). st.position ≡ (c.procs q).position) (λ _. refl) (λ _. refl)
     first_position false test ns q = refl
 
-    pub loud_sets : sets_own (rule_at S c p a).log (replays (comes S.guests (stands S.guests c p) a) (c.procs p)) a ≡ true → is_plain a ≡ false
+    pub loud_sets : sets_unlogged (rule_at S c p a).log (replays (comes S.guests (stands S.guests c p) a) (c.procs p)) a ≡ true → is_plain a ≡ false
     loud_sets = loud
 
     pub first_now : JointNow strict S c.acts firsts (tied_first S c p a)
     first_now = now_if strict S sound c.acts c.procs c.ties f.before (members S c.ties (numbers_of c.procs) p) (next_numbers S (numbers_of c.procs)) joint_now (members_apart strict S c.acts c.procs c.ties (numbers_of c.procs) joint_now g p) (members_closed strict S c.acts c.procs c.ties (numbers_of c.procs) joint_now p)
 
     pub third_now : JointNow strict S (with_act t c p a) thirds (tied_third S c p a)
-    third_now = event_now firsts (tied_first S c p a) (sets_own f.log replay a) (first_position f.before (members S c.ties (numbers_of c.procs) p) (next_numbers S (numbers_of c.procs))) first_now quiet loud clear replay
+    third_now = event_now firsts (tied_first S c p a) (sets_unlogged f.log replay a) (first_position f.before (members S c.ties (numbers_of c.procs) p) (next_numbers S (numbers_of c.procs))) first_now quiet loud clear replay
 
     joint_left : (lines : List Visible) (w : Place) → w ≢ InLog → JointS strict S (record { acts = if has_act w then with_act t c p a else c.acts; lines = lines; procs = left f replay x (company S c p a) p c.procs w; ties = tied_left S c p a w })
     joint_left lines Nowhere apart = subst (λ (h : ℕ → Status). JointS strict S (record { acts = with_act t c p a; lines = lines; procs = h; ties = tied_left S c p a Nowhere }))
@@ -279,7 +279,7 @@ module _ {Mc : Type 0} (S : System Mc) (sound : IsSound S) (schedule : List Entr
     joint_left lines InLog apart = absurd (apart refl)
     joint_left lines InEvent apart = subst (λ (h : ℕ → Status). JointS strict S (record { acts = with_act t c p a; lines = lines; procs = h; ties = tied_left S c p a InEvent }))
         (sym (event_pieces (company S c p a) f log_off replay x p c.procs))
-        (event_down firsts (tied_first S c p a) (sets_own f.log replay a) (first_position f.before (members S c.ties (numbers_of c.procs) p) (next_numbers S (numbers_of c.procs))) first_now quiet loud clear lines (tied_left S c p a InEvent))
+        (event_down firsts (tied_first S c p a) (sets_unlogged f.log replay a) (first_position f.before (members S c.ties (numbers_of c.procs) p) (next_numbers S (numbers_of c.procs))) first_now quiet loud clear lines (tied_left S c p a InEvent))
     joint_left lines InAfter apart = subst (λ (h : ℕ → Status). JointS strict S (record { acts = with_act t c p a; lines = lines; procs = h; ties = tied_left S c p a InAfter }))
         (sym (after_pieces (company S c p a) f log_off replay x p c.procs))
         (torn_down (with_act t c p a) lines thirds (tied_third S c p a) (tied_left S c p a InAfter) (numbers_first S c p a) (next_numbers S (numbers_first S c p a)) third_now)

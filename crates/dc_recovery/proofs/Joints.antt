@@ -18,7 +18,7 @@ use Rattle.dc_recovery.proofs.Saves.{exposed_within, reach_later}
 use Rattle.dc_recovery.proofs.Spans.{noted_plain, span_before, span_inner, span_more, span_none}
 use Rattle.dc_recovery.proofs.Sorts.{Sort}
 use Rattle.dc_recovery.proofs.Sorts.Sort.{Asking, Chance, Sure}
-use Rattle.dc_recovery.specs.Answers.{any_own}
+use Rattle.dc_recovery.specs.Answers.{any_unlogged}
 use Rattle.dc_recovery.specs.Core.{Core, Status, Ties}
 use Rattle.dc_recovery.specs.Core.Which.{Newer, Older}
 use Rattle.dc_recovery.specs.Invariant.{Joint, Traced, sure_of}
@@ -90,7 +90,7 @@ pub record JointS (strict : Bool) {Mc : Type 0} (S : System Mc) (c : Core) : Typ
   pub older : JointOk strict S c.acts (λ q. (c.procs q).older)
   pub newer : JointOk strict S c.acts (λ q. (c.procs q).newer)
   pub ahead : (p : ℕ) → (c.procs p).up ≡ true → IsCovered S.guests (λ q. (c.procs q).position) (λ q. max (c.procs q).position (sure_of S c q)) c.acts
-  pub beyond : (q : ℕ) → S.guests.count ≤ q → (c.procs q).own ≡ false
+  pub beyond : (q : ℕ) → S.guests.count ≤ q → (c.procs q).unlogged ≡ false
   pub traced : is_causal S.protocol ≡ true → (p : ℕ) → (c.procs p).up ≡ true → Traced S c
 
 pub joint_of : (strict : Bool) {Mc : Type 0} (S : System Mc) (c : Core) → JointS strict S c → Joint S c
@@ -116,8 +116,8 @@ pub record JointNow (strict : Bool) {Mc : Type 0} (S : System Mc) (acts : List G
   pub ahead : IsCovered S.guests (λ q. (procs q).position) (λ q. max (procs q).position (reach S q (own q acts) (procs q).older)) acts
   pub at_within : (q : ℕ) → (procs q).position ≤ length (own q acts)
   pub rest : (q : ℕ) → span (logged_at (own q acts)) (procs q).position (length (own q acts)) ≡ []
-  pub clear : (q : ℕ) → (procs q).own ≡ false → span (logged_at (own q acts)) (procs q).older.position (length (own q acts)) ≡ []
-  pub beyond : (q : ℕ) → S.guests.count ≤ q → (procs q).own ≡ false
+  pub clear : (q : ℕ) → (procs q).unlogged ≡ false → span (logged_at (own q acts)) (procs q).older.position (length (own q acts)) ≡ []
+  pub beyond : (q : ℕ) → S.guests.count ≤ q → (procs q).unlogged ≡ false
   pub traced : is_causal S.protocol ≡ true → Traced S (core_of acts procs ties)
 
 -- those that commit need nothing of the others that these may not send again
@@ -201,13 +201,13 @@ module _ (strict : Bool) {Mc : Type 0} (S : System Mc) (sound : IsSound S) (acts
 
   traced_after : is_causal S.protocol ≡ true → Traced S (core_of acts (commits_in commits ns procs) (tied_commit commits ties))
   traced_after causal = let tr = now.traced causal in record {
-    self = λ p. cond_both (commits p) (committed_as (ns p) (procs p)) (procs p) (λ (st : Status). st.own ≡ true → (ties.on p p && not (commits p || commits p)) ≡ true)
+    self = λ p. cond_both (commits p) (committed_as (ns p) (procs p)) (procs p) (λ (st : Status). st.unlogged ≡ true → (ties.on p p && not (commits p || commits p)) ≡ true)
         (λ _ e. absurd (true≢false (sym e)))
         (λ off e. rw (tr.self p e, off) refl);
-    told = λ p. cond_both (commits p) (committed_as (ns p) (procs p)) (procs p) (λ (st : Status). st.own ≡ true → is_empty_log (span (logged_at (own p acts)) st.older.position (length (own p acts))) ≡ false)
+    told = λ p. cond_both (commits p) (committed_as (ns p) (procs p)) (procs p) (λ (st : Status). st.unlogged ≡ true → is_empty_log (span (logged_at (own p acts)) st.older.position (length (own p acts))) ≡ false)
         (λ _ e. absurd (true≢false (sym e)))
         (λ _ e. tr.told p e);
-    last = λ p. cond_both (commits p) (committed_as (ns p) (procs p)) (procs p) (λ (st : Status). st.own ≡ true → st.position ≡ length (own p acts))
+    last = λ p. cond_both (commits p) (committed_as (ns p) (procs p)) (procs p) (λ (st : Status). st.unlogged ≡ true → st.position ≡ length (own p acts))
         (λ _ e. absurd (true≢false (sym e)))
         (λ _ e. tr.last p e);
     got = λ p s e. rw (commit_at p) (⊎_elim
@@ -241,8 +241,8 @@ module _ (strict : Bool) {Mc : Type 0} (S : System Mc) (sound : IsSound S) (acts
         let m = sent_longer S.guests s (max (procs s).position (reach S s (own s acts) (procs s).older)) (max (procs s).position (reach S s (own s acts) (after s).older)) p (own s acts) (omega arith) in omega arith);
     at_within = λ q. rw (commit_at q) (now.at_within q);
     rest = λ q. rw (commit_at q) (now.rest q);
-    clear = λ q. cond_both (commits q) (committed_as (ns q) (procs q)) (procs q) (λ (st : Status). st.own ≡ false → span (logged_at (own q acts)) st.older.position (length (own q acts)) ≡ []) (λ _ _. now.rest q) (λ _. now.clear q);
-    beyond = λ q h. cond_both (commits q) (committed_as (ns q) (procs q)) (procs q) (λ (st : Status). st.own ≡ false) (λ _. refl) (λ _. now.beyond q h);
+    clear = λ q. cond_both (commits q) (committed_as (ns q) (procs q)) (procs q) (λ (st : Status). st.unlogged ≡ false → span (logged_at (own q acts)) st.older.position (length (own q acts)) ≡ []) (λ _ _. now.rest q) (λ _. now.clear q);
+    beyond = λ q h. cond_both (commits q) (committed_as (ns q) (procs q)) (procs q) (λ (st : Status). st.unlogged ≡ false) (λ _. refl) (λ _. now.beyond q h);
     traced = traced_after;
   }
 
@@ -259,12 +259,12 @@ pub record Grown (strict : Bool) {Mc : Type 0} (S : System Mc) (acts more : List
   pub at_within : suc (procs p).position ≤ length (own p more)
   pub longer : length (own p acts) ≤ length (own p more)
   pub reaches : reach S p (own p acts) (procs p).older ≤ reach S p (own p more) (procs p).older
-  pub sure : is_causal S.protocol ≡ true → is_send (comes S.guests (at_position S.guests p (procs p).position (own p acts)) a) ≡ true → (procs p).own ≡ false → suc (procs p).position ≤ reach S p (own p more) (procs p).older
+  pub sure : is_causal S.protocol ≡ true → is_send (comes S.guests (at_position S.guests p (procs p).position (own p acts)) a) ≡ true → (procs p).unlogged ≡ false → suc (procs p).position ≤ reach S p (own p more) (procs p).older
   pub rest : span (logged_at (own p more)) (suc (procs p).position) (length (own p more)) ≡ []
-  pub clear : ((procs p).own || sets) ≡ false → span (logged_at (own p more)) (procs p).older.position (length (own p more)) ≡ []
-  pub told : ((procs p).own || sets) ≡ true → ((procs p).own ≡ true → is_empty_log (span (logged_at (own p acts)) (procs p).older.position (length (own p acts))) ≡ false)
+  pub clear : ((procs p).unlogged || sets) ≡ false → span (logged_at (own p more)) (procs p).older.position (length (own p more)) ≡ []
+  pub told : ((procs p).unlogged || sets) ≡ true → ((procs p).unlogged ≡ true → is_empty_log (span (logged_at (own p acts)) (procs p).older.position (length (own p acts))) ≡ false)
       → is_empty_log (span (logged_at (own p more)) (procs p).older.position (length (own p more))) ≡ false
-  pub last : ((procs p).own || sets) ≡ true → ((procs p).own ≡ true → (procs p).position ≡ length (own p acts)) → suc (procs p).position ≡ length (own p more)
+  pub last : ((procs p).unlogged || sets) ≡ true → ((procs p).unlogged ≡ true → (procs p).position ≡ length (own p acts)) → suc (procs p).position ≡ length (own p more)
   pub mail : (s : ℕ) → (took_from a s ≡ 0) ⊎ ((at_position S.guests p (procs p).position (own p acts)).received s + took_from a s ≤ length ((at_position S.guests s (procs s).position (own s acts)).sent p))
   pub saved : strict ≡ true → IsShownSaved S.guests acts (λ q. (procs q).older) → IsShownSaved S.guests more (λ q. (procs q).older)
 
@@ -359,12 +359,12 @@ module _ (strict : Bool) {Mc : Type 0} (S : System Mc) (sound : IsSound S) (acts
     abbrev later : Ties
     later = tied_event S.guests p was a sets ties
 
-    self_next : (q : ℕ) → (moves q).own ≡ true → later.on q q ≡ true
-    self_next = each_put (λ (q : ℕ) (st : Status). st.own ≡ true → later.on q q ≡ true) p (passed rep sets (procs p)) procs
+    self_next : (q : ℕ) → (moves q).unlogged ≡ true → later.on q q ≡ true
+    self_next = each_put (λ (q : ℕ) (st : Status). st.unlogged ≡ true → later.on q q ≡ true) p (passed rep sets (procs p)) procs
         (λ e. ⊎_elim
         (λ own. or_left (ties.on p p) _ (tr.self p own))
         (λ (on : sets ≡ true). let k : (p == p && ((sets && p == p) || hears ties.carried p was.received a p)) ≡ true = rw (eq-eqb p p refl, on) refl in or_right (ties.on p p) _ k)
-        (or_cases (procs p).own sets e))
+        (or_cases (procs p).unlogged sets e))
         (λ q ne e. or_left (ties.on q q) _ (tr.self q e))
 
     got_next : (q s : ℕ) → later.on q s ≡ false → (at_position S.guests q (moves q).position (own q more)).received s ≤ length ((at_position S.guests s (reach S s (own s more) (moves s).older) (own s more)).sent q)
@@ -396,7 +396,7 @@ module _ (strict : Bool) {Mc : Type 0} (S : System Mc) (sound : IsSound S) (acts
     mail_self r k low high = ⊎_elim
         (λ (on : sends (comes S.guests was a) (λ (to : ℕ). length (was.sent to)) r k ≡ true). rw (eq-eqb p p refl, on) (⊎_elim
         (λ (dep : ties.on p p ≡ true). dep)
-        (λ (free : ties.on p p ≡ false). let off : (procs p).own ≡ false = ⊎_elim (λ x. absurd (true≢false (sym (tr.self p x) ∙ free))) (λ x. x) (cases_Bool (procs p).own) in
+        (λ (free : ties.on p p ≡ false). let off : (procs p).unlogged ≡ false = ⊎_elim (λ x. absurd (true≢false (sym (tr.self p x) ∙ free))) (λ x. x) (cases_Bool (procs p).unlogged) in
         let m = sent_longer S.guests p (suc (procs p).position) (reach S p (own p more) (procs p).older) r (own p more) (grown.sure causal (sends_send (comes S.guests was a) (λ (to : ℕ). length (was.sent to)) r k on) off) in absurd (omega arith))
         (cases_Bool (ties.on p p))))
         (λ (off : sends (comes S.guests was a) (λ (to : ℕ). length (was.sent to)) r k ≡ false). rw (eq-eqb p p refl, off) (
@@ -435,10 +435,10 @@ module _ (strict : Bool) {Mc : Type 0} (S : System Mc) (sound : IsSound S) (acts
     traced_next : Traced S (core_of more (at_one p (passed rep sets) procs) (tied_event S.guests p was a sets ties))
     traced_next = record {
       self = self_next;
-      told = each_put (λ (q : ℕ) (st : Status). st.own ≡ true → is_empty_log (span (logged_at (own q more)) st.older.position (length (own q more))) ≡ false) p (passed rep sets (procs p)) procs
+      told = each_put (λ (q : ℕ) (st : Status). st.unlogged ≡ true → is_empty_log (span (logged_at (own q more)) st.older.position (length (own q more))) ≡ false) p (passed rep sets (procs p)) procs
           (λ e. grown.told e (tr.told p))
           (λ q ne e. rw (grown.others q ne) (tr.told q e));
-      last = each_put (λ (q : ℕ) (st : Status). st.own ≡ true → st.position ≡ length (own q more)) p (passed rep sets (procs p)) procs
+      last = each_put (λ (q : ℕ) (st : Status). st.unlogged ≡ true → st.position ≡ length (own q more)) p (passed rep sets (procs p)) procs
           (λ e. grown.last e (tr.last p))
           (λ q ne e. rw (grown.others q ne) (tr.last q e));
       got = got_next;
@@ -463,8 +463,8 @@ module _ (strict : Bool) {Mc : Type 0} (S : System Mc) (sound : IsSound S) (acts
     ahead = ahead_next;
     at_within = each_put (λ (q : ℕ) (st : Status). st.position ≤ length (own q more)) p (passed rep sets (procs p)) procs grown.at_within (λ q ne. rw (grown.others q ne) (now.at_within q));
     rest = each_put (λ (q : ℕ) (st : Status). span (logged_at (own q more)) st.position (length (own q more)) ≡ []) p (passed rep sets (procs p)) procs grown.rest (λ q ne. rw (grown.others q ne) (now.rest q));
-    clear = each_put (λ (q : ℕ) (st : Status). st.own ≡ false → span (logged_at (own q more)) st.older.position (length (own q more)) ≡ []) p (passed rep sets (procs p)) procs grown.clear (λ q ne. rw (grown.others q ne) (now.clear q));
-    beyond = each_put (λ (q : ℕ) (st : Status). S.guests.count ≤ q → st.own ≡ false) p (passed rep sets (procs p)) procs (λ h. absurd (omega arith)) (λ q ne. now.beyond q);
+    clear = each_put (λ (q : ℕ) (st : Status). st.unlogged ≡ false → span (logged_at (own q more)) st.older.position (length (own q more)) ≡ []) p (passed rep sets (procs p)) procs grown.clear (λ q ne. rw (grown.others q ne) (now.clear q));
+    beyond = each_put (λ (q : ℕ) (st : Status). S.guests.count ≤ q → st.unlogged ≡ false) p (passed rep sets (procs p)) procs (λ h. absurd (omega arith)) (λ q ne. now.beyond q);
     traced = λ causal. traced_next causal;
   }
 
@@ -480,7 +480,7 @@ module _ (strict : Bool) {Mc : Type 0} (S : System Mc) (acts : List Given) (line
     traced = λ causal _ _. traced_lines S acts [] lines procs ties (now.traced causal);
   }
 
-pub joint_down : (strict : Bool) {Mc : Type 0} (S : System Mc) (acts : List Given) (lines : List Visible) (procs : ℕ → Status) (ties : Ties) → ((q : ℕ) → (procs q).up ≡ false) → ((q : ℕ) → (procs q).own ≡ false)
+pub joint_down : (strict : Bool) {Mc : Type 0} (S : System Mc) (acts : List Given) (lines : List Visible) (procs : ℕ → Status) (ties : Ties) → ((q : ℕ) → (procs q).up ≡ false) → ((q : ℕ) → (procs q).unlogged ≡ false)
     → JointOk strict S acts (λ q. (procs q).older) → JointOk strict S acts (λ q. (procs q).newer) → JointS strict S (record { acts = acts; lines = lines; procs = procs; ties = ties })
 joint_down strict S acts lines procs ties down off older newer = record { together = λ r q. down r ∙ sym (down q); older = older; newer = newer; ahead = λ r on. absurd (true≢false (sym on ∙ down r)); beyond = λ q _. off q; traced = λ _ r on. absurd (true≢false (sym on ∙ down r)) }
 
@@ -495,11 +495,11 @@ joint_with strict S c j saved = record {
 }
 
 -- nothing is beyond the guests
-pub none_own : (n : ℕ) (procs : ℕ → Status) (q : ℕ) → any_own n procs ≡ false → q < n → (procs q).own ≡ false
-none_own zero procs q e h = absurd (omega arith)
-none_own (suc n) procs q e h = let k = or_parts (procs n).own (any_own n procs) e in ⊎_elim
-    (λ (same : n ≡ q). subst (λ (y : ℕ). (procs y).own ≡ false) same k.0)
-    (λ (ne : n ≢ q). none_own n procs q k.1 (omega arith))
+pub none_unlogged : (n : ℕ) (procs : ℕ → Status) (q : ℕ) → any_unlogged n procs ≡ false → q < n → (procs q).unlogged ≡ false
+none_unlogged zero procs q e h = absurd (omega arith)
+none_unlogged (suc n) procs q e h = let k = or_parts (procs n).unlogged (any_unlogged n procs) e in ⊎_elim
+    (λ (same : n ≡ q). subst (λ (y : ℕ). (procs y).unlogged ≡ false) same k.0)
+    (λ (ne : n ≢ q). none_unlogged n procs q k.1 (omega arith))
     (cases_eq n q)
 
 pub plain_visible : (e : Event) (a : Answer) → Sort e a → is_visible e ≡ true → is_plain a ≡ true

@@ -26,7 +26,7 @@ use Rattle.dc_recovery.specs.Turned.{Runs, RunsOr, TakesOr, Turned}
 use Rattle.std.proofs.lemmas.List.{length-drop}
 use Rattle.dc_recovery.proofs.Follows.{get_drop}
 
--- a message that is kept stands as many places earlier as were trimmed
+-- a message that is kept stands as many slots earlier as were trimmed
 get_kept : {X : Type 0} (xs : List X) (n i : ℕ) → n ≤ i → slice_get (drop n xs) (i - n) ≡ slice_get xs i
 get_kept xs n i h = get_drop xs n (i - n) ∙ (let e : n + (i - n) ≡ i = omega arith in ap (slice_get xs) e)
 

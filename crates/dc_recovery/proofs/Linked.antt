@@ -18,7 +18,7 @@ use Rattle.dc_recovery.proofs.Worlds.{all_up, here_running, oldest_kept, own_aft
 use Rattle.dc_recovery.specs.Answers.{is_blocked, replays, rule_at}
 use Rattle.dc_recovery.specs.Core.{Core, Status, learned, stands}
 use Rattle.dc_recovery.specs.Invariant.{Holds, LinksOk, Running, UpOk, front}
-use Rattle.dc_recovery.specs.Parts.{Place, fallen, first_as, left_as, passed, second_of, sets_own, torn_as, torn_log}
+use Rattle.dc_recovery.specs.Parts.{Place, fallen, first_as, left_as, passed, second_of, sets_unlogged, torn_as, torn_log}
 use Rattle.dc_recovery.specs.Parts.Place.{InAfter, InBefore, InEvent, InLog, Nowhere}
 use Rattle.dc_recovery.specs.Saves.{Logged}
 use Rattle.dc_recovery.specs.Systems.{IsSound, System}
@@ -70,11 +70,11 @@ module _ (lo hi : ℕ) where
 
 -- after a turn
 pub ends_left : (lo hi : ℕ) (f : Rule) (rep : Bool) (x : Logged) (n m : ℕ) (st : Status) (w : Place) → Between lo hi st → Ends lo (suc hi) (left_as f rep x n m st w)
-ends_left lo hi f rep x n m st Nowhere h = ends lo (suc hi) _ (between_first lo (suc hi) m f.after _ (between_passed lo hi rep (sets_own f.log rep x.answer) _ (between_second lo hi f.log x _ (between_first lo hi n f.before st h))))
+ends_left lo hi f rep x n m st Nowhere h = ends lo (suc hi) _ (between_first lo (suc hi) m f.after _ (between_passed lo hi rep (sets_unlogged f.log rep x.answer) _ (between_second lo hi f.log x _ (between_first lo hi n f.before st h))))
 ends_left lo hi f rep x n m st InBefore h = ends_more lo hi (torn_as n st) (ends_torn lo hi n st h)
 ends_left lo hi f rep x n m st InLog h = ends_more lo hi (torn_log x (first_as f.before n st)) (ends_log lo hi x (first_as f.before n st) (between_first lo hi n f.before st h))
 ends_left lo hi f rep x n m st InEvent h = ends_more lo hi (fallen (second_of f.log x (first_as f.before n st))) (ends_fallen lo hi _ (between_second lo hi f.log x _ (between_first lo hi n f.before st h)))
-ends_left lo hi f rep x n m st InAfter h = ends_torn lo (suc hi) m _ (between_passed lo hi rep (sets_own f.log rep x.answer) _ (between_second lo hi f.log x _ (between_first lo hi n f.before st h)))
+ends_left lo hi f rep x n m st InAfter h = ends_torn lo (suc hi) m _ (between_passed lo hi rep (sets_unlogged f.log rep x.answer) _ (between_second lo hi f.log x _ (between_first lo hi n f.before st h)))
 
 ends_torn_or : (lo hi : ℕ) (b : Bool) (n : ℕ) (st : Status) → Between lo hi st → Ends lo hi (torn_or b n st)
 ends_torn_or lo hi true n st h = ends_torn lo hi n st h

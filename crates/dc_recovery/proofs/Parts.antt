@@ -8,7 +8,7 @@ use Rattle.dc_protocols.specs.declared.protocol.Protocol.{Protocol}
 use Rattle.dc_protocols.specs.declared.protocol.Rule.{Rule}
 use Rattle.dc_recovery.proofs.Sorts.{beside, torn_or}
 use Rattle.dc_recovery.specs.Core.{Core, Status, Ties, numbers_of}
-use Rattle.dc_recovery.specs.Parts.{Company, Place, at_one, commit_if, commits_in, committed_as, each, fallen, first, first_as, is_with, left, left_as, log_if, logged, passed, second, second_of, sets_own, third, third_as, torn_as, torn_in, torn_log}
+use Rattle.dc_recovery.specs.Parts.{Company, Place, at_one, commit_if, commits_in, committed_as, each, fallen, first, first_as, is_with, left, left_as, log_if, logged, passed, second, second_of, sets_unlogged, third, third_as, torn_as, torn_in, torn_log}
 use Rattle.dc_recovery.specs.Parts.Place.{InAfter, InBefore, InEvent, InLog, Nowhere}
 use Rattle.dc_recovery.specs.Saves.{Logged}
 use Rattle.dc_recovery.specs.Systems.{System}
@@ -159,13 +159,13 @@ module _ (v : Company) (p : ℕ) (is : IsCompany p v) where
     second_self = log_self f.log x (first f v procs) ∙ ap (second_of f.log x) first_self
 
     third_self : third f rep x v p procs p ≡ third_as f rep x (v.numbers_before p) (procs p)
-    third_self = one_self (passed rep (sets_own f.log rep x.answer)) (second f x v p procs) ∙ ap (passed rep (sets_own f.log rep x.answer)) second_self
+    third_self = one_self (passed rep (sets_unlogged f.log rep x.answer)) (second f x v p procs) ∙ ap (passed rep (sets_unlogged f.log rep x.answer)) second_self
 
     second_other : (q : ℕ) → p ≢ q → second f x v p procs q ≡ first f v procs q
     second_other q ne = log_other f.log x (first f v procs) q ne
 
     third_other : (q : ℕ) → p ≢ q → third f rep x v p procs q ≡ first f v procs q
-    third_other q ne = one_other (passed rep (sets_own f.log rep x.answer)) (second f x v p procs) q ne ∙ second_other q ne
+    third_other q ne = one_other (passed rep (sets_unlogged f.log rep x.answer)) (second f x v p procs) q ne ∙ second_other q ne
 
     -- the process of the turn
     pub left_self : (w : Place) → left f rep x v p procs w p ≡ left_as f rep x (v.numbers_before p) (v.numbers_after p) (procs p) w

@@ -57,9 +57,9 @@ pub and_yes : (b : Bool) → (b && true) ≡ false → b ≡ false
 and_yes true e = e
 and_yes false e = e
 
-own_any : (own any : Bool) → (own ≡ true → any ≡ true) → (own && not any) ≡ false
-own_any true any h = rw (h refl) refl
-own_any false any h = refl
+unlogged_any : (own any : Bool) → (own ≡ true → any ≡ true) → (own && not any) ≡ false
+unlogged_any true any h = rw (h refl) refl
+unlogged_any false any h = refl
 
 -- the table's rows, for an event of one kind
 module _ (k : Kind) (s : Since) where
@@ -98,14 +98,14 @@ module _ (k : Kind) (s : Since) where
   no_before_replay CandLog x r = rw r (and_false (at_inputs k && s.full))
   no_before_replay Cpvs x r = x
   no_before_replay Cbndvs x r = rw x refl
-  no_before_replay CbndvsLog x r = rw (x, r) (and_false (at_inputs k && not s.own && s.full))
+  no_before_replay CbndvsLog x r = rw (x, r) (and_false (at_inputs k && not s.unlogged && s.full))
   no_before_replay Cpv2pc x r = (or_parts (at_visible k) _ x).0
   no_before_replay Cbndv2pc x r = rw (or_parts (at_visible k) _ x).0 refl
   no_before_replay Cbndv2pcCausal x r = rw (or_parts (at_visible k) _ x).0 refl
 
   pub no_log_replay : (pr : Protocol) → s.replay ≡ true → (row_of pr k s).log ≡ false
   no_log_replay CandLog r = rw r (and_false (at_inputs k))
-  no_log_replay CbndvsLog r = rw r (and_false (at_inputs k && not s.own))
+  no_log_replay CbndvsLog r = rw r (and_false (at_inputs k && not s.unlogged))
   no_log_replay Cand r = refl
   no_log_replay Cpvs r = refl
   no_log_replay Cbndvs r = refl
@@ -113,10 +113,10 @@ module _ (k : Kind) (s : Since) where
   no_log_replay Cbndv2pc r = refl
   no_log_replay Cbndv2pcCausal r = refl
 
-  -- what is logged is logged with own clear
-  pub log_facts : (pr : Protocol) → (is_cand pr ≡ true → s.own ≡ false) → (row_of pr k s).log ≡ true → (has_log pr ≡ true) × (s.own ≡ false)
+  -- what is logged is logged with no unlogged event
+  pub log_facts : (pr : Protocol) → (is_cand pr ≡ true → s.unlogged ≡ false) → (row_of pr k s).log ≡ true → (has_log pr ≡ true) × (s.unlogged ≡ false)
   log_facts CandLog cand e = (refl, cand refl)
-  log_facts CbndvsLog cand e = (refl, not-true s.own (and_parts (at_inputs k) (not s.own) (and_parts (at_inputs k && not s.own) _ e).0).1)
+  log_facts CbndvsLog cand e = (refl, not-true s.unlogged (and_parts (at_inputs k) (not s.unlogged) (and_parts (at_inputs k && not s.unlogged) _ e).0).1)
   log_facts Cand cand e = absurd (true≢false (sym e))
   log_facts Cpvs cand e = absurd (true≢false (sym e))
   log_facts Cbndvs cand e = absurd (true≢false (sym e))
@@ -124,17 +124,17 @@ module _ (k : Kind) (s : Since) where
   log_facts Cbndv2pc cand e = absurd (true≢false (sym e))
   log_facts Cbndv2pcCausal cand e = absurd (true≢false (sym e))
 
-  -- after the commit before, own is clear at what is exposed
-  pub exposed_clear : (pr : Protocol) → (is_cand pr ≡ true → s.own ≡ false) → (s.own ≡ true → s.any ≡ true)
-      → (is_joint pr ≡ false → at_outputs k ≡ true) → (is_joint pr ≡ true → at_visible k ≡ true) → (s.own && not (row_of pr k s).before) ≡ false
+  -- after the commit before, the mark of an unlogged event is clear at what is exposed
+  pub exposed_clear : (pr : Protocol) → (is_cand pr ≡ true → s.unlogged ≡ false) → (s.unlogged ≡ true → s.any ≡ true)
+      → (is_joint pr ≡ false → at_outputs k ≡ true) → (is_joint pr ≡ true → at_visible k ≡ true) → (s.unlogged && not (row_of pr k s).before) ≡ false
   exposed_clear Cand cand any out vis = rw (cand refl) refl
   exposed_clear CandLog cand any out vis = rw (cand refl) refl
-  exposed_clear Cpvs cand any out vis = rw (out refl) (and_false s.own)
-  exposed_clear Cbndvs cand any out vis = rw (out refl) (and_not s.own)
-  exposed_clear CbndvsLog cand any out vis = rw (out refl) (and_not_or s.own _)
-  exposed_clear Cpv2pc cand any out vis = rw (vis refl) (and_false s.own)
-  exposed_clear Cbndv2pc cand any out vis = rw (vis refl) (own_any s.own s.any any)
-  exposed_clear Cbndv2pcCausal cand any out vis = rw (vis refl) (own_any s.own s.any any)
+  exposed_clear Cpvs cand any out vis = rw (out refl) (and_false s.unlogged)
+  exposed_clear Cbndvs cand any out vis = rw (out refl) (and_not s.unlogged)
+  exposed_clear CbndvsLog cand any out vis = rw (out refl) (and_not_or s.unlogged _)
+  exposed_clear Cpv2pc cand any out vis = rw (vis refl) (and_false s.unlogged)
+  exposed_clear Cbndv2pc cand any out vis = rw (vis refl) (unlogged_any s.unlogged s.any any)
+  exposed_clear Cbndv2pcCausal cand any out vis = rw (vis refl) (unlogged_any s.unlogged s.any any)
 
   -- and no process has any, where all commit together
   pub visible_clear : (pr : Protocol) → is_joint pr ≡ true → at_visible k ≡ true → (row_of pr k s).before ≡ false → s.any ≡ false
@@ -195,7 +195,7 @@ module _ (k : Kind) (s : Since) where
 
   pub log_unseen : (pr : Protocol) → (row_of pr k s).log ≡ true → at_inputs k ≡ true
   log_unseen CandLog e = (and_parts (at_inputs k) _ e).0
-  log_unseen CbndvsLog e = (and_parts (at_inputs k) (not s.own) (and_parts (at_inputs k && not s.own) _ e).0).0
+  log_unseen CbndvsLog e = (and_parts (at_inputs k) (not s.unlogged) (and_parts (at_inputs k && not s.unlogged) _ e).0).0
   log_unseen Cand e = absurd (true≢false (sym e))
   log_unseen Cpvs e = absurd (true≢false (sym e))
   log_unseen Cbndvs e = absurd (true≢false (sym e))
@@ -226,7 +226,7 @@ idle e [] h a = refl
 idle e (x ∷ es) h a = absurd (true≢false (sym (sym (ap (λ (b : Bool). not (b && true)) a) ∙ h)))
 
 -- a commit before has nothing left to read
-pub early_read : (pr : Protocol) (room : ℕ) (e : Event) (st : Status) (any many : Bool) → (has_log pr ≡ false → st.unread ≡ []) → (st.own ≡ true → st.unread ≡ [])
+pub early_read : (pr : Protocol) (room : ℕ) (e : Event) (st : Status) (any many : Bool) → (has_log pr ≡ false → st.unread ≡ []) → (st.unlogged ≡ true → st.unread ≡ [])
     → (row_of pr (kind_at e) (since room e st any many)).before ≡ true → st.unread ≡ []
 early_read Cand room e st any many none sure on = absurd (true≢false (sym on))
 early_read Cpvs room e st any many none sure on = none refl
@@ -237,7 +237,7 @@ early_read Cbndv2pcCausal room e st any many none sure on = none refl
 early_read CandLog room e st any many none sure on = let k = and_parts (at_inputs (kind_at e) && is_full room st.newer) _ on in
     idle e st.unread k.1 (sym (inputs_are e) ∙ (and_parts (at_inputs (kind_at e)) (is_full room st.newer) k.0).0)
 early_read CbndvsLog room e st any many none sure on = ⊎_elim
-    (λ h. sure (and_parts (at_outputs (kind_at e)) st.own h).1)
-    (λ h. let k = and_parts (at_inputs (kind_at e) && not st.own && is_full room st.newer) _ h in
-    idle e st.unread k.1 (sym (inputs_are e) ∙ (and_parts (at_inputs (kind_at e)) (not st.own) (and_parts (at_inputs (kind_at e) && not st.own) (is_full room st.newer) k.0).0).0))
+    (λ h. sure (and_parts (at_outputs (kind_at e)) st.unlogged h).1)
+    (λ h. let k = and_parts (at_inputs (kind_at e) && not st.unlogged && is_full room st.newer) _ h in
+    idle e st.unread k.1 (sym (inputs_are e) ∙ (and_parts (at_inputs (kind_at e)) (not st.unlogged) (and_parts (at_inputs (kind_at e) && not st.unlogged) (is_full room st.newer) k.0).0).0))
     (or_cases _ _ on)

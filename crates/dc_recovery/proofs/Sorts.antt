@@ -89,17 +89,17 @@ pub second_older : (l : Bool) (x : Logged) (st : Status) → (second_of l x st).
 second_older true x st = refl
 second_older false x st = refl
 
-second_own : (l : Bool) (x : Logged) (st : Status) → (second_of l x st).own ≡ st.own
-second_own true x st = refl
-second_own false x st = refl
+second_unlogged : (l : Bool) (x : Logged) (st : Status) → (second_of l x st).unlogged ≡ st.unlogged
+second_unlogged true x st = refl
+second_unlogged false x st = refl
 
 pub second_unread : (l : Bool) (x : Logged) (st : Status) → (second_of l x st).unread ≡ st.unread
 second_unread true x st = refl
 second_unread false x st = refl
 
-pub first_own : (b : Bool) (n : ℕ) (st : Status) → st.own ≡ false → (first_as b n st).own ≡ false
-first_own true n st e = refl
-first_own false n st e = e
+pub first_unlogged : (b : Bool) (n : ℕ) (st : Status) → st.unlogged ≡ false → (first_as b n st).unlogged ≡ false
+first_unlogged true n st e = refl
+first_unlogged false n st e = e
 
 pub first_unread : (b : Bool) (n : ℕ) (st : Status) → st.unread ≡ [] → (first_as b n st).unread ≡ []
 first_unread true n st e = refl

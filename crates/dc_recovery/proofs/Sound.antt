@@ -33,8 +33,8 @@ module _ (pr : Protocol) where
       (λ (g : is_joint pr ≡ false). sym (exposed_as false g e) ∙ h)
       (cases_Bool (is_joint pr))
 
-  clear_is : (e : Event) (since : Since) → exposed_under pr e ≡ true → (is_cand pr ≡ true → since.own ≡ false) → (since.own ≡ true → since.any ≡ true)
-      → (since.own && not (rule_of pr (kind_at e) since).before) ≡ false
+  clear_is : (e : Event) (since : Since) → exposed_under pr e ≡ true → (is_cand pr ≡ true → since.unlogged ≡ false) → (since.unlogged ≡ true → since.any ≡ true)
+      → (since.unlogged && not (rule_of pr (kind_at e) since).before) ≡ false
   clear_is e since h cand any = exposed_clear (kind_at e) since pr cand any
       (λ alone. outputs_are e (sym (exposed_as false alone e) ∙ h))
       (λ g. visibles_are e ∙ sym (exposed_as true g e) ∙ h)

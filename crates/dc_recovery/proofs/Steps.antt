@@ -16,7 +16,7 @@ use Rattle.dc_recovery.proofs.Spans.{noted_plain, noted_told, oldest_next, recei
 use Rattle.dc_recovery.specs.Answers.{answer, makes_most}
 use Rattle.dc_recovery.specs.Core.{Status}
 use Rattle.dc_recovery.specs.Invariant.{AllCanLog, FewOk, IsFew, SaveOk, UpOk, can_log}
-use Rattle.dc_recovery.specs.Parts.{committed_as, first_as, logged, passed, save_as, second_of, sets_own, third_as, torn_as, torn_log, with_record}
+use Rattle.dc_recovery.specs.Parts.{committed_as, first_as, logged, passed, save_as, second_of, sets_unlogged, third_as, torn_as, torn_log, with_record}
 use Rattle.dc_recovery.specs.Saves.{Logged, answer_at, logged_at, logged_if, span}
 use Rattle.dc_recovery.specs.Systems.{IsSound, System}
 use Rattle.dc_recovery.proofs.Sorts.{IsAnswer, grown, grown_new, grown_old, second_at, second_older, took_small}
@@ -67,14 +67,14 @@ module _ {Mc : Type 0} (S : System Mc) (sound : IsSound S) where
           within = h;
           from = let k = up.from in omega arith;
           rest = sym same ∙ up.rest;
-          clear = λ own. up.clear (sym (or_none st.own) ∙ own);
-          sure = λ own. up.sure (sym (or_none st.own) ∙ own);
+          clear = λ own. up.clear (sym (or_none st.unlogged) ∙ own);
+          sure = λ own. up.sure (sym (or_none st.unlogged) ∙ own);
           can_log = up.can_log;
           no_log = up.no_log;
         }
 
     -- a plain act that is new
-    plain_new : FewOk S p ds st → st.position ≡ length ds → is_plain a ≡ true → (S.exposes (comes S.guests (local S.guests p ds) a) ≡ true → st.own ≡ false) → UpOk S p (a ∷ ds) (passed false false st)
+    plain_new : FewOk S p ds st → st.position ≡ length ds → is_plain a ≡ true → (S.exposes (comes S.guests (local S.guests p ds) a) ≡ true → st.unlogged ≡ false) → UpOk S p (a ∷ ds) (passed false false st)
     plain_new few h plain exposed =
         let none : st.unread ≡ [] = sym up.rest ∙ span_none (logged_at ds) st.position (length ds) (omega arith) in record {
           one = up.one;
@@ -85,7 +85,7 @@ module _ {Mc : Type 0} (S : System Mc) (sound : IsSound S) where
           within = omega arith;
           from = let k = up.from in omega arith;
           rest = span_none (logged_at (a ∷ ds)) (suc st.position) (suc (length ds)) (omega arith) ∙ sym none;
-          clear = λ own. rw (span_more a ds st.older.position up.save.within, noted_plain (length ds) a plain) (append-nil _ ∙ up.clear (sym (or_none st.own) ∙ own));
+          clear = λ own. rw (span_more a ds st.older.position up.save.within, noted_plain (length ds) a plain) (append-nil _ ∙ up.clear (sym (or_none st.unlogged) ∙ own));
           sure = λ _. none;
           can_log = up.can_log;
           no_log = up.no_log;
@@ -100,14 +100,14 @@ module _ {Mc : Type 0} (S : System Mc) (sound : IsSound S) where
           within = h;
           from = let k = up.from in omega arith;
           rest = rw all refl;
-          clear = λ own. up.clear (sym (or_none st.own) ∙ own);
-          sure = λ own. let none : st.unread ≡ [] = up.sure (sym (or_none st.own) ∙ own) in rw none refl;
+          clear = λ own. up.clear (sym (or_none st.unlogged) ∙ own);
+          sure = λ own. let none : st.unread ≡ [] = up.sure (sym (or_none st.unlogged) ∙ own) in rw none refl;
           can_log = let k : AllCanLog (record { position = st.position; answer = a } ∷ span (logged_at ds) (suc st.position) (length ds)) = subst AllCanLog all up.can_log in rw all k.1;
           no_log = λ off. let none : st.unread ≡ [] = up.no_log off in rw none refl;
         }
 
     -- a told act that is new and logged
-    told_logged : FewOk S p ds st → st.position ≡ length ds → is_plain a ≡ false → can_log a ≡ true → has_log S.protocol ≡ true → st.own ≡ false → UpOk S p (a ∷ ds) (passed false false (logged (record { position = st.position; answer = a }) st))
+    told_logged : FewOk S p ds st → st.position ≡ length ds → is_plain a ≡ false → can_log a ≡ true → has_log S.protocol ≡ true → st.unlogged ≡ false → UpOk S p (a ∷ ds) (passed false false (logged (record { position = st.position; answer = a }) st))
     told_logged few h told asking has own =
         let none : st.unread ≡ [] = sym up.rest ∙ span_none (logged_at ds) st.position (length ds) (omega arith) in record {
           one = ap (with_record (record { position = st.position; answer = a })) up.one;
@@ -130,7 +130,7 @@ module _ {Mc : Type 0} (S : System Mc) (sound : IsSound S) where
           within = omega arith;
           from = let k = up.from in omega arith;
           rest = span_none (logged_at (a ∷ ds)) (suc st.position) (suc (length ds)) (omega arith) ∙ sym none;
-          clear = λ own. absurd (true≢false (or_true st.own ∙ own));
+          clear = λ own. absurd (true≢false (or_true st.unlogged ∙ own));
           sure = λ _. none;
           can_log = up.can_log;
           no_log = up.no_log;
@@ -145,7 +145,7 @@ module _ {Mc : Type 0} (S : System Mc) (sound : IsSound S) where
     pub early : f.before ≡ true → st.unread ≡ []
     pub third : UpOk S p (grown st.position ds a) (third_as f rep (record { position = st.position; answer = a }) n st)
     pub late : f.after ≡ true → (third_as f rep (record { position = st.position; answer = a }) n st).unread ≡ []
-    pub cand : is_cand S.protocol ≡ true → f.after ≡ false → (third_as f rep (record { position = st.position; answer = a }) n st).own ≡ false
+    pub cand : is_cand S.protocol ≡ true → f.after ≡ false → (third_as f rep (record { position = st.position; answer = a }) n st).unlogged ≡ false
     pub few : f.after ≡ false → FewOk S p (grown st.position ds a) (third_as f rep (record { position = st.position; answer = a }) n st)
     pub log : f.log ≡ true → SavesOk p (grown st.position ds a) (torn_log (record { position = st.position; answer = a }) (first_as f.before n st))
 
@@ -158,14 +158,14 @@ module _ {Mc : Type 0} (S : System Mc) (sound : IsSound S) where
     up_first true h = up_commit n p ds st up (h refl)
     up_first false h = up
 
-    pub sure_turn : (b : Bool) → (b ≡ true → st.unread ≡ []) → is_plain a ≡ true → (st.position ≡ length ds → S.exposes (comes S.guests (local S.guests p ds) a) ≡ true → (st.own && not b) ≡ false) → IsAnswer st.position ds a → UpOk S p (grown st.position ds a) (passed false false (first_as b n st))
+    pub sure_turn : (b : Bool) → (b ≡ true → st.unread ≡ []) → is_plain a ≡ true → (st.position ≡ length ds → S.exposes (comes S.guests (local S.guests p ds) a) ≡ true → (st.unlogged && not b) ≡ false) → IsAnswer st.position ds a → UpOk S p (grown st.position ds a) (passed false false (first_as b n st))
     sure_turn true h plain exposed answer = ⊎_elim
         (λ there. rw (grown_old st.position ds a there.0) (plain_again p ds (committed_as n st) a (up_first true h) there.0 there.1 plain))
         (λ last. rw (grown_new st.position ds a last) (plain_new p ds (committed_as n st) a (up_first true h) (few_first true h) last plain (λ _. refl)))
         answer
     sure_turn false h plain exposed answer = ⊎_elim
         (λ there. rw (grown_old st.position ds a there.0) (plain_again p ds st a up there.0 there.1 plain))
-        (λ last. rw (grown_new st.position ds a last) (plain_new p ds st a up few last plain (λ e. and_yes st.own (exposed last e))))
+        (λ last. rw (grown_new st.position ds a last) (plain_new p ds st a up few last plain (λ e. and_yes st.unlogged (exposed last e))))
         answer
 
     -- a told act that nothing unread answers is new
@@ -186,13 +186,13 @@ module _ {Mc : Type 0} (S : System Mc) (sound : IsSound S) where
     pub last_is_read : st.position ≡ length ds → st.unread ≡ []
     last_is_read h = sym up.rest ∙ span_none (logged_at ds) st.position (length ds) (omega arith)
 
-    pub asking_new : (b l : Bool) → st.position ≡ length ds → is_plain a ≡ false → can_log a ≡ true → exposed S sound (comes S.guests (local S.guests p ds) a) ≡ false → (l ≡ true → (has_log S.protocol ≡ true) × (st.own ≡ false)) → UpOk S p (grown st.position ds a) (passed false (sets_own l false a) (second_of l (record { position = st.position; answer = a }) (first_as b n st)))
+    pub asking_new : (b l : Bool) → st.position ≡ length ds → is_plain a ≡ false → can_log a ≡ true → exposed S sound (comes S.guests (local S.guests p ds) a) ≡ false → (l ≡ true → (has_log S.protocol ≡ true) × (st.unlogged ≡ false)) → UpOk S p (grown st.position ds a) (passed false (sets_unlogged l false a) (second_of l (record { position = st.position; answer = a }) (first_as b n st)))
     asking_new true true last told asking hidden facts = rw (grown_new st.position ds a last, told) (told_logged p ds (committed_as n st) a (up_first true (λ _. last_is_read last)) (few_first true (λ _. last_is_read last)) last told asking (facts refl).0 refl)
     asking_new true false last told asking hidden facts = rw (grown_new st.position ds a last, told) (told_new p ds (committed_as n st) a (up_first true (λ _. last_is_read last)) last hidden)
     asking_new false true last told asking hidden facts = rw (grown_new st.position ds a last, told) (told_logged p ds st a up few last told asking (facts refl).0 (facts refl).1)
     asking_new false false last told asking hidden facts = rw (grown_new st.position ds a last, told) (told_new p ds st a up last hidden)
 
-    pub asking_log : (b : Bool) → st.position ≡ length ds → is_plain a ≡ false → can_log a ≡ true → exposed S sound (comes S.guests (local S.guests p ds) a) ≡ false → (has_log S.protocol ≡ true) × (st.own ≡ false) → SavesOk p (grown st.position ds a) (torn_log (record { position = st.position; answer = a }) (first_as b n st))
+    pub asking_log : (b : Bool) → st.position ≡ length ds → is_plain a ≡ false → can_log a ≡ true → exposed S sound (comes S.guests (local S.guests p ds) a) ≡ false → (has_log S.protocol ≡ true) × (st.unlogged ≡ false) → SavesOk p (grown st.position ds a) (torn_log (record { position = st.position; answer = a }) (first_as b n st))
     asking_log true last told asking hidden facts = let one = up_first true (λ _. last_is_read last) in rw (grown_new st.position ds a last)
         (save_hidden S sound p a ds (save_as n st) hidden one.save, (told_logged p ds (committed_as n st) a one (few_first true (λ _. last_is_read last)) last told asking facts.0 refl).save, omega arith)
     asking_log false last told asking hidden facts = rw (grown_new st.position ds a last, up.one)

@@ -13,25 +13,25 @@ use Rattle.dc_recovery.proofs.Spans.{act_there, noted_told, span_none}
 use Rattle.dc_recovery.specs.Answers.{makes_most, replays, since}
 use Rattle.dc_recovery.specs.Core.{Status}
 use Rattle.dc_recovery.specs.Invariant.{Behind, FewOk, Running, UpOk, can_log}
-use Rattle.dc_recovery.specs.Parts.{Place, committed_as, first_as, left_as, sets_own}
+use Rattle.dc_recovery.specs.Parts.{Place, committed_as, first_as, left_as, sets_unlogged}
 use Rattle.dc_recovery.specs.Parts.Place.{InAfter, InBefore, InEvent, InLog, Nowhere}
 use Rattle.dc_recovery.specs.Saves.{Logged, answer_at, is_empty_log, logged_at, span}
 use Rattle.dc_recovery.specs.Systems.{IsSound, System, is_output, kind_at}
 use Rattle.dc_recovery.specs.Turned.{has_act}
-use Rattle.dc_recovery.proofs.Sorts.{IsAnswer, Sort, beside, empty_is, first_own, first_unread, grown, grown_new, grown_old, hidden_any, outputs_hidden, plain_no_log, second_unread, torn_or}
+use Rattle.dc_recovery.proofs.Sorts.{IsAnswer, Sort, beside, empty_is, first_unlogged, first_unread, grown, grown_new, grown_old, hidden_any, outputs_hidden, plain_no_log, second_unread, torn_or}
 use Rattle.dc_recovery.proofs.Steps.{PartsOk, SavesOk, asking_log, asking_new, chance_is_last, each_torn, each_up, few_commit, few_first, few_third, last_is_read, most_last, not_most, or_false, rest_told, rule_is, sure_turn, told_again, told_is_last, told_new, up_commit, up_first}
 use Rattle.dc_recovery.proofs.Sorts.Sort.{Sure, Asking, Chance}
 
 module _ {Mc : Type 0} (S : System Mc) (sound : IsSound S)
-    (n p : ℕ) (ds : List Answer) (st : Status) (a : Answer) (up : UpOk S p ds st) (few : FewOk S p ds st) (cand : is_cand S.protocol ≡ true → st.own ≡ false) (answer : IsAnswer st.position ds a) where
-  parts_sure : (b : Bool) → (b ≡ true → st.unread ≡ []) → (st.position ≡ length ds → S.exposes (comes S.guests (local S.guests p ds) a) ≡ true → (st.own && not b) ≡ false) → is_plain a ≡ true
+    (n p : ℕ) (ds : List Answer) (st : Status) (a : Answer) (up : UpOk S p ds st) (few : FewOk S p ds st) (cand : is_cand S.protocol ≡ true → st.unlogged ≡ false) (answer : IsAnswer st.position ds a) where
+  parts_sure : (b : Bool) → (b ≡ true → st.unread ≡ []) → (st.position ≡ length ds → S.exposes (comes S.guests (local S.guests p ds) a) ≡ true → (st.unlogged && not b) ≡ false) → is_plain a ≡ true
       → PartsOk S sound n p ds st a (record { before = b; log = false; after = false }) false
   parts_sure b early clear plain = record {
     early = early;
     third = rw plain (sure_turn S sound n p ds st a up few b early plain clear answer);
     late = λ e. absurd (true≢false (sym e));
-    few = λ _. few_third S sound n p ds st a up few answer b false false (sets_own false false a) early (ap (λ (x : Bool). x && not b) (not_most S sound p ds st a (plain_no_log a plain)));
-    cand = λ c _. rw (plain, first_own b n st (cand c)) refl;
+    few = λ _. few_third S sound n p ds st a up few answer b false false (sets_unlogged false false a) early (ap (λ (x : Bool). x && not b) (not_most S sound p ds st a (plain_no_log a plain)));
+    cand = λ c _. rw (plain, first_unlogged b n st (cand c)) refl;
     log = λ e. absurd (true≢false (sym e));
   }
 
@@ -41,13 +41,13 @@ module _ {Mc : Type 0} (S : System Mc) (sound : IsSound S)
     early = λ e. absurd (true≢false (sym e));
     third = rw (grown_new st.position ds a last, told) (told_new S sound p ds st a up last (hidden last));
     late = λ _. last_is_read S sound n p ds st a up few last;
-    few = λ _. few_third S sound n p ds st a up few answer false false false (sets_own false false a) (λ e. absurd (true≢false (sym e))) (ap (λ (x : Bool). x && true) (not_most S sound p ds st a can));
+    few = λ _. few_third S sound n p ds st a up few answer false false false (sets_unlogged false false a) (λ e. absurd (true≢false (sym e))) (ap (λ (x : Bool). x && true) (not_most S sound p ds st a can));
     cand = λ c e. absurd (true≢false (sym (must c) ∙ e));
     log = λ e. absurd (true≢false (sym e));
   }
 
   -- asked, with nothing left to read
-  parts_asking : (b l af : Bool) → (l ≡ true → (has_log S.protocol ≡ true) × (st.own ≡ false)) → (is_cand S.protocol ≡ true → af ≡ false → l ≡ true) → (af ≡ false → (makes_most S p ds st a && not b) ≡ false)
+  parts_asking : (b l af : Bool) → (l ≡ true → (has_log S.protocol ≡ true) × (st.unlogged ≡ false)) → (is_cand S.protocol ≡ true → af ≡ false → l ≡ true) → (af ≡ false → (makes_most S p ds st a && not b) ≡ false)
       → is_plain a ≡ false → can_log a ≡ true → (st.position ≡ length ds → exposed S sound (comes S.guests (local S.guests p ds) a) ≡ false) → st.unread ≡ []
       → PartsOk S sound n p ds st a (record { before = b; log = l; after = af }) false
   parts_asking b l af facts must full told can hidden none =
@@ -55,8 +55,8 @@ module _ {Mc : Type 0} (S : System Mc) (sound : IsSound S)
         early = λ _. none;
         third = asking_new S sound n p ds st a up few b l last told can (hidden last) facts;
         late = λ _. rw (second_unread l (record { position = st.position; answer = a }) (first_as b n st)) (first_unread b n st none);
-        few = λ e. few_third S sound n p ds st a up few answer b l false (sets_own l false a) (λ _. none) (full e);
-        cand = λ c e. rw (must c e) (rw (told, first_own b n st (cand c)) refl);
+        few = λ e. few_third S sound n p ds st a up few answer b l false (sets_unlogged l false a) (λ _. none) (full e);
+        cand = λ c e. rw (must c e) (rw (told, first_unlogged b n st (cand c)) refl);
         log = λ e. asking_log S sound n p ds st a up few b last told can (hidden last) (facts e);
       }
 
@@ -77,12 +77,12 @@ module _ {Mc : Type 0} (S : System Mc) (sound : IsSound S)
         (λ last. absurd (some (last_is_read S sound n p ds st a up few last)))
         answer)
         (when e);
-    few = λ e. few_third S sound n p ds st a up few answer false false true (sets_own false true a) (λ x. absurd (true≢false (sym x))) (rw (full e) refl);
+    few = λ e. few_third S sound n p ds st a up few answer false false true (sets_unlogged false true a) (λ x. absurd (true≢false (sym x))) (rw (full e) refl);
     cand = λ c _. rw (told, cand c) refl;
     log = λ e. absurd (true≢false (sym e));
   }
 
-  module _ (e : Event) (any : Bool) (own_any : st.own ≡ true → any ≡ true) (here : st.position ≡ length ds → comes S.guests (local S.guests p ds) a ≡ e) where
+  module _ (e : Event) (any : Bool) (unlogged_any : st.unlogged ≡ true → any ≡ true) (here : st.position ≡ length ds → comes S.guests (local S.guests p ds) a ≡ e) where
     abbrev row : Rule
     row = row_of S.protocol (kind_at e) (since S.log_room e st any (makes_most S p ds st a))
 
@@ -92,8 +92,8 @@ module _ {Mc : Type 0} (S : System Mc) (sound : IsSound S)
     row_early : row.before ≡ true → st.unread ≡ []
     row_early on = early_read S.protocol S.log_room e st any (makes_most S p ds st a) up.no_log up.sure on
 
-    row_clear : S.exposes e ≡ true → (st.own && not row.before) ≡ false
-    row_clear x = sound.clear e (since S.log_room e st any (makes_most S p ds st a)) x cand own_any
+    row_clear : S.exposes e ≡ true → (st.unlogged && not row.before) ≡ false
+    row_clear x = sound.clear e (since S.log_room e st any (makes_most S p ds st a)) x cand unlogged_any
 
     no_log_here : is_request e ≡ false → rule.log ≡ false
     no_log_here ask = no_log_sure (kind_at e) (since S.log_room e st any (makes_most S p ds st a)) S.protocol (inputs_are e ∙ ask)
@@ -147,10 +147,10 @@ module _ {Mc : Type 0} (S : System Mc) (sound : IsSound S) where
   pub down_from : (p : ℕ) (xs : List Answer) (st : Status) → SavesOk S sound p xs st → st.up ≡ false → Behind S p xs st
   down_from p xs st saves off = record { older = saves.0; newer = saves.1; order = saves.2; running = λ e. absurd (true≢false (sym e ∙ off)) }
 
-  pub up_from : (p : ℕ) (xs : List Answer) (st : Status) → UpOk S p xs st → (is_cand S.protocol ≡ true → st.own ≡ false) → FewOk S p xs st → Behind S p xs st
+  pub up_from : (p : ℕ) (xs : List Answer) (st : Status) → UpOk S p xs st → (is_cand S.protocol ≡ true → st.unlogged ≡ false) → FewOk S p xs st → Behind S p xs st
   up_from p xs st u cand few = let saves = each_up S sound p xs st u in record { older = saves.0; newer = saves.1; order = saves.2; running = λ _. record { ok = u; cand = cand; few = few } }
 
-  behind_last : (n p : ℕ) (af : Bool) (xs : List Answer) (s : Status) → UpOk S p xs s → (af ≡ true → s.unread ≡ []) → (is_cand S.protocol ≡ true → af ≡ false → s.own ≡ false) → (af ≡ false → FewOk S p xs s) → Behind S p xs (first_as af n s)
+  behind_last : (n p : ℕ) (af : Bool) (xs : List Answer) (s : Status) → UpOk S p xs s → (af ≡ true → s.unread ≡ []) → (is_cand S.protocol ≡ true → af ≡ false → s.unlogged ≡ false) → (af ≡ false → FewOk S p xs s) → Behind S p xs (first_as af n s)
   behind_last n p true xs s u late cand few = up_from p xs (committed_as n s) (up_commit S sound n p xs s u (late refl)) (λ _. refl) (few_commit S sound n p xs s u (late refl))
   behind_last n p false xs s u late cand few = up_from p xs s u (λ c. cand c refl) (few refl)
 
@@ -170,13 +170,13 @@ module _ {Mc : Type 0} (S : System Mc) (sound : IsSound S) where
       let b : Bool = f.before && before in
       let up1 : UpOk S p ds (first_as b n st) = up_first S sound n p ds st Plain run.ok run.few b (λ _. none) in
       let none1 : (first_as b n st).unread ≡ [] = first_unread b n st none in
-      by_place w up1 none1 (λ c. first_own b n st (run.cand c)) (few_first S sound n p ds st Plain run.ok run.few b (λ _. none))
+      by_place w up1 none1 (λ c. first_unlogged b n st (run.cand c)) (few_first S sound n p ds st Plain run.ok run.few b (λ _. none))
     where
       torn_by : (k : ℕ) (c : Bool) (s : Status) → UpOk S p ds s → s.unread ≡ [] → Behind S p ds (torn_or c k s)
       torn_by k true s u none = down_from p ds _ (each_torn S sound k p ds s u none) refl
       torn_by k false s u none = down_from p ds _ (each_up S sound p ds s u) refl
 
-      by_place : (w : Place) → UpOk S p ds (first_as (f.before && before) n st) → (first_as (f.before && before) n st).unread ≡ [] → (is_cand S.protocol ≡ true → (first_as (f.before && before) n st).own ≡ false) → FewOk S p ds (first_as (f.before && before) n st) → Behind S p ds (beside f before after n m st w)
+      by_place : (w : Place) → UpOk S p ds (first_as (f.before && before) n st) → (first_as (f.before && before) n st).unread ≡ [] → (is_cand S.protocol ≡ true → (first_as (f.before && before) n st).unlogged ≡ false) → FewOk S p ds (first_as (f.before && before) n st) → Behind S p ds (beside f before after n m st w)
       by_place Nowhere up1 none1 cand1 few1 = behind_last m p (f.after && after) ds (first_as (f.before && before) n st) up1 (λ _. none1) (λ c _. cand1 c) (λ _. few1)
       by_place InBefore up1 none1 cand1 few1 = torn_by n before st run.ok none
       by_place InLog up1 none1 cand1 few1 = up_from p ds _ up1 cand1 few1

@@ -16,7 +16,7 @@ use Rattle.dc_recovery.specs.Systems.{System, kind_at}
 abbrev pub drawn_answer : {Mc : Type 0} → Guests Mc → Core → ℕ → ℕ → ℕ → Event → Answer
 drawn_answer G c p word clock AtClock = Clock clock
 drawn_answer G c p word clock AtRandom = Random word
-drawn_answer G c p word clock AtInput = if word % 2 == 1 then input_answer (slice_get (G.inputs p) (stands G c p).place) else InputNone
+drawn_answer G c p word clock AtInput = if word % 2 == 1 then input_answer (slice_get (G.inputs p) (stands G c p).inputs_taken) else InputNone
 drawn_answer G c p word clock AtReceive = let s = word % (G.count + 1) in
     if s == G.count || (s == p || not (c.procs s).up) then ReceiveNone else receive_answer s (slice_get ((stands G c s).sent p) ((stands G c p).received s))
 drawn_answer G c p word clock _ = Plain
@@ -62,9 +62,9 @@ makes_most S p answers st (ReceiveFrom s message) = (at_position S.guests p st.p
 makes_most S p answers st _ = false
 
 -- some process below n had an unlogged nondeterministic event since the last commit
-abbrev pub any_own : ℕ → (ℕ → Status) → Bool
-any_own zero procs = false
-any_own (suc n) procs = (procs n).own || any_own n procs
+abbrev pub any_unlogged : ℕ → (ℕ → Status) → Bool
+any_unlogged zero procs = false
+any_unlogged (suc n) procs = (procs n).unlogged || any_unlogged n procs
 
 -- some process below n is one of these
 abbrev pub any_of : ℕ → (ℕ → Bool) → Bool
@@ -73,11 +73,11 @@ any_of (suc n) test = test n || any_of n test
 
 -- some unlogged nondeterministic event since the last commit matters to p: any at all, or, where only those commit that matter, one on which p depends
 abbrev pub any_at : {Mc : Type 0} → System Mc → Core → ℕ → Bool
-any_at S c p = if is_causal S.protocol then any_of S.guests.count (c.ties.on p) else any_own S.guests.count c.procs
+any_at S c p = if is_causal S.protocol then any_of S.guests.count (c.ties.on p) else any_unlogged S.guests.count c.procs
 
 -- what an event finds
 abbrev pub since : ℕ → Event → Status → Bool → Bool → Since
-since room e st any most = record { own = st.own; any = any; full = is_full room st.newer; eighth = most; replay = replays e st }
+since room e st any most = record { unlogged = st.unlogged; any = any; full = is_full room st.newer; eighth = most; replay = replays e st }
 
 -- what the protocol asks at the event that comes where p stands
 abbrev pub rule_at : {Mc : Type 0} → System Mc → Core → ℕ → Answer → Rule

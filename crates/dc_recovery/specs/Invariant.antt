@@ -46,8 +46,8 @@ pub record UpOk {Mc : Type 0} (S : System Mc) (p : ℕ) (answers : List Answer) 
   pub within : st.position ≤ length answers
   pub from : st.older.position ≤ st.position
   pub rest : span (logged_at answers) st.position (length answers) ≡ st.unread
-  pub clear : st.own ≡ false → span (logged_at answers) st.older.position (length answers) ≡ st.older.log
-  pub sure : st.own ≡ true → st.unread ≡ []
+  pub clear : st.unlogged ≡ false → span (logged_at answers) st.older.position (length answers) ≡ st.older.log
+  pub sure : st.unlogged ≡ true → st.unread ≡ []
   pub can_log : AllCanLog st.unread
   pub no_log : has_log S.protocol ≡ false → st.unread ≡ []
 
@@ -58,7 +58,7 @@ FewOk S p answers st = (j : ℕ) → (j ≤ st.position) ⊎ (j < length answers
 -- a process that is up, between two entries
 pub record Running {Mc : Type 0} (S : System Mc) (p : ℕ) (answers : List Answer) (st : Status) : Type 0 where
   pub ok : UpOk S p answers st
-  pub cand : is_cand S.protocol ≡ true → st.own ≡ false
+  pub cand : is_cand S.protocol ≡ true → st.unlogged ≡ false
   pub few : FewOk S p answers st
 
 -- what lies behind one process
@@ -76,9 +76,9 @@ sure_of S c q = reach S q (own q c.acts) (c.procs q).older
 -- save, and has no act to repeat; whoever received what its sender is not sure to send again depends on the sender, and so does whoever will receive it; only
 -- what there is depends, or is depended on; a message carries nothing on which its sender does not depend
 pub record Traced {Mc : Type 0} (S : System Mc) (c : Core) : Type 0 where
-  pub self : (p : ℕ) → (c.procs p).own ≡ true → c.ties.on p p ≡ true
-  pub told : (p : ℕ) → (c.procs p).own ≡ true → is_empty_log (span (logged_at (own p c.acts)) (c.procs p).older.position (length (own p c.acts))) ≡ false
-  pub last : (p : ℕ) → (c.procs p).own ≡ true → (c.procs p).position ≡ length (own p c.acts)
+  pub self : (p : ℕ) → (c.procs p).unlogged ≡ true → c.ties.on p p ≡ true
+  pub told : (p : ℕ) → (c.procs p).unlogged ≡ true → is_empty_log (span (logged_at (own p c.acts)) (c.procs p).older.position (length (own p c.acts))) ≡ false
+  pub last : (p : ℕ) → (c.procs p).unlogged ≡ true → (c.procs p).position ≡ length (own p c.acts)
   pub got : (p s : ℕ) → c.ties.on p s ≡ false → (stands S.guests c p).received s ≤ length ((at_position S.guests s (sure_of S c s) (own s c.acts)).sent p)
   pub mail : (s r k : ℕ) → length ((at_position S.guests s (sure_of S c s) (own s c.acts)).sent r) ≤ k → k < length ((stands S.guests c s).sent r) → c.ties.carried s r k s ≡ true
   pub inside : (p q : ℕ) → c.ties.on p q ≡ true → (p < S.guests.count) × (q < S.guests.count)
@@ -90,7 +90,7 @@ pub record Joint {Mc : Type 0} (S : System Mc) (c : Core) : Type 0 where
   pub older : IsCovered S.guests (λ q. (c.procs q).older.position) (λ q. reach S q (own q c.acts) (c.procs q).older) c.acts
   pub newer : IsCovered S.guests (λ q. (c.procs q).newer.position) (λ q. reach S q (own q c.acts) (c.procs q).newer) c.acts
   pub ahead : (p : ℕ) → (c.procs p).up ≡ true → IsCovered S.guests (λ q. (c.procs q).position) (λ q. max (c.procs q).position (sure_of S c q)) c.acts
-  pub beyond : (q : ℕ) → S.guests.count ≤ q → (c.procs q).own ≡ false
+  pub beyond : (q : ℕ) → S.guests.count ≤ q → (c.procs q).unlogged ≡ false
   pub traced : is_causal S.protocol ≡ true → (p : ℕ) → (c.procs p).up ≡ true → Traced S c
 
 -- how far a process has come that is up, or that a store may stand for

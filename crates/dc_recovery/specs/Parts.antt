@@ -14,7 +14,7 @@ use Rattle.dc_recovery.specs.Saves.{Logged, Save}
 
 -- a process that is down: nothing but its saves
 abbrev pub fallen : Status → Status
-fallen st = record { up = false; position = 0; unread = []; own = false; older = st.older; newer = st.newer }
+fallen st = record { up = false; position = 0; unread = []; unlogged = false; older = st.older; newer = st.newer }
 
 -- where it is, with nothing logged since, under this number
 abbrev pub save_as : ℕ → Status → Save
@@ -22,11 +22,11 @@ save_as number st = record { position = st.position; log = []; number = number }
 
 -- after a commit under this number
 abbrev pub committed_as : ℕ → Status → Status
-committed_as number st = record { up = st.up; position = st.position; unread = []; own = false; older = save_as number st; newer = save_as number st }
+committed_as number st = record { up = st.up; position = st.position; unread = []; unlogged = false; older = save_as number st; newer = save_as number st }
 
 -- stopped in such a commit: its store stands for the save before it or for the new one
 abbrev pub torn_as : ℕ → Status → Status
-torn_as number st = record { up = false; position = 0; unread = []; own = false; older = st.older; newer = save_as number st }
+torn_as number st = record { up = false; position = 0; unread = []; unlogged = false; older = st.older; newer = save_as number st }
 
 -- the number after that of its last commit
 abbrev pub number_after : Status → ℕ
@@ -48,19 +48,19 @@ with_record x s = record { position = s.position; log = s.log ++ x ∷ []; numbe
 
 -- after a log record
 abbrev pub logged : Logged → Status → Status
-logged x st = record { up = st.up; position = st.position; unread = st.unread; own = st.own; older = with_record x st.older; newer = with_record x st.newer }
+logged x st = record { up = st.up; position = st.position; unread = st.unread; unlogged = st.unlogged; older = with_record x st.older; newer = with_record x st.newer }
 
 -- stopped in a log record: its store stands for the save without it or with it
 abbrev pub torn_log : Logged → Status → Status
-torn_log x st = record { up = false; position = 0; unread = []; own = false; older = st.older; newer = with_record x st.newer }
+torn_log x st = record { up = false; position = 0; unread = []; unlogged = false; older = st.older; newer = with_record x st.newer }
 
 -- an event later
 abbrev pub passed : Bool → Bool → Status → Status
-passed replay sets_own st = record { up = st.up; position = suc st.position; unread = if replay then drop 1 st.unread else st.unread; own = st.own || sets_own; older = st.older; newer = st.newer }
+passed replay sets_unlogged st = record { up = st.up; position = suc st.position; unread = if replay then drop 1 st.unread else st.unread; unlogged = st.unlogged || sets_unlogged; older = st.older; newer = st.newer }
 
 -- back at a save
 abbrev pub risen : Save → Status
-risen s = record { up = true; position = s.position; unread = s.log; own = false; older = s; newer = s }
+risen s = record { up = true; position = s.position; unread = s.log; unlogged = false; older = s; newer = s }
 
 -- where a turn was stopped
 pub data Place : Type 0 where
@@ -86,8 +86,8 @@ may_stop rule stores e a InEvent = stores && may_store e a
 may_stop rule stores e a InAfter = rule.after
 
 -- an event that is told something that is neither logged nor comes from the log
-abbrev pub sets_own : Bool → Bool → Answer → Bool
-sets_own log replay a = not (is_plain a) && (not log && not replay)
+abbrev pub sets_unlogged : Bool → Bool → Answer → Bool
+sets_unlogged log replay a = not (is_plain a) && (not log && not replay)
 
 -- after the commit before, if there is one, under this number
 abbrev pub first_as : Bool → ℕ → Status → Status
@@ -99,7 +99,7 @@ second_of log x st = if log then logged x st else st
 
 -- after commit, log record and event
 abbrev pub third_as : Rule → Bool → Logged → ℕ → Status → Status
-third_as rule replay x number st = passed replay (sets_own rule.log replay x.answer) (second_of rule.log x (first_as rule.before number st))
+third_as rule replay x number st = passed replay (sets_unlogged rule.log replay x.answer) (second_of rule.log x (first_as rule.before number st))
 
 -- what a turn leaves of its process, by where it was stopped, where its commits take these numbers
 abbrev pub left_as : Rule → Bool → Logged → ℕ → ℕ → Status → Place → Status
@@ -169,7 +169,7 @@ second rule x company p procs = log_if rule.log x p (first rule company procs)
 
 -- after the event
 abbrev pub third : Rule → Bool → Logged → Company → ℕ → (ℕ → Status) → (ℕ → Status)
-third rule replay x company p procs = at_one p (passed replay (sets_own rule.log replay x.answer)) (second rule x company p procs)
+third rule replay x company p procs = at_one p (passed replay (sets_unlogged rule.log replay x.answer)) (second rule x company p procs)
 
 -- what a turn of p leaves of the processes, by where it was stopped
 abbrev pub left : Rule → Bool → Logged → Company → ℕ → (ℕ → Status) → Place → (ℕ → Status)

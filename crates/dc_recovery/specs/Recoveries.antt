@@ -43,7 +43,7 @@ AllFollow together (Recovers p ∷ ns) = AllFollow together ns
 
 -- a core to go on from: these acts and lines, nobody up, and each store standing for one save
 abbrev pub resumed_core : List Given → List Visible → (ℕ → Save) → Core
-resumed_core acts lines saves = record { acts = acts; lines = lines; procs = λ p. record { up = false; position = 0; unread = []; own = false; older = saves p; newer = saves p }; ties = untied }
+resumed_core acts lines saves = record { acts = acts; lines = lines; procs = λ p. record { up = false; position = 0; unread = []; unlogged = false; older = saves p; newer = saves p }; ties = untied }
 
 -- what such a core must meet: its acts are a run, drawn at earlier turns, of whose records the lines are a telling; each save is one of these acts;
 -- no save has sent more than the most that its receiver's save lacks; and where all recover together, none received what its sender's save has not sent and will not surely send again

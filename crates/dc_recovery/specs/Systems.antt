@@ -53,5 +53,5 @@ pub record IsSound {Mc : Type 0} (S : System Mc) : Type 0 where
   pub outputs : (e : Event) → S.exposes e ≡ true → is_output e ≡ true
   pub sure_sent : is_causal S.protocol ≡ true → (e : Event) → is_send e ≡ true → S.exposes_sure e ≡ true
   pub sure_outputs : (e : Event) → S.exposes_sure e ≡ true → is_output e ≡ true
-  pub clear : (e : Event) (since : Since) → S.exposes e ≡ true → (is_cand S.protocol ≡ true → since.own ≡ false) → (since.own ≡ true → since.any ≡ true)
-      → (since.own && not (rule_of S.protocol (kind_at e) since).before) ≡ false
+  pub clear : (e : Event) (since : Since) → S.exposes e ≡ true → (is_cand S.protocol ≡ true → since.unlogged ≡ false) → (since.unlogged ≡ true → since.any ≡ true)
+      → (since.unlogged && not (rule_of S.protocol (kind_at e) since).before) ≡ false

@@ -23,7 +23,7 @@ ghost use Rattle.dc_recovery.specs.Parts.{Place, risen};
 ghost use Rattle.dc_recovery.specs.Parts.Place.{InBefore, Nowhere};
 ghost use Rattle.dc_recovery.specs.Promise.{IsPromised};
 ghost use Rattle.dc_recovery.specs.Recoveries.{AllFollow, CanResume, RecoversWell, SavedBeforeShown, resumed_core};
-ghost use Rattle.dc_recovery.specs.Rows.{CanFollow, HavePlaces, Rows, TellTies, no_rows, rows_commit, rows_event};
+ghost use Rattle.dc_recovery.specs.Rows.{CanFollow, HaveSlots, Rows, TellTies, no_rows, rows_commit, rows_event};
 ghost use Rattle.dc_recovery.specs.Saves.{Save, is_empty_log, logged_at, reach, span};
 ghost use Rattle.dc_recovery.specs.Systems.{IsSound, System, system_of};
 ghost use Rattle.dc_recovery.specs.Ties.{tied_commit, tied_event};
@@ -148,17 +148,17 @@ pub fn words_tell()
 /// - `untied`: no words tell that nothing is tied.
 /// - `commit`: so it is after a commit of some, under a number over theirs; what is known to be committed may rise by it.
 /// - `event`: so it is after an event, whose words are those of its process and of the messages that it takes and sends.
-/// - `places`: a message's place may be the remainder of its number.
+/// - `slots`: a message's slot may be the remainder of its number.
 pub fn rows_tell<M>()
-    ensures untied { (place : ℕ → ℕ) (numbers : ℕ → ℕ) (first sent : ℕ → ℕ → ℕ) → TellTies place numbers untied first sent no_rows }
-    ensures commit { (place : ℕ → ℕ) (numbers : ℕ → ℕ) (ties : Ties) (first later sent : ℕ → ℕ → ℕ) (rows : Rows) (commits : ℕ → Bool) (number : ℕ)
-        → ((q : ℕ) → commits q ≡ true → numbers q < number) → ((s r : ℕ) → first s r ≤ later s r) → TellTies place numbers ties first sent rows
-        → TellTies place (renumbered commits number numbers) (tied_commit commits ties) later sent (rows_commit commits rows) }
-    ensures event { (G : Guests M) (most : ℕ) (place : ℕ → ℕ) (numbers : ℕ → ℕ) (ties : Ties) (first sent later : ℕ → ℕ → ℕ) (rows : Rows) (p : ℕ)
-        (l : Local M) (a : Answer) (sets : Bool) → HavePlaces most place → TellTies place numbers ties first sent rows
-        → CanFollow G most numbers first sent later p l a → TellTies place numbers (tied_event G p l a sets ties) first later
-        (rows_event place numbers rows p l.received (λ to. length (l.sent to)) (comes G l a) a sets) }
-    ensures places { (most : ℕ) → HavePlaces most (λ k. k % most) }
+    ensures untied { (slot : ℕ → ℕ) (numbers : ℕ → ℕ) (first sent : ℕ → ℕ → ℕ) → TellTies slot numbers untied first sent no_rows }
+    ensures commit { (slot : ℕ → ℕ) (numbers : ℕ → ℕ) (ties : Ties) (first later sent : ℕ → ℕ → ℕ) (rows : Rows) (commits : ℕ → Bool) (number : ℕ)
+        → ((q : ℕ) → commits q ≡ true → numbers q < number) → ((s r : ℕ) → first s r ≤ later s r) → TellTies slot numbers ties first sent rows
+        → TellTies slot (renumbered commits number numbers) (tied_commit commits ties) later sent (rows_commit commits rows) }
+    ensures event { (G : Guests M) (most : ℕ) (slot : ℕ → ℕ) (numbers : ℕ → ℕ) (ties : Ties) (first sent later : ℕ → ℕ → ℕ) (rows : Rows) (p : ℕ)
+        (l : Local M) (a : Answer) (sets : Bool) → HaveSlots most slot → TellTies slot numbers ties first sent rows
+        → CanFollow G most numbers first sent later p l a → TellTies slot numbers (tied_event G p l a sets ties) first later
+        (rows_event slot numbers rows p l.received (λ to. length (l.sent to)) (comes G l a) a sets) }
+    ensures slots { (most : ℕ) → HaveSlots most (λ k. k % most) }
 {}
 
 /// One number that says how far a process would come again from either of its saves.

@@ -116,26 +116,26 @@ high_wins begins.Broken y is = absurd cc
 -- a half that loses yields
 pub yields_by : (sh : Shape) (d at n : ℕ) (x : List ℕ) (y : Begin) → (at ≡ 0) ⊎ (at ≡ half_bytes sh) → 2 * half_bytes sh ≤ length x → length (half (half_bytes sh) at x) ≡ half_bytes sh → Wins (begins.Counts n) y → BeginsSo sh d (half (half_bytes sh) at x) y
     → Yields sh d n (full_of y) at (gate_of at y) x
-yields_by sh d at n x begins.Empty place large long wins is =
+yields_by sh d at n x begins.Empty index large long wins is =
     let none = records_end (half (half_bytes sh) at x) is in
     record { loses = rw none (record { right = λ wrong. absurd cc; lower = λ wrong. absurd cc }); kind = inl none; full_is = is }
-yields_by sh d at n x (begins.Counts k) place large long wins is =
+yields_by sh d at n x (begins.Counts k) index large long wins is =
     record { loses = record { right = λ wrong. absurd (let clash : Going ≡ Faulty = sym is.1 ∙ wrong in cc); lower = λ going. let same = is.2 in omega (arith, same, wins) }; kind = inr is.1; full_is = is.0 }
-yields_by sh d at n x begins.Waits place large long wins is =
+yields_by sh d at n x begins.Waits index large long wins is =
     let bytes = half (half_bytes sh) at x in
     let some : 8 ≤ length bytes = omega (arith, long) in
-    (refl, refl, taken_waits sh d [] bytes start bytes (taken_start sh d bytes some) at x place large refl long is.0 is.1)
-yields_by sh d at n x begins.Broken place large long wins is = absurd wins
+    (refl, refl, taken_waits sh d [] bytes start bytes (taken_start sh d bytes some) at x index large refl long is.0 is.1)
+yields_by sh d at n x begins.Broken index large long wins is = absurd wins
 
 -- neither half counts
 pub settles_by : (sh : Shape) (d at : ℕ) (x : List ℕ) (y : Begin) → (at ≡ 0) ⊎ (at ≡ half_bytes sh) → 2 * half_bytes sh ≤ length x → length (half (half_bytes sh) at x) ≡ half_bytes sh → (y ≡ begins.Empty) ⊎ (y ≡ begins.Waits) → BeginsSo sh d (half (half_bytes sh) at x) y
     → Settles sh d at [] (gate_of at y) x
-settles_by sh d at x begins.Empty place large long kind is =
+settles_by sh d at x begins.Empty index large long kind is =
     let bytes = half (half_bytes sh) at x in
     let some : 8 ≤ length bytes = omega (arith, long) in taken_all sh d [] bytes start bytes (taken_start sh d bytes some) is
-settles_by sh d at x (begins.Counts k) place large long kind is = absurd (⊎_elim (λ e. let wrong : begins.Counts k ≡ begins.Empty = e in cc) (λ e. let wrong : begins.Counts k ≡ begins.Waits = e in cc) kind)
-settles_by sh d at x begins.Waits place large long kind is =
+settles_by sh d at x (begins.Counts k) index large long kind is = absurd (⊎_elim (λ e. let wrong : begins.Counts k ≡ begins.Empty = e in cc) (λ e. let wrong : begins.Counts k ≡ begins.Waits = e in cc) kind)
+settles_by sh d at x begins.Waits index large long kind is =
     let bytes = half (half_bytes sh) at x in
     let some : 8 ≤ length bytes = omega (arith, long) in
-    ((let sum : at ≡ at + 0 = omega arith in sum), taken_waits sh d [] bytes start bytes (taken_start sh d bytes some) at x place large refl long is.0 is.1)
-settles_by sh d at x begins.Broken place large long kind is = absurd (⊎_elim (λ e. let wrong : begins.Broken ≡ begins.Empty = e in cc) (λ e. let wrong : begins.Broken ≡ begins.Waits = e in cc) kind)
+    ((let sum : at ≡ at + 0 = omega arith in sum), taken_waits sh d [] bytes start bytes (taken_start sh d bytes some) at x index large refl long is.0 is.1)
+settles_by sh d at x begins.Broken index large long kind is = absurd (⊎_elim (λ e. let wrong : begins.Broken ≡ begins.Empty = e in cc) (λ e. let wrong : begins.Broken ≡ begins.Waits = e in cc) kind)

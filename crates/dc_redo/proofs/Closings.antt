@@ -24,7 +24,7 @@ use Rattle.dc_redo.proofs.Waited.{like_self, like_then, waited_like, waited_log,
 -- what is said of a half's bytes is said of each disk that has these
 pub waiting_still : (sh : Shape) (d at : ℕ) (front : List (List ℕ)) (x c : List ℕ) → half (half_bytes sh) at c ≡ half (half_bytes sh) at x → 2 * half_bytes sh ≤ length c → IsWaiting sh d at front x → IsWaiting sh d at front c
 waiting_still sh d at front x c same large is = record {
-  place = is.place;
+  index = is.index;
   large = large;
   stand = subst (Stand front) (sym same) is.stand;
   opened = ap (λ (l : List ℕ). get_or l (span front) 0) same ∙ is.opened;
@@ -74,7 +74,7 @@ module _ (sh : Shape) (d at : ℕ) where
       let large = is.2.large in
       let room = is.2.room in
       let gate_is = is.1 in
-      ⊎_elim (λ first. omega (arith, first, large, room, gate_is)) (λ second. omega (arith, second, large, room, gate_is)) is.2.place
+      ⊎_elim (λ first. omega (arith, first, large, room, gate_is)) (λ second. omega (arith, second, large, room, gate_is)) is.2.index
 
   pub closed_is : (gate : Option ℕ) (x : List ℕ) → Waits sh d at gate x → IsClosing gate x (with_closed gate x)
   closed_is None x is = refl

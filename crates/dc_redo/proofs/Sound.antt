@@ -60,11 +60,11 @@ laid_tells (line ∷ lines) from below at number body rises all fits tell =
     let parts = and_parts (line.at == at) (get_or line.words commit_at 0 == number) here in
     let same : line.at ≡ at = eqb-true line.at at parts.0 in
     let is : get_or line.words commit_at 0 ≡ number = eqb-true (get_or line.words commit_at 0) number parts.1 in
-    let place : 16 * line.at + commit_at - 16 * line.at ≡ commit_at = omega arith in
+    let index : 16 * line.at + commit_at - 16 * line.at ≡ commit_at = omega arith in
     ap (λ k. get_or (laid lines next) (16 * k + commit_at) 0) (sym same)
     ∙ laid_before lines (line.at + 1) below (16 * line.at + commit_at) next b.1 all.1 wide (omega arith)
     ∙ get_or-spliced_inside body (16 * line.at) line.words (16 * line.at + commit_at) 0 room (omega arith) (omega (arith, many))
-    ∙ ap (λ k. get_or line.words k 0) place ∙ is)
+    ∙ ap (λ k. get_or line.words k 0) index ∙ is)
     (λ more. laid_tells lines (line.at + 1) below at number next b.1 all.1 wide more)
     (or_cases (line.at == at && get_or line.words commit_at 0 == number) (tells at number lines) tell)
 

@@ -42,7 +42,7 @@ kept_both Faulty Faulty m n a b = refl
 pub both_kept : (sh : Shape) (d : ℕ) (a b : Half) → kept sh d a b ≡ kept sh d b a
 both_kept sh d a b = kept_both (begun sh d a).status (begun sh d b).status (begun sh d a).number (begun sh d b).number (tally sh d start a).most (tally sh d start b).most
 
--- a disk by the half at a place and the other one
+-- a disk by the half at an offset and the other one
 pub log_kept : (sh : Shape) (d at : ℕ) (bodies : List (List ℕ)) (others x : List ℕ) → IsLog (half_bytes sh) at bodies others x → kept sh d (half_of sh 0 x) (half_of sh (half_bytes sh) x) ≡ kept sh d (read bodies) (records_of others)
 unfolding half_of
 log_kept sh d at bodies others x log =
@@ -58,7 +58,7 @@ log_kept sh d at bodies others x log =
     ∙ ap (λ k. kept sh d (records_of (half H k x)) (records_of (half H 0 x))) (sym second)
     ∙ ap (λ k. kept sh d (records_of (half H at x)) (records_of (half H k x))) (sym there)
     ∙ ap (λ h. kept sh d h (records_of (half H (H - at) x))) mine ∙ ap (λ (l : List ℕ). kept sh d (read bodies) (records_of l)) log.other)
-    log.place
+    log.index
 
 -- one that counts beside one that does not
 kept_of : (s z : Status) (m n a b : ℕ) → s ≡ Going → (z ≡ Going → n < m) → kept_in s z m n a b ≡ a

@@ -21,32 +21,32 @@ use Rattle.dc_redo.proofs.Steady.{both_kept}
 use Rattle.dc_redo.proofs.Under.{most_over, most_tally, most_under, over_contents, over_next, over_tally}
 use Rattle.dc_redo.proofs.Under.IsOver.{waits, broken}
 
--- what does not care which half is which, by the half at a place and the other one
-pub by_place : {A : Type 0} (F : Half → Half → A) (size at : ℕ) (x : List ℕ) → ((a b : Half) → F a b ≡ F b a) → (at ≡ 0) ⊎ (at ≡ size)
+-- what does not care which half is which, by the half at an offset and the other one
+pub by_index : {A : Type 0} (F : Half → Half → A) (size at : ℕ) (x : List ℕ) → ((a b : Half) → F a b ≡ F b a) → (at ≡ 0) ⊎ (at ≡ size)
     → F (records_of (half size 0 x)) (records_of (half size size x)) ≡ F (records_of (half size at x)) (records_of (half size (size - at) x))
-by_place F size at x both place = ⊎_elim
+by_index F size at x both index = ⊎_elim
     (λ first. let there : size ≡ size - at = omega (arith, first) in
     ap (λ k. F (records_of (half size k x)) (records_of (half size size x))) (sym first) ∙ ap (λ k. F (records_of (half size at x)) (records_of (half size k x))) there)
     (λ second. let there : 0 ≡ size - at = omega (arith, second) in
     both (records_of (half size 0 x)) (records_of (half size size x))
     ∙ ap (λ k. F (records_of (half size k x)) (records_of (half size 0 x))) (sym second) ∙ ap (λ k. F (records_of (half size at x)) (records_of (half size k x))) there)
-    place
+    index
 
-module _ (sh : Shape) (at : ℕ) (x : List ℕ) (place : (at ≡ 0) ⊎ (at ≡ half_bytes sh)) (large : 2 * half_bytes sh ≤ length x) where
+module _ (sh : Shape) (at : ℕ) (x : List ℕ) (index : (at ≡ 0) ⊎ (at ≡ half_bytes sh)) (large : 2 * half_bytes sh ≤ length x) where
   is_large : is_disk sh x ≡ true
   is_large = let is : nat_le (2 * half_bytes sh) (length x) ≡ true = grind (arith, large) in is
 
-  pub place_reading : (d : ℕ) → reading sh d x ≡ halves_reading sh d (records_of (half (half_bytes sh) at x)) (records_of (half (half_bytes sh) (half_bytes sh - at) x))
+  pub index_reading : (d : ℕ) → reading sh d x ≡ halves_reading sh d (records_of (half (half_bytes sh) at x)) (records_of (half (half_bytes sh) (half_bytes sh - at) x))
   unfolding half_of
-  place_reading d = rw is_large (by_place (halves_reading sh d) (half_bytes sh) at x (both_readings sh d) place)
+  index_reading d = rw is_large (by_index (halves_reading sh d) (half_bytes sh) at x (both_readings sh d) index)
 
-  pub place_number : number sh x ≡ halves_number sh (records_of (half (half_bytes sh) at x)) (records_of (half (half_bytes sh) (half_bytes sh - at) x))
+  pub index_number : number sh x ≡ halves_number sh (records_of (half (half_bytes sh) at x)) (records_of (half (half_bytes sh) (half_bytes sh - at) x))
   unfolding half_of
-  place_number = rw is_large (by_place (halves_number sh) (half_bytes sh) at x (λ a b. greater_both (half_number sh a) (half_number sh b)) place)
+  index_number = rw is_large (by_index (halves_number sh) (half_bytes sh) at x (λ a b. greater_both (half_number sh a) (half_number sh b)) index)
 
-  pub place_kept : (d : ℕ) → kept sh d (half_of sh 0 x) (half_of sh (half_bytes sh) x) ≡ kept sh d (records_of (half (half_bytes sh) at x)) (records_of (half (half_bytes sh) (half_bytes sh - at) x))
+  pub index_kept : (d : ℕ) → kept sh d (half_of sh 0 x) (half_of sh (half_bytes sh) x) ≡ kept sh d (records_of (half (half_bytes sh) at x)) (records_of (half (half_bytes sh) (half_bytes sh - at) x))
   unfolding half_of
-  place_kept d = by_place (kept sh d) (half_bytes sh) at x (both_kept sh d) place
+  index_kept d = by_index (kept sh d) (half_bytes sh) at x (both_kept sh d) index
 
 -- records behind records
 pub tally_join : (sh : Shape) (d : ℕ) (t : Tally) (ls bs : Half) → tally sh d t (ls ++ bs) ≡ tally sh d (tally sh d t ls) bs
@@ -209,13 +209,13 @@ like_from sh d x c low large large' same number_less kept_same = record {
 
 module _ (sh : Shape) (d at : ℕ) (front : List (List ℕ)) (x c : List ℕ) (is : IsWaiting sh d at front x) (torn : IsTorn (at + span front) 1 x c) where
   within : at + half_bytes sh ≤ length x
-  within = let large = is.large in ⊎_elim (λ first. omega (arith, first, large)) (λ second. omega (arith, second, large)) is.place
+  within = let large = is.large in ⊎_elim (λ first. omega (arith, first, large)) (λ second. omega (arith, second, large)) is.index
 
   pub waited_long : length (half (half_bytes sh) at x) ≡ half_bytes sh
   waited_long = length-take-le (half_bytes sh) (drop at x) (omega (arith, within, length-drop at x))
 
   pub waited_other : half (half_bytes sh) (half_bytes sh - at) c ≡ half (half_bytes sh) (half_bytes sh - at) x
-  waited_other = let room = is.room in other_same (half_bytes sh) at (at + span front) 1 x c is.place (omega arith) (omega (arith, room)) torn
+  waited_other = let room = is.room in other_same (half_bytes sh) at (at + span front) 1 x c is.index (omega arith) (omega (arith, room)) torn
 
   pub waited_mine : (half (half_bytes sh) at c ≡ half (half_bytes sh) at x) ⊎ AreAll front (half (half_bytes sh) at c)
   waited_mine =
@@ -250,13 +250,13 @@ module _ (sh : Shape) (d at : ℕ) (front : List (List ℕ)) (x c : List ℕ) (i
       (λ same. let eq = ap (half_number sh) same in omega (arith, eq))
       (λ all. let eq = ap (half_number sh) all in let eq' = ap (half_number sh) is.records in let tail_low = tail_number sh d front is.first is.more is.waits in omega (arith, eq, eq', tail_low))
       mine_records in
-      let number_c = place_number sh at c is.place large_now ∙ ap (λ h. halves_number sh hc h) other in
-      let number_x = place_number sh at x is.place is.large in
+      let number_c = index_number sh at c is.index large_now ∙ ap (λ h. halves_number sh hc h) other in
+      let number_x = index_number sh at x is.index is.large in
       let numbers : number sh c ≤ number sh x = rw (number_c, number_x) (greater_less_left (half_number sh hc) (half_number sh hx) (half_number sh o) less) in
       like_from sh d x c low is.large large_now
-      (place_reading sh at c is.place large_now d ∙ ap (λ h. halves_reading sh d hc h) other ∙ same_reading ∙ sym (place_reading sh at x is.place is.large d))
+      (index_reading sh at c is.index large_now d ∙ ap (λ h. halves_reading sh d hc h) other ∙ same_reading ∙ sym (index_reading sh at x is.index is.large d))
       numbers
-      (place_kept sh at c is.place large_now d ∙ ap (λ h. kept sh d hc h) other ∙ same_kept ∙ sym (place_kept sh at x is.place is.large d))
+      (index_kept sh at c is.index large_now d ∙ ap (λ h. kept sh d hc h) other ∙ same_kept ∙ sym (index_kept sh at x is.index is.large d))
     where
       greater_less_left : (a b o : ℕ) → a ≤ b → greater a o ≤ greater b o
       greater_less_left a b o low = grind (arith, low)
@@ -267,7 +267,7 @@ module _ (sh : Shape) (d at : ℕ) (front : List (List ℕ)) (x c : List ℕ) (i
       let room = is.room in
       let here : (l : List ℕ) → get_or (half (half_bytes sh) at l) (span front) 0 ≡ get_or l (at + span front) 0 = λ l. get_or-take (half_bytes sh) (drop at l) (span front) 0 (omega (arith, room)) ∙ get_or-drop at l (span front) 0 in
       record {
-        place = is.place;
+        index = is.index;
         room = large_now;
         mine = ⊎_elim (λ same. absurd (closed_gate (sym (here c) ∙ ap (λ (l : List ℕ). get_or l (span front) 0) same ∙ is.opened))) (λ all. all) waited_mine;
         other = waited_other;

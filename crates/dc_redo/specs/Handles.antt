@@ -36,7 +36,7 @@ stored i w k = record k { body = slice_set k.body i w; touched = slice_set k.tou
 
 -- the disk has two halves
 abbrev pub IsLarge : {S : Type 0} → disks.Ghosts S → Frame → S → Type 0
-IsLarge disk frame dev = 2 * half_bytes (shape_of frame) ≤ disk.extent dev frame.place
+IsLarge disk frame dev = 2 * half_bytes (shape_of frame) ≤ disk.extent dev frame.index
 
 -- the memory as it is, where the disk is told
 abbrev pub memory_of : ℕ → List ℕ → Option Disk → Option (List ℕ)

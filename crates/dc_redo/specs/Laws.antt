@@ -106,9 +106,9 @@ number_beginning first sh bytes =
     let most : (h : Half) → half_number (beginning first sh) h ≡ half_number sh h = λ h. ap (λ (t : Tally). t.most) (tally_beginning first sh last_number start h) in
     rw (most (half_of sh 0 bytes), most (half_of sh (half_bytes sh) bytes)) refl
 
-module _ (a b : Frame) (told : ℕ → Option Disk) (place : a.place ≡ b.place) (size : a.size ≡ b.size) (form : (shape_of a).form ≡ (shape_of b).form) where
-  pub leaves_alike : (shape_of a).first ≡ (shape_of b).first → (d : ℕ) (r : Reading) → StandsFor (shape_of a) (told a.place) d r → StandsFor (shape_of b) (told b.place) d r
-  leaves_alike first d r left = subst (λ (x : Shape). StandsFor x (told b.place) d r) (same_shape a b size form first) (subst (λ q. StandsFor (shape_of a) (told q) d r) place left)
+module _ (a b : Frame) (told : ℕ → Option Disk) (index : a.index ≡ b.index) (size : a.size ≡ b.size) (form : (shape_of a).form ≡ (shape_of b).form) where
+  pub leaves_alike : (shape_of a).first ≡ (shape_of b).first → (d : ℕ) (r : Reading) → StandsFor (shape_of a) (told a.index) d r → StandsFor (shape_of b) (told b.index) d r
+  leaves_alike first d r left = subst (λ (x : Shape). StandsFor x (told b.index) d r) (same_shape a b size form first) (subst (λ q. StandsFor (shape_of a) (told q) d r) index left)
 
   alike : (t : Option Disk) (e : ℕ) → Numbers (shape_of a) t e → Numbers (shape_of b) t e
   alike None e is = absurd is
@@ -118,5 +118,5 @@ module _ (a b : Frame) (told : ℕ → Option Disk) (place : a.place ≡ b.place
       let same : beginning (shape_of b).first (shape_of a) ≡ shape_of b = λ i. record { size = size i; kernel = kernel i; event = event i; form = form i; first = (shape_of b).first } in
       (is.0, is.1, is.2 ∙ sym (number_beginning (shape_of b).first (shape_of a) is.0) ∙ ap (λ x. number x is.0) same)
 
-  pub numbers_alike : (e : ℕ) → Numbers (shape_of a) (told a.place) e → Numbers (shape_of b) (told b.place) e
-  numbers_alike e is = alike (told b.place) e (subst (λ q. Numbers (shape_of a) (told q) e) place is)
+  pub numbers_alike : (e : ℕ) → Numbers (shape_of a) (told a.index) e → Numbers (shape_of b) (told b.index) e
+  numbers_alike e is = alike (told b.index) e (subst (λ q. Numbers (shape_of a) (told q) e) index is)

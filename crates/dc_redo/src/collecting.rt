@@ -121,7 +121,7 @@ impl Frame {
         requires process { (saved.old.kernel.n ≡ self.now.n) × (saved.old.kernel.p ≡ self.now.p) }
         requires room { LOGGED_EVENTS ≤ vec_capacity saved.old.log }
         requires counts { (begun (shape_of self.now) d (records_of half.now)).status ≡ Going }
-        requires place { at ≤ self.now.half }
+        requires index { at ≤ self.now.half }
         requires floor { marks.old.floor ≤ d }
         ensures floor { marks.new.floor ≤ d }
         ensures refused { (fault : StoreFault) → result ≡ Err fault → half_reading (shape_of self.now) d (records_of half.now) ≡ Err fault }

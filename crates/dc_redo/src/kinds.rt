@@ -118,7 +118,7 @@ pub fn choose(low: Begin, high: Begin) -> Choice
     }
 }
 
-/// The gate of a half at a place that is to be closed: where a state waits there.
+/// The gate of a half at an offset that is to be closed: where a state waits there.
 pub fn gate_at(at: u32, begins: Begin) -> Option<u64>
     ensures { result ≡ gate_of at begins }
 {

@@ -51,24 +51,24 @@ impl Frame {
         requires words { length words.old ≡ 1 + self.now.event_words }
         requires large { IsLarge D.Disks self.now dev.old }
         requires roomy { HasRoom (shape_of self.now) (known_of marks.old) }
-        requires ready { IsReady (shape_of self.now) (known_of marks.old) (D.told dev.old self.now.place) }
-        ensures ready { OnOk result (IsReady (shape_of self.now) (known_of marks.new) (D.told dev.new self.now.place)) }
+        requires ready { IsReady (shape_of self.now) (known_of marks.old) (D.told dev.old self.now.index) }
+        ensures ready { OnOk result (IsReady (shape_of self.now) (known_of marks.new) (D.told dev.new self.now.index)) }
         ensures roomy { OnOk result (HasRoom (shape_of self.now) (known_of marks.new)) }
         ensures number { OnOk result ((marks.new.number ≡ marks.old.number) × (marks.new.logged ≡ marks.old.logged + 1)) }
         ensures same { (marks.new.floor ≡ marks.old.floor) × (marks.new.body ≡ marks.old.body) × (marks.new.touched ≡ marks.old.touched) }
-        ensures stands { OnOk result ((d : ℕ) (r : Reading) → marks.old.floor ≤ d → StandsFor (shape_of self.now) (D.told dev.new self.now.place) d r → IsLogged (StandsFor (shape_of self.now) (D.told dev.old self.now.place) d) rec.now r) }
-        ensures between { (d : ℕ) (r : Reading) → marks.old.floor ≤ d → StandsFor (shape_of self.now) (D.told dev.new self.now.place) d r
-            → StandsFor (shape_of self.now) (D.told dev.old self.now.place) d r ⊎ IsLogged (StandsFor (shape_of self.now) (D.told dev.old self.now.place) d) rec.now r }
-        ensures steady { IsSteady (shape_of self.now) (D.told dev.old self.now.place) → IsSteady (shape_of self.now) (D.told dev.new self.now.place) }
-        ensures told { Becomes (D.told dev.old self.now.place) (D.told dev.new self.now.place) (λ b a. Unit {0}) }
-        ensures numbers { (e : ℕ) → Numbers (shape_of self.now) (D.told dev.new self.now.place) e → Numbers (shape_of self.now) (D.told dev.old self.now.place) e }
+        ensures stands { OnOk result ((d : ℕ) (r : Reading) → marks.old.floor ≤ d → StandsFor (shape_of self.now) (D.told dev.new self.now.index) d r → IsLogged (StandsFor (shape_of self.now) (D.told dev.old self.now.index) d) rec.now r) }
+        ensures between { (d : ℕ) (r : Reading) → marks.old.floor ≤ d → StandsFor (shape_of self.now) (D.told dev.new self.now.index) d r
+            → StandsFor (shape_of self.now) (D.told dev.old self.now.index) d r ⊎ IsLogged (StandsFor (shape_of self.now) (D.told dev.old self.now.index) d) rec.now r }
+        ensures steady { IsSteady (shape_of self.now) (D.told dev.old self.now.index) → IsSteady (shape_of self.now) (D.told dev.new self.now.index) }
+        ensures told { Becomes (D.told dev.old self.now.index) (D.told dev.new self.now.index) (λ b a. Unit {0}) }
+        ensures numbers { (e : ℕ) → Numbers (shape_of self.now) (D.told dev.new self.now.index) e → Numbers (shape_of self.now) (D.told dev.old self.now.index) e }
         ensures long { (length piece.new ≡ length piece.old) × (length words.new ≡ length words.old) }
-        ensures call { IsCall (of_disks D.Disks) self.now.place dev.old dev.new result }
+        ensures call { IsCall (of_disks D.Disks) self.now.index dev.old dev.new result }
     {
         let end = self.put_event(piece, words, rec);
         add(
             dev,
-            self.place,
+            self.index,
             self.half as u64,
             marks.at as u64,
             marks.end as u64,

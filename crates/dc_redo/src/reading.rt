@@ -20,19 +20,19 @@ impl Frame {
     /// Makes sure of the disk and reads it, where it is large enough.
     pub fn fetch<D: Disks>(&self, dev: &mut D, piece: &mut [u8]) -> Result<bool, DeviceFault>
         requires piece { length piece.old ≡ 2 * self.now.half }
-        ensures there { AreThere (D.told dev.old self.now.place) (D.told dev.new self.now.place) }
-        ensures large { IfOk result (λ large. large ≡ true → 2 * self.now.half ≤ D.extent dev.new self.now.place) }
-        ensures read { IfOk result (λ large. large ≡ true → IsAtRest (λ x. (2 * self.now.half ≤ length x) × (take (2 * self.now.half) x ≡ piece.new)) (D.told dev.new self.now.place)) }
-        ensures short { IfOk result (λ large. large ≡ false → IsAtRest (λ x. length x < 2 * self.now.half) (D.told dev.new self.now.place)) }
-        ensures told { Becomes (D.told dev.old self.now.place) (D.told dev.new self.now.place) (λ b a. Unit {0}) }
-        ensures call { IsCall (of_disks D.Disks) self.now.place dev.old dev.new result }
+        ensures there { AreThere (D.told dev.old self.now.index) (D.told dev.new self.now.index) }
+        ensures large { IfOk result (λ large. large ≡ true → 2 * self.now.half ≤ D.extent dev.new self.now.index) }
+        ensures read { IfOk result (λ large. large ≡ true → IsAtRest (λ x. (2 * self.now.half ≤ length x) × (take (2 * self.now.half) x ≡ piece.new)) (D.told dev.new self.now.index)) }
+        ensures short { IfOk result (λ large. large ≡ false → IsAtRest (λ x. length x < 2 * self.now.half) (D.told dev.new self.now.index)) }
+        ensures told { Becomes (D.told dev.old self.now.index) (D.told dev.new self.now.index) (λ b a. Unit {0}) }
+        ensures call { IsCall (of_disks D.Disks) self.now.index dev.old dev.new result }
         ensures long { length piece.new ≡ length piece.old }
     {
-        dev.sync(self.place)?;
-        if dev.size(self.place) < 2 * u64::from(self.half) {
+        dev.sync(self.index)?;
+        if dev.size(self.index) < 2 * u64::from(self.half) {
             return Ok(false);
         }
-        dev.read(self.place, 0, piece)?;
+        dev.read(self.index, 0, piece)?;
         Ok(true)
     }
 
@@ -66,11 +66,11 @@ impl Frame {
     ) -> Result<u32, DeviceFault>
         requires piece { length piece.old ≡ 2 * self.now.half }
         requires words { self.now.half ≤ 4 * length words.old }
-        ensures there { AreThere (D.told dev.old self.now.place) (D.told dev.new self.now.place) }
-        ensures rest { OnOk result (IsAtRest (λ x. Unit {0}) (D.told dev.new self.now.place)) }
-        ensures decided { IfOk result (λ d. (e : ℕ) → Numbers (shape_of self.now) (D.told dev.new self.now.place) e → e ≡ d) }
-        ensures told { Becomes (D.told dev.old self.now.place) (D.told dev.new self.now.place) (λ b a. Unit {0}) }
-        ensures call { IsCall (of_disks D.Disks) self.now.place dev.old dev.new result }
+        ensures there { AreThere (D.told dev.old self.now.index) (D.told dev.new self.now.index) }
+        ensures rest { OnOk result (IsAtRest (λ x. Unit {0}) (D.told dev.new self.now.index)) }
+        ensures decided { IfOk result (λ d. (e : ℕ) → Numbers (shape_of self.now) (D.told dev.new self.now.index) e → e ≡ d) }
+        ensures told { Becomes (D.told dev.old self.now.index) (D.told dev.new self.now.index) (λ b a. Unit {0}) }
+        ensures call { IsCall (of_disks D.Disks) self.now.index dev.old dev.new result }
         ensures long { (length piece.new ≡ length piece.old) × (length words.new ≡ length words.old) }
     {
         if !self.fetch(dev, piece)? {

@@ -87,16 +87,16 @@ impl Frame {
         requires body { body.now ≡ body_of (shape_of self.now) self.now.memory.items self.now.kernel.items }
         requires large { IsLarge D.Disks self.now dev.old }
         ensures long { length piece.new ≡ length piece.old }
-        ensures images { (x others : List ℕ) → IsLog (half_bytes (shape_of self.now)) 0 [] others x → records_of others ≡ [] → IsSynced x (D.told dev.old self.now.place)
-            → EachImage (D.told dev.new self.now.place) (IsFresh (shape_of self.now) x) }
-        ensures ready { OnOk result ((x others : List ℕ) (touched : List Bool) → length touched ≡ lines_of (shape_of self.now) → IsLog (half_bytes (shape_of self.now)) 0 [] others x → records_of others ≡ [] → is_open others ≡ false → IsSynced x (D.told dev.old self.now.place)
-            → IsReady (shape_of self.now) (known_state 0 0 (whole_bytes (shape_of self.now)) (number_in self.now.kernel.items) false body.now touched) (D.told dev.new self.now.place)) }
-        ensures told { Becomes (D.told dev.old self.now.place) (D.told dev.new self.now.place) (λ b a. Unit {0}) }
-        ensures call { IsCall (of_disks D.Disks) self.now.place dev.old dev.new result }
+        ensures images { (x others : List ℕ) → IsLog (half_bytes (shape_of self.now)) 0 [] others x → records_of others ≡ [] → IsSynced x (D.told dev.old self.now.index)
+            → EachImage (D.told dev.new self.now.index) (IsFresh (shape_of self.now) x) }
+        ensures ready { OnOk result ((x others : List ℕ) (touched : List Bool) → length touched ≡ lines_of (shape_of self.now) → IsLog (half_bytes (shape_of self.now)) 0 [] others x → records_of others ≡ [] → is_open others ≡ false → IsSynced x (D.told dev.old self.now.index)
+            → IsReady (shape_of self.now) (known_state 0 0 (whole_bytes (shape_of self.now)) (number_in self.now.kernel.items) false body.now touched) (D.told dev.new self.now.index)) }
+        ensures told { Becomes (D.told dev.old self.now.index) (D.told dev.new self.now.index) (λ b a. Unit {0}) }
+        ensures call { IsCall (of_disks D.Disks) self.now.index dev.old dev.new result }
     {
         let number = self.kernel[COMMIT_AT];
         let end = self.put_whole(body, piece, number, false);
-        add(dev, self.place, u64::from(self.half), 0, 0, &piece[..end])
+        add(dev, self.index, u64::from(self.half), 0, 0, &piece[..end])
     }
 
     /// Goes on from the first state.
@@ -213,22 +213,22 @@ impl Frame {
         requires marked { length marks.old.touched.flags.items ≡ self.now.lines }
         requires process { (saved.old.kernel.n ≡ self.now.n) × (saved.old.kernel.p ≡ self.now.p) }
         requires room { LOGGED_EVENTS ≤ vec_capacity saved.old.log }
-        ensures like { AreLike (shape_of self.now) d (D.told dev.old self.now.place) (D.told dev.new self.now.place) }
+        ensures like { AreLike (shape_of self.now) d (D.told dev.old self.now.index) (D.told dev.new self.now.index) }
         ensures large { OnOk result (IsLarge D.Disks self.now dev.new) }
         ensures roomy { OnOk result (HasRoom (shape_of self.now) (known_of marks.new)) }
-        ensures ready { OnOk result (IsReady (shape_of self.now) (known_of marks.new) (D.told dev.new self.now.place)) }
-        ensures gives { OnOk result (IsAtRest (λ x. reading (shape_of self.now) d x ≡ Ok (record { memory = memory_in (shape_of self.now) marks.new.body.items; kernel = text_of saved.new.kernel; log = saved.new.log.items })) (D.told dev.new self.now.place)) }
+        ensures ready { OnOk result (IsReady (shape_of self.now) (known_of marks.new) (D.told dev.new self.now.index)) }
+        ensures gives { OnOk result (IsAtRest (λ x. reading (shape_of self.now) d x ≡ Ok (record { memory = memory_in (shape_of self.now) marks.new.body.items; kernel = text_of saved.new.kernel; log = saved.new.log.items })) (D.told dev.new self.now.index)) }
         ensures floor { marks.new.floor ≤ d }
         ensures number { OnOk result ((marks.new.number ≡ saved.new.kernel.commit) × (marks.new.logged ≡ length saved.new.log.items)) }
         ensures kernel { OnOk result (IsKernel self.now.n self.now.p saved.new.kernel) }
         ensures records { OnOk result (All (IsRecord self.now.n) saved.new.log.items) }
         ensures log { OnOk result ((length saved.new.log.items ≤ LOGGED_EVENTS) × (saved.new.position ≡ saved.new.kernel.position)) }
-        ensures refused { (fault : StoreFault) → IsErrOf result (check.Refused fault) → IsAtRest (λ x. reading (shape_of self.now) d x ≡ Err fault) (D.told dev.new self.now.place) }
+        ensures refused { (fault : StoreFault) → IsErrOf result (check.Refused fault) → IsAtRest (λ x. reading (shape_of self.now) d x ≡ Err fault) (D.told dev.new self.now.index) }
         ensures long { (length piece.new ≡ length piece.old) × (length words.new ≡ length words.old) × (length marks.new.body.items ≡ length marks.old.body.items) × (length marks.new.touched.flags.items ≡ length marks.old.touched.flags.items) }
         ensures process { (saved.new.kernel.n ≡ saved.old.kernel.n) × (saved.new.kernel.p ≡ saved.old.kernel.p) }
         ensures room { LOGGED_EVENTS ≤ vec_capacity saved.new.log }
-        ensures counts { IsCounted (stores_on D.Disks) self.now.place dev.old dev.new result }
-        ensures others { (q : ℕ) → q ≢ self.now.place → IsSameStore (of_disks D.Disks) dev.old dev.new q }
+        ensures counts { IsCounted (stores_on D.Disks) self.now.index dev.old dev.new result }
+        ensures others { (q : ℕ) → q ≢ self.now.index → IsSameStore (of_disks D.Disks) dev.old dev.new q }
         ensures continues { D.continues dev.old dev.new }
     {
         marks.floor = 0;
@@ -241,7 +241,7 @@ impl Frame {
             Err(fault) => return Err(CheckFault::Refused(fault)),
             Ok(gates) => gates,
         };
-        if let Err(fault) = close_gates(dev, self.place, gates.low, gates.high) {
+        if let Err(fault) = close_gates(dev, self.index, gates.low, gates.high) {
             return Err(check_fault(fault));
         }
         if gates.counts {

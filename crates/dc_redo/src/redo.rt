@@ -49,7 +49,7 @@ impl<D: Disks> Redo<D> {
     /// A handle with this first state. It makes no call of the device, and owes a recovery.
     fn new(
         alloc: Global,
-        place: u32,
+        index: u32,
         memory: Vec<u32>,
         kernel: Vec<u32>,
     ) -> Result<Redo<D>, AllocError>
@@ -57,11 +57,11 @@ impl<D: Disks> Redo<D> {
         requires text { IsText (form_in kernel.items) kernel.items }
         requires number { 1 ≤ number_in kernel.items }
         requires pages { (pages : ℕ) × (length memory.items ≡ 1024 * pages) × (pages ≤ 256) }
-        ensures same { IfOk result (λ s. (s.frame.place ≡ place) × (s.frame.size ≡ length memory.items) × ((shape_of s.frame).form ≡ form_in kernel.items)) }
+        ensures same { IfOk result (λ s. (s.frame.index ≡ index) × (s.frame.size ≡ length memory.items) × ((shape_of s.frame).form ≡ form_in kernel.items)) }
         ensures first { IfOk result (λ s. (s.frame.memory ≡ memory) × (s.frame.kernel ≡ kernel)) }
         ensures floor { IfOk result (λ s. s.marks.floor ≡ 0) }
     {
-        let frame = Frame::new(place, memory, kernel);
+        let frame = Frame::new(index, memory, kernel);
         let marks = Marks::new(alloc, frame.lines)?;
         let piece = vec![in alloc; 0; 2 * frame.half as usize]?;
         let words = vec![in alloc; 0; 1 + frame.event_words as usize]?;
@@ -80,14 +80,14 @@ impl<D: Disks> Redo<D> {
 impl<D: Disks> Redo<D> {
     /// Writes the first state on a disk of zeros, and goes on from it.
     fn start(&mut self, dev: &mut D) -> Result<(), DeviceFault>
-        requires large { D.extent dev.old self.old.frame.place ≡ 2 * self.old.frame.half }
-        requires blank { IfSome (D.told dev.old self.old.frame.place) (λ disk. disk ≡ blank (2 * self.old.frame.half)) }
+        requires large { D.extent dev.old self.old.frame.index ≡ 2 * self.old.frame.half }
+        requires blank { IfSome (D.told dev.old self.old.frame.index) (λ disk. disk ≡ blank (2 * self.old.frame.half)) }
         ensures same { self.new.frame ≡ self.old.frame }
         ensures known { known_of self.new.marks ≡ known_state 0 0 (whole_bytes (shape_of self.old.frame)) (number_in self.old.frame.kernel.items) false (body_of (shape_of self.old.frame) self.old.frame.memory.items self.old.frame.kernel.items) self.new.marks.touched.flags.items }
         ensures roomy { HasRoom (shape_of self.old.frame) (known_of self.new.marks) }
-        ensures images { (x : List ℕ) × EachImage (D.told dev.new self.old.frame.place) (IsFresh (shape_of self.old.frame) x) }
-        ensures ready { OnOk result (IsReady (shape_of self.old.frame) (known_of self.new.marks) (D.told dev.new self.old.frame.place)) }
-        ensures call { IsCall (of_disks D.Disks) self.old.frame.place dev.old dev.new result }
+        ensures images { (x : List ℕ) × EachImage (D.told dev.new self.old.frame.index) (IsFresh (shape_of self.old.frame) x) }
+        ensures ready { OnOk result (IsReady (shape_of self.old.frame) (known_of self.new.marks) (D.told dev.new self.old.frame.index)) }
+        ensures call { IsCall (of_disks D.Disks) self.old.frame.index dev.old dev.new result }
     {
         self.frame.begun(&mut self.marks);
         self.frame.begin(dev, &mut self.piece, &self.marks.body)
@@ -104,7 +104,7 @@ fn masked(old: u32, w: u32, mask: u32) -> u32
 impl<D: Disks> Checkpoint for Redo<D> {
     type Device = D;
 
-    ghost place = { λ s. s.frame.place };
+    ghost index = { λ s. s.frame.index };
 
     ghost size = { λ s. s.frame.size };
 
@@ -122,21 +122,21 @@ impl<D: Disks> Checkpoint for Redo<D> {
 
     ghost lent = { λ s dev. Unit {0} };
 
-    ghost ready = { λ s dev. IsLarge D.Disks s.frame dev × HasRoom (shape_of s.frame) (known_of s.marks) × IsReady (shape_of s.frame) (known_of s.marks) (D.told dev s.frame.place) };
+    ghost ready = { λ s dev. IsLarge D.Disks s.frame dev × HasRoom (shape_of s.frame) (known_of s.marks) × IsReady (shape_of s.frame) (known_of s.marks) (D.told dev s.frame.index) };
 
-    ghost prepared = { λ s dev g. IsLarge D.Disks s.frame dev × HasRoom (shape_of s.frame) (known_of s.marks) × ((s.marks.number ≡ g) × (s.marks.logged ≡ 0)) × IsAtRest (IsPrepared (shape_of s.frame) (known_of s.marks) g) (D.told dev s.frame.place) };
+    ghost prepared = { λ s dev g. IsLarge D.Disks s.frame dev × HasRoom (shape_of s.frame) (known_of s.marks) × ((s.marks.number ≡ g) × (s.marks.logged ≡ 0)) × IsAtRest (IsPrepared (shape_of s.frame) (known_of s.marks) g) (D.told dev s.frame.index) };
 
     ghost decidable = { λ s dev g. (s.marks.decided ≡ 0) × (s.marks.floor ≤ g) };
 
     ghost loggable = { λ s. Unit {0} };
 
-    ghost steady = { λ s dev. IsSteadyFrom (shape_of s.frame) s.marks.floor (D.told dev s.frame.place) };
+    ghost steady = { λ s dev. IsSteadyFrom (shape_of s.frame) s.marks.floor (D.told dev s.frame.index) };
 
-    ghost leaves = { λ s dev d r. StandsFor (shape_of s.frame) (D.told dev s.frame.place) d r };
+    ghost leaves = { λ s dev d r. StandsFor (shape_of s.frame) (D.told dev s.frame.index) d r };
 
-    ghost numbers = { λ s dev e. Numbers (shape_of s.frame) (D.told dev s.frame.place) e };
+    ghost numbers = { λ s dev e. Numbers (shape_of s.frame) (D.told dev s.frame.index) e };
 
-    ghost contents = { λ s dev. memory_of s.frame.size s.marks.body.items (D.told dev s.frame.place) };
+    ghost contents = { λ s dev. memory_of s.frame.size s.marks.body.items (D.told dev s.frame.index) };
 
     ghost told = { λ dev q. IsSome (D.told dev q) };
 
@@ -236,19 +236,19 @@ impl<D: Disks> Checkpoint for Redo<D> {
 
     ghost settled = { λ s dev ready d e r low high. settled_reading (shape_of s.frame) (known_of s.marks) _ ready.2 d e r low high };
 
-    ghost some_reading = { λ s dev told. some_reading (shape_of s.frame) (D.told dev s.frame.place) told };
+    ghost some_reading = { λ s dev told. some_reading (shape_of s.frame) (D.told dev s.frame.index) told };
 
-    ghost some_number = { λ s dev told. some_number (shape_of s.frame) (D.told dev s.frame.place) told };
+    ghost some_number = { λ s dev told. some_number (shape_of s.frame) (D.told dev s.frame.index) told };
 
-    ghost contents_long = { λ s dev lent. memory_long s.frame.size s.marks.body.items (D.told dev s.frame.place) (fits_in s.frame s.marks.body.items s.long) };
+    ghost contents_long = { λ s dev lent. memory_long s.frame.size s.marks.body.items (D.told dev s.frame.index) (fits_in s.frame s.marks.body.items s.long) };
 
-    ghost contents_told = { λ s dev is. memory_told s.frame.size s.marks.body.items (D.told dev s.frame.place) is };
+    ghost contents_told = { λ s dev is. memory_told s.frame.size s.marks.body.items (D.told dev s.frame.index) is };
 
-    ghost told_contents = { λ s dev ready told. told_memory s.frame.size s.marks.body.items (D.told dev s.frame.place) told };
+    ghost told_contents = { λ s dev ready told. told_memory s.frame.size s.marks.body.items (D.told dev s.frame.index) told };
 
-    ghost leaves_alike = { λ c e dev same d r left. leaves_alike c.frame e.frame (D.told dev) (sym same.place_same) (sym same.size_same) (sym same.form_same) (sym same.first_same) d r left };
+    ghost leaves_alike = { λ c e dev same d r left. leaves_alike c.frame e.frame (D.told dev) (sym same.index_same) (sym same.size_same) (sym same.form_same) (sym same.first_same) d r left };
 
-    ghost numbers_alike = { λ c e dev same d is. numbers_alike c.frame e.frame (D.told dev) (sym same.place_same) (sym same.size_same) (sym same.form_same) d is };
+    ghost numbers_alike = { λ c e dev same d is. numbers_alike c.frame e.frame (D.told dev) (sym same.index_same) (sym same.size_same) (sym same.form_same) d is };
 
     ghost lent_fits = { λ s dev is. is };
 

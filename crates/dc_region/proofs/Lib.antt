@@ -1,3 +1,3 @@
 pub mod Memory
-pub mod Places
+pub mod Cells
 pub mod Sharing

@@ -3,10 +3,10 @@
 --     block_ty, block_size, block_align      the block that the allocator is asked for
 --     args, P      the allocator's type, as the code and the contracts see it
 --     needs_both      a `requires` of two facts
---     slot_out, slot_in, Besides      one place is taken out of the row, and put back
---     emptied      a place that may hold a word is room for one
---     of_room, to_room      room for an array is a row of empty places, and a row of any places is room for an array
---     slot_seen, all_seen      one place of a row that is lent, and all its words
+--     slot_out, slot_in, Besides      one cell is taken out of the row, and put back
+--     emptied      a cell that may hold a word is room for one
+--     of_room, to_room      room for an array is a row of empty cells, and a row of any cells is room for an array
+--     slot_seen, all_seen      one cell of a row that is lent, and all its words
 use mathlib.Core.Path.{◌≡◌, refl, sym, ap, subst, ◌∙◌}
 use Prim.Native.Nat.{ℕ, zero, suc, ◌+◌, ◌*◌, ◌^◌, ◌<◌, ◌≤◌}
 use native.Mathlib.Omega.{arith}
@@ -132,7 +132,7 @@ module _ {M : Type 1} {𝓤 : Ura M} (𝓛 : Logic 𝓤) (b : ℕ) where
       use2 𝓛 (‵ (Row (o + 4) (xs ++ ys))) (glue xs ys (o + 4) at (omega arith)) $ move ! (1 ∷ 0 ∷ []) $ fjoin ! $ done !
 
   module _ (o : ℕ) (cs : List (Option ℕ)) (i : ℕ) where
-    -- the places but for the i-th
+    -- the cells but for the i-th
     abbrev pub Besides : Fml
     Besides = fsep (Row o (take i cs)) (Row (i * 4 + o + 4) (drop (suc i) cs))
 

@@ -1,4 +1,4 @@
--- A `&` to the places is made where one to a word is. Assumes `Logic`.
+-- A `&` to the cells is made where one to a word is. Assumes `Logic`.
 use mathlib.Core.Path.{refl}
 use Prim.Native.Nat.{ℕ, ◌+◌}
 use Rattle.std.specs.Prelude.{List, [], ◌∷◌, Option, Some, None}

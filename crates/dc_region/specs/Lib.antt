@@ -1,3 +1,3 @@
 pub mod Block
 pub mod Ownership
-pub mod Places
+pub mod Cells

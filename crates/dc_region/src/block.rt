@@ -1,9 +1,9 @@
-//! The block that the words lie in: a row of places, each empty or holding a word.
+//! The block that the words lie in: a row of cells, each empty or holding a word.
 ghost use Rattle.std.specs.Prelude.{◌≡◌, ℕ, ◌*◌, ◌^◌, ◌<◌, List, Option, Some, None, map, length, replicate, get_or, slice_set, IfOk};
 ghost use base.Fml.{ftrue};
 ghost use denote.RawPtr.{Ptr};
 ghost use Rattle.dc_region.specs.Ownership.{words_own, words_lent, deed_owns};
-ghost use Rattle.dc_region.specs.Places.{IsFilled, AreFilled};
+ghost use Rattle.dc_region.specs.Cells.{IsFilled, AreFilled};
 
 use std::alloc::{AllocError, Allocator};
 use std::marker::{Model, PhantomData};
@@ -16,7 +16,7 @@ pub struct Base {
     ptr: *mut u32,
 }
 
-/// The owner of the places. It takes no space: the region holds the pointer and the length.
+/// The owner of the cells. It takes no space: the region holds the pointer and the length.
 pub struct Words {
     mark: PhantomData<*const u32>,
     ghost at: { Ptr },
@@ -29,7 +29,7 @@ impl Model for Words {
     ghost also_shares = { λ w _ κ. words_lent w.at w.slots κ };
 }
 
-/// The right to give the block of `len` places at `at` back to `alloc`. It takes no space.
+/// The right to give the block of `len` cells at `at` back to `alloc`. It takes no space.
 pub struct Deed<A: Allocator> {
     mark: PhantomData<*const A>,
     ghost at: { Ptr },
@@ -43,7 +43,7 @@ impl<A: Allocator> Model for Deed<A> {
     ghost also_shares = { λ _ _ _. ftrue };
 }
 
-/// Takes a block with room for `len` words. Each place is empty.
+/// Takes a block with room for `len` words. Each cell is empty.
 pub(crate) fn allocate<A: Allocator>(
     alloc: &A,
     len: usize,
@@ -66,7 +66,7 @@ pub(crate) fn allocate<A: Allocator>(
     }
 }
 
-/// Gives the block back, whatever its places hold.
+/// Gives the block back, whatever its cells hold.
 pub(crate) fn deallocate<A: Allocator>(
     alloc: &A,
     base: Base,
@@ -88,7 +88,7 @@ pub(crate) fn deallocate<A: Allocator>(
 }
 
 impl Words {
-    /// Puts a word into the place at an index, which may hold one already.
+    /// Puts a word into the cell at an index, which may hold one already.
     pub(crate) fn put(&mut self, base: Base, index: usize, word: u32)
         requires { (base.ptr ≡ self.old.at) × (index < length self.old.slots) }
         ensures { (self.new.at ≡ self.old.at) × (self.new.slots ≡ slice_set self.old.slots index (Some word)) }
@@ -96,7 +96,7 @@ impl Words {
         unsafe { base.ptr.add(index).write(word) }
     }
 
-    /// The word in the place at an index.
+    /// The word in the cell at an index.
     pub(crate) fn get(&self, base: Base, index: usize) -> u32
         requires { (base.ptr ≡ self.now.at) × IsFilled self.now.slots index }
         ensures { get_or self.now.slots index None ≡ Some result }
@@ -104,7 +104,7 @@ impl Words {
         unsafe { *base.ptr.add(index) }
     }
 
-    /// All the words, where each of the `len` places holds one.
+    /// All the words, where each of the `len` cells holds one.
     pub(crate) fn all(&self, base: Base, len: usize) -> &[u32]
         requires { (base.ptr ≡ self.now.at) × AreFilled self.now.slots len }
         ensures { self.now.slots ≡ map Some result.now }

@@ -26,7 +26,7 @@ pub struct Region {
 
 impl Model for Region {
     ghost use Rattle.std.specs.Prelude.{ℕ, List};
-    ghost use Rattle.dc_region.specs.Places.{held};
+    ghost use Rattle.dc_region.specs.Cells.{held};
     ghost use Rattle.dc_region.specs.Block.{IsBlock};
 
     ghost Value = { List ℕ };
@@ -36,7 +36,7 @@ impl Model for Region {
     ghost invariant = { λ r. IsBlock r.base r.len r.words r.deed r.alloc };
 }
 
-/// Puts a zero into each of the places.
+/// Puts a zero into each of the cells.
 fn fill(words: &mut Words, base: Base, len: usize)
     requires { (base.ptr ≡ words.old.at) × (length words.old.slots ≡ len) }
     ensures { (words.new.at ≡ words.old.at) × (words.new.slots ≡ replicate len (Some 0)) }
@@ -54,12 +54,12 @@ impl Region {
         if words > MOST_WORDS {
             return Err(AllocError);
         }
-        let (base, mut places, deed) = allocate(&alloc, words)?;
-        fill(&mut places, base, words);
+        let (base, mut cells, deed) = allocate(&alloc, words)?;
+        fill(&mut cells, base, words);
         Ok(Region {
             base,
             len: words,
-            words: places,
+            words: cells,
             deed,
             alloc,
         })
@@ -100,10 +100,10 @@ impl Region {
         }
     }
 
-    /// Copies a line of 16 words to a place that is the same or lies apart.
+    /// Copies a line of 16 words to a cell that is the same or lies apart.
     pub fn copy_line(&mut self, from: usize, to: usize)
         requires source { from + 16 ≤ length self.old }
-        requires place { to + 16 ≤ length self.old }
+        requires index { to + 16 ≤ length self.old }
         requires apart { AreSameOrApart from to }
         ensures { self.new ≡ copied 16 from to self.old }
     {
@@ -114,7 +114,7 @@ impl Region {
     pub fn copy_front(&mut self, from: usize, to: usize, count: usize)
         requires few { count ≤ 16 }
         requires source { from + 16 ≤ length self.old }
-        requires place { to + 16 ≤ length self.old }
+        requires index { to + 16 ≤ length self.old }
         requires apart { AreSameOrApart from to }
         ensures { self.new ≡ copied count from to self.old }
     {

@@ -3,7 +3,8 @@ use Rattle.std.proofs.Common.{◌≡◌, ◌∙◌, ◌⊎◌, inl, inr, ℕ, Bo
 use Rattle.std.proofs.lemmas.Bool.{true≢false}
 use Rattle.std.specs.declared.alloc.Global.{Global}
 use Rattle.dc_course.specs.Headline.{IsEnding, Setting}
-use Rattle.dc_course.specs.Segments.{TellsStores}
+use Rattle.dc_course.specs.Lent.{TellsStores}
+use Rattle.dc_media.specs.Devices.{of_words}
 use Rattle.dc_course.specs.declared.ending.Ending.{Ending}
 use Rattle.dc_course.specs.declared.ending.Ending.TheVariants as ending
 use Rattle.dc_checkpoint.specs.declared.faults.StoreFault.{StoreFault}
@@ -68,7 +69,7 @@ ended_well work Usage may known = absurd (no_end work Usage refl refl refl may)
 ended_well work (PlanRefused fault) may known = absurd (no_end work (PlanRefused fault) refl refl refl may)
 ended_well work (GuestRefused p fault) may known = absurd (no_end work (GuestRefused p fault) refl refl refl may)
 ended_well work (Missing which) may known = absurd (no_end work (Missing which) refl refl refl may)
-ended_well work (NotARun place) may known = absurd (no_end work (NotARun place) refl refl refl may)
+ended_well work (NotARun position) may known = absurd (no_end work (NotARun position) refl refl refl may)
 ended_well work (Differs line) may known = absurd (no_end work (Differs line) refl refl refl may)
 ended_well work (ScheduleRefused fault) may known = absurd (no_end work (ScheduleRefused fault) refl refl refl may)
 ended_well work (ReportRefused fault) may known = absurd (no_end work (ReportRefused fault) refl refl refl may)
@@ -107,13 +108,13 @@ module _ {S : Type 0} (words : keeps.Ghosts S) (asked : List (String Global)) (v
   other_complete (Some files) opened other = complete_by (work_of files asked) opened (λ work at told p fault e. true≢false (sym (ap is_of_run e) ∙ other)) (λ work at is. other)
 
   by_setting : (told : Result Setting Verdict) → IsOpenedFor (λ setting u. may_have_run u) v told
-      → ((p : ℕ) (fault : StoreFault) → v ≡ StoreRefused p fault → IsOkAnd told (λ setting. TellsStores words (length setting.images) before after → ⊥)) → IfOk (told >>= (λ setting. Ok (Run setting))) Complete
+      → ((p : ℕ) (fault : StoreFault) → v ≡ StoreRefused p fault → IsOkAnd told (λ setting. TellsStores (of_words words) (length setting.images) before after → ⊥)) → IfOk (told >>= (λ setting. Ok (Run setting))) Complete
   by_setting (Ok setting) opened never = complete_at (Run setting) opened (λ told p fault e. never p fault e told) (λ is. absurd (true≢false is))
   by_setting (Err refusal) opened never = tt
 
   -- of a run: its store is refused only where it is not told
   pub run_complete : (known : Option Files) (plan : List ℕ) → asked_of asked ≡ Some (ToRun plan) → IfSome known (λ files. IsOpenedFor (λ setting u. may_have_run u) v (as_verdict (opening_of files plan)))
-      → ((p : ℕ) (fault : StoreFault) → v ≡ StoreRefused p fault → IfSome known (λ files. IsOkAnd (as_verdict (opening_of files plan)) (λ setting. TellsStores words (length setting.images) before after → ⊥)))
+      → ((p : ℕ) (fault : StoreFault) → v ≡ StoreRefused p fault → IfSome known (λ files. IsOkAnd (as_verdict (opening_of files plan)) (λ setting. TellsStores (of_words words) (length setting.images) before after → ⊥)))
       → IfSome known (λ files. IfOk (work_of files asked) Complete)
   run_complete None plan is opened never = tt
   run_complete (Some files) plan is opened never = rw is (by_setting (as_verdict (opening_of files plan)) opened never)
@@ -131,7 +132,7 @@ by_ending ending.Sink v text sink p fault never (inl whole) e = let no_way : Sin
 by_ending ending.Sink v text sink p fault never (inr cut) e = let no_way : SinkFault Out ≡ StoreRefused p fault = sym cut.0 ∙ e in cc
 
 pub never_refused : {S : Type 0} (words : keeps.Ghosts S) (setting : Setting) (o : Outcome) (lent : Loan S) (out report : SinkCourse) (p : ℕ) (fault : StoreFault) → o.verdict ≡ StoreRefused p fault
-    → IsReported words setting o lent out report → TellsStores words (length setting.images) lent.before lent.after → ⊥
+    → IsReported words setting o lent out report → TellsStores (of_words words) (length setting.images) lent.before lent.after → ⊥
 never_refused words setting o lent out report p fault e is told = let kept = is.kept told in
     by_ending is.ending o.verdict _ report p fault (λ q why same. subst (λ x. IsEnding setting x o.marks.items kept.last kept.core) same kept.ending_is) is.report_told e
 

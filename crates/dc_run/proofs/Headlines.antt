@@ -6,7 +6,9 @@ use Rattle.dc_course.specs.Courses.{IsCourse, counts_of}
 use Rattle.dc_course.specs.Courses.{account_of as run_account}
 use Rattle.dc_course.specs.Headline.{Setting}
 use Rattle.dc_course.specs.Running.{output}
-use Rattle.dc_course.specs.Segments.{SegmentsLeft, TellsStores, capped_by}
+use Rattle.dc_course.specs.Lent.{TellsStores, capped_by}
+use Rattle.dc_media.specs.Devices.{of_words}
+use Rattle.dc_rio.specs.Segments.{SegmentsLeft}
 use Rattle.dc_course.specs.declared.course.Course.{Course}
 use Rattle.dc_model.specs.declared.entry.Entry.{Entry}
 use Rattle.dc_model.specs.declared.entry.Entry.TheVariants.{Turn, Stop, Power}
@@ -27,8 +29,8 @@ use Rattle.dc_run.specs.declared.verdict.Did.TheVariants.{Run}
 -- with the report of what the run came to
 pub with_report : {S : Type 0} (words : keeps.Ghosts S) (setting : Setting) (run : Course) (outcome o : Outcome) (lent : Loan S) (out report : SinkCourse)
     → outcome ≡ record { verdict = verdict_at run.ending; did = Run; acts = run.acts; marks = run.marks; lines = run.lines; difference = None }
-    → (TellsStores words (length setting.images) lent.before lent.after
-    → IsCourse setting (run_account run) run.ending (output out.before out.after) (counts_of words.stops (capped_by words.calls) lent.before lent.after) (λ core. SegmentsLeft words setting core lent.after))
+    → (TellsStores (of_words words) (length setting.images) lent.before lent.after
+    → IsCourse setting (run_account run) run.ending (output out.before out.after) (counts_of words.stops (capped_by words.calls) lent.before lent.after) (λ core dev. SegmentsLeft words setting core dev))
     → Reports outcome.verdict o.verdict (report_text (status_of outcome.verdict) (length outcome.marks.items) outcome.acts.items outcome.lines) report
     → o.acts ≡ outcome.acts → o.marks ≡ outcome.marks → o.lines ≡ outcome.lines → IsReported words setting o lent out report
 with_report words setting run outcome o lent out report is kept reports acts marks lines = rw (acts, marks, lines) (rw is (record { ending = run.ending; kept = kept; report_told = rw is at reports }))

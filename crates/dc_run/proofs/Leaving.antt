@@ -4,25 +4,25 @@ use Rattle.std.specs.declared.alloc.Global.{Global}
 use Rattle.dc_command.specs.Command.{asked_of}
 use Rattle.dc_command.specs.Command.Asked.{ToRun}
 use Rattle.dc_course.specs.Headline.{Setting}
-use Rattle.dc_course.specs.Segments.{AreLeftFrom}
-use Rattle.dc_media.specs.declared.keeps.Keeps as keeps
+use Rattle.dc_course.specs.Lent.{AreLeftFrom}
+use Rattle.dc_media.specs.Told.{Device}
 use Rattle.dc_run.specs.Commands.{stores_used, work_by, work_of}
 use Rattle.dc_run.specs.Opening.{Files, opening_of}
 
-module _ {S : Type 0} (words : keeps.Ghosts S) where
+module _ {S C : Type 0} (device : Device S C) where
   -- stores that no call touched are left alone, whatever is used
-  pub left_same : (known : Option Files) (used : Files → ℕ) (s : S) → IfSome known (λ files. AreLeftFrom (used files) words s s)
+  pub left_same : (known : Option Files) (used : Files → ℕ) (s : S) → IfSome known (λ files. AreLeftFrom (used files) device s s)
   left_same None used s = tt
   left_same (Some files) used s = λ q high. record { told_same = refl; extent_same = refl; stops_same = refl; faults_same = refl }
 
   -- a run uses the stores of its setting's guests, where the told files open that setting
   pub opened_left : (known : Option Files) (plan : List ℕ) (setting : Setting) (old new : S) → ((files : Files) → known ≡ Some files → opening_of files plan ≡ Ok setting)
-      → AreLeftFrom (length setting.images) words old new → IfSome known (λ files. AreLeftFrom (stores_used (work_by files (ToRun plan))) words old new)
+      → AreLeftFrom (length setting.images) device old new → IfSome known (λ files. AreLeftFrom (stores_used (work_by files (ToRun plan))) device old new)
   opened_left None plan setting old new opened left = tt
   opened_left (Some files) plan setting old new opened left = rw (opened files refl) left
 
   -- the same of the words that ask for it
   pub asked_left : (known : Option Files) (line : List (String Global)) (plan : List ℕ) (old new : S) → asked_of line ≡ Some (ToRun plan)
-      → IfSome known (λ files. AreLeftFrom (stores_used (work_by files (ToRun plan))) words old new) → IfSome known (λ files. AreLeftFrom (stores_used (work_of files line)) words old new)
+      → IfSome known (λ files. AreLeftFrom (stores_used (work_by files (ToRun plan))) device old new) → IfSome known (λ files. AreLeftFrom (stores_used (work_of files line)) device old new)
   asked_left None line plan old new asked left = tt
   asked_left (Some files) line plan old new asked left = rw asked left

@@ -9,7 +9,8 @@ use Rattle.dc_check.specs.Findings.{finding_of}
 use Rattle.dc_check.specs.Findings.Finding.{Passes}
 use Rattle.dc_course.specs.Headline.{Account, IsEnding, IsHeadline, Last, Setting, Shows, marks_at, takes_part, torn_at, turn_after}
 use Rattle.dc_course.specs.Headline.Last.{Whole, Broken}
-use Rattle.dc_course.specs.Segments.{TellsStores}
+use Rattle.dc_course.specs.Lent.{TellsStores}
+use Rattle.dc_media.specs.Devices.{of_words}
 use Rattle.dc_course.specs.declared.ending.Ending.{Ending}
 use Rattle.dc_course.specs.declared.ending.Ending.TheVariants as ending
 use Rattle.dc_media.specs.Causes.{Rose}
@@ -142,7 +143,7 @@ reported_whole stood v text sink calm (inl whole) = whole.1
 reported_whole stood v text sink calm (inr cut) = absurd (no_rise sink.faults_before sink.faults_after calm cut.1)
 
 module _ {S : Type 0} (words : keeps.Ghosts S) (setting : Setting) (o : Outcome) (lent : Loan S) (out report : SinkCourse) (given : IsGivenRun setting.images setting.inputs setting.schedule)
-    (is : IsReported words setting o lent out report) (tells : TellsStores words (length setting.images) lent.before lent.after) (calm : IsCalm out.faults_before out.faults_after)
+    (is : IsReported words setting o lent out report) (tells : TellsStores (of_words words) (length setting.images) lent.before lent.after) (calm : IsCalm out.faults_before out.faults_after)
     (calm' : IsCalm report.faults_before report.faults_after) (sink : o.verdict ≡ SinkFault outlet.Out → Rose out.faults_before out.faults_after)
     (empty : out.before ≡ Some []) (empty' : report.before ≡ Some []) where
   not_sink : is.ending ≡ ending.Sink → ⊥

@@ -61,7 +61,7 @@ found_in files names = opening_of files names.plan >>= found_at_setting files na
 -- an output that passes, or how it is refused
 abbrev pub passed : List Taken → Finding → Result Checked Verdict
 passed acts (found.Passes visibles) = Ok (record { acts = acts; visibles = visibles })
-passed acts (found.NotARun place) = Err (NotARun place)
+passed acts (found.NotARun position) = Err (NotARun position)
 passed acts (found.Differs difference) = Err (Differs difference.line)
 
 -- by what was found

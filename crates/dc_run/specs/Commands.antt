@@ -10,7 +10,8 @@ use Rattle.dc_command.specs.declared.command.CommandFault.{CommandFault}
 use Rattle.dc_command.specs.declared.command.CommandFault.TheVariants as command
 use Rattle.dc_words.specs.Results.{◌>>=◌, or_fault}
 use Rattle.dc_course.specs.Headline.{Setting}
-use Rattle.dc_course.specs.Segments.{TellsStores}
+use Rattle.dc_course.specs.Lent.{TellsStores}
+use Rattle.dc_media.specs.Devices.{of_words}
 use Rattle.dc_media.specs.declared.keeps.Keeps as keeps
 use Rattle.dc_run.specs.Headline.{SinkCourse}
 use Rattle.dc_run.specs.Opening.{Files, AsksToRun, opening_of}
@@ -103,7 +104,7 @@ stores_used _ = 0
 
 -- the stores that a run was lent told what they held
 abbrev pub TellsFor : {S : Type 0} → keeps.Ghosts S → S → S → Work → Type 0
-TellsFor words before after (Run setting) = TellsStores words (length setting.images) before after
+TellsFor words before after (Run setting) = TellsStores (of_words words) (length setting.images) before after
 TellsFor words before after _ = Unit {0}
 
 -- the counts of faults of what a call was lent stay: of the library, of each process's device, of the output and of the report

@@ -4,7 +4,9 @@ use Rattle.dc_acts.specs.Reports.{report_text}
 use Rattle.dc_course.specs.Courses.{IsCourse, counts_of}
 use Rattle.dc_course.specs.Headline.{Account, Setting}
 use Rattle.dc_course.specs.Running.{output}
-use Rattle.dc_course.specs.Segments.{SegmentsLeft, TellsStores, capped_by}
+use Rattle.dc_course.specs.Lent.{TellsStores, capped_by}
+use Rattle.dc_media.specs.Devices.{of_words}
+use Rattle.dc_rio.specs.Segments.{SegmentsLeft}
 use Rattle.dc_course.specs.declared.ending.Ending.{Ending}
 use Rattle.dc_course.specs.declared.ending.Ending.TheVariants as ending
 use Rattle.dc_media.specs.Causes.{Rose}
@@ -70,8 +72,8 @@ Reports stood verdict text sink =
 -- a run that kept the promise, where the stores tell what they hold, with its report: the status is that of the verdict before the report
 pub record IsReported {S : Type 0} (words : keeps.Ghosts S) (setting : Setting) (o : Outcome) (lent : Loan S) (out report : SinkCourse) : Type 0 where
   pub ending : Ending
-  pub kept : TellsStores words (length setting.images) lent.before lent.after
-      → IsCourse setting (account_of o) ending (output out.before out.after) (counts_of words.stops (capped_by words.calls) lent.before lent.after) (λ core. SegmentsLeft words setting core lent.after)
+  pub kept : TellsStores (of_words words) (length setting.images) lent.before lent.after
+      → IsCourse setting (account_of o) ending (output out.before out.after) (counts_of words.stops (capped_by words.calls) lent.before lent.after) (λ core dev. SegmentsLeft words setting core dev)
   pub report_told : Reports (verdict_at ending) o.verdict (report_text (status_of (verdict_at ending)) (length o.marks.items) o.acts.items o.lines) report
 
 -- the line of an outcome was written whole, or its sink failed and a part of its front was

@@ -141,7 +141,7 @@ fn conclude_check<O: Sink>(alloc: Global, found: Found, out: &mut O) -> Outcome
     let Found { acts, finding } = found;
     match finding {
         Finding::Passes(visibles) => write_passed(alloc, acts, visibles, out),
-        Finding::NotARun(place) => Outcome::idle(alloc, Verdict::NotARun(place)),
+        Finding::NotARun(position) => Outcome::idle(alloc, Verdict::NotARun(position)),
         Finding::Differs(difference) => {
             let verdict = Verdict::Differs(difference.line);
             Outcome {

@@ -114,7 +114,7 @@ impl Outcome {
             Verdict::LibraryFault(which) => push_which(line, b"library failed: ", which),
             Verdict::DeviceFault(p) => push_device_fault(line, p),
             Verdict::SinkFault(outlet) => push_both(line, b"sink failed: ", outlet_name(outlet)),
-            Verdict::NotARun(place) => push_at(line, b"not a run: act ", u64::from(place)),
+            Verdict::NotARun(position) => push_at(line, b"not a run: act ", u64::from(position)),
             Verdict::Differs(number) => push_at(line, b"differs: line ", number),
             Verdict::WantOfMemory => line.push(b"out of memory"),
             Verdict::ScheduleRefused(fault) => push_schedule_fault(line, fault),

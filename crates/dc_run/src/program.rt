@@ -4,11 +4,14 @@ ghost use Rattle.dc_asm.specs.declared.forms.Meant.{Meant};
 ghost use Rattle.dc_course.specs.Courses.{IsCourse, account_of, counts_of};
 ghost use Rattle.dc_course.specs.Headline.{Setting as Settings};
 ghost use Rattle.dc_course.specs.Running.{output};
-ghost use Rattle.dc_course.specs.Segments.{AreLeftFrom, KeepsTold, SegmentsLeft, TellsStores, capped_by};
+ghost use Rattle.dc_course.specs.Lent.{AreLeftFrom, KeepsTold, TellsStores, capped_by};
+ghost use Rattle.dc_rio.specs.Segments.{SegmentsLeft};
 ghost use Rattle.dc_course.specs.declared.ending.Ending.TheVariants as endings;
+ghost use Rattle.dc_world.specs.Opened.{IsCalmUnlessStopped};
 ghost use Rattle.dc_world.specs.declared.faults.OpenFault.TheVariants as opening;
 ghost use Rattle.dc_limits.specs.declared.sizes.TheConstants.{PROCESSES};
 ghost use Rattle.dc_media.specs.Causes.{Rose};
+ghost use Rattle.dc_media.specs.Devices.{of_words};
 ghost use Rattle.dc_media.specs.Told.{TellsOn};
 ghost use Rattle.dc_run.specs.Assembling.{IsAssembled};
 ghost use Rattle.dc_run.specs.Checking.{Checked, IsChecked, TellsDifference, TellsLine};
@@ -33,8 +36,9 @@ use crate::setting::Setting;
 use crate::{Did, Outlet, Verdict};
 use dc_acts::write_report;
 use dc_command::{Asked, CommandFault, command_in};
-use dc_course::{Course, Ending, run_on_memory};
+use dc_course::{Course, Ending};
 use dc_media::{Disks, Keeps, Library, Sink};
+use dc_rio::run_on_memory;
 use dc_world::{OpenFault, Setup};
 use std::alloc::Global;
 
@@ -72,6 +76,7 @@ pub fn dc<L: Library, K: Keeps, D: Disks, O: Sink, R: Sink>(
     ensures library_fault { (which : Whose) → result.verdict ≡ Verdict.LibraryFault which → Rose (L.faults lib.old) (L.faults lib.new) }
     ensures library_asked { (which : Whose) → IfSome (L.files lib.old) (λ files. result.verdict ≡ Verdict.LibraryFault which → Asks files words.now which) }
     ensures device_fault { (p : ℕ) → result.verdict ≡ Verdict.DeviceFault p → Rose (K.faults keeps.old p) (K.faults keeps.new p) }
+    ensures wanting { result.verdict ≡ Verdict.WantOfMemory → (p : ℕ) → IsCalmUnlessStopped K.stops K.faults p keeps.old keeps.new }
     ensures output_fault { result.verdict ≡ Verdict.SinkFault Outlet.Out → Rose (O.faults out.old) (O.faults out.new) }
     ensures report_fault { result.verdict ≡ Verdict.SinkFault Outlet.Report → Rose (R.faults report.old) (R.faults report.new) }
 
@@ -82,7 +87,7 @@ pub fn dc<L: Library, K: Keeps, D: Disks, O: Sink, R: Sink>(
 
     // What a run wrote on sinks that held nothing and did not fail passes the check of it, wherever files hold it.
     ensures passes { result.did ≡ Did.Run → IfSome (L.files lib.old) (λ files. IsOkAnd (work_of files words.now) (λ work. IfRun work (λ setting.
-        TellsStores K.Keeps (length setting.images) keeps.old keeps.new → WritesPassing setting (course (O.held out.old) (O.held out.new) (O.faults out.old) (O.faults out.new))
+        TellsStores (of_words K.Keeps) (length setting.images) keeps.old keeps.new → WritesPassing setting (course (O.held out.old) (O.held out.new) (O.faults out.old) (O.faults out.new))
         (course (R.held report.old) (R.held report.new) (R.faults report.old) (R.faults report.new)) result.acts.items))) }
 
     // The same where the files are not told: there is a setting of which it holds. Words that ask to run a plan do a run or nothing: a
@@ -121,9 +126,9 @@ pub fn dc<L: Library, K: Keeps, D: Disks, O: Sink, R: Sink>(
     ensures keeps { ((plan : List ℕ) → asked_of words.now ≡ Some (ToRun plan) → ⊥) → keeps.new ≡ keeps.old }
     ensures keeps_refused { may_have_run result.verdict ≡ false → (result.verdict ≡ Verdict.WantOfMemory → ⊥) → keeps.new ≡ keeps.old }
     ensures keeps_later { (p : ℕ) → (K.stops keeps.old p ≤ K.stops keeps.new p) × (K.faults keeps.old p ≤ K.faults keeps.new p) }
-    ensures keeps_tells { (p : ℕ) → KeepsTold K.Keeps keeps.old keeps.new p }
-    ensures keeps_others { IfSome (L.files lib.old) (λ files. AreLeftFrom (stores_used (work_of files words.now)) K.Keeps keeps.old keeps.new) }
-    ensures keeps_beyond { AreLeftFrom PROCESSES K.Keeps keeps.old keeps.new }
+    ensures keeps_tells { (p : ℕ) → KeepsTold (of_words K.Keeps) keeps.old keeps.new p }
+    ensures keeps_others { IfSome (L.files lib.old) (λ files. AreLeftFrom (stores_used (work_of files words.now)) (of_words K.Keeps) keeps.old keeps.new) }
+    ensures keeps_beyond { AreLeftFrom PROCESSES (of_words K.Keeps) keeps.old keeps.new }
     ensures disks { disks.new ≡ disks.old }
 {
     match command_in(alloc, words) {
@@ -196,20 +201,21 @@ fn run_setting<K: Keeps, O: Sink>(
     keeps: &mut K,
     out: &mut O,
 ) -> Result<Course, OpenFault>
-    ensures headline { IfOk result (λ run. TellsStores K.Keeps (length (setting_of setting).images) keeps.old keeps.new →
+    ensures headline { IfOk result (λ run. TellsStores (of_words K.Keeps) (length (setting_of setting).images) keeps.old keeps.new →
         IsCourse (setting_of setting) (account_of run) run.ending (output (O.held out.old) (O.held out.new)) (counts_of K.stops (capped_by K.calls) keeps.old keeps.new)
-        (λ core. SegmentsLeft K.Keeps (setting_of setting) core keeps.new)) }
+        (λ core lent. SegmentsLeft K.Keeps (setting_of setting) core lent)) }
     ensures device { IfOk result (λ run. (p : ℕ) → run.ending ≡ endings.Device p → Rose (K.faults keeps.old p) (K.faults keeps.new p)) }
     ensures sink { IfOk result (λ run. run.ending ≡ endings.Sink → Rose (O.faults out.old) (O.faults out.new)) }
     ensures few { IfOk result (λ run. length run.marks.items < 2 ^ 32) }
     ensures failed { (p : ℕ) → result ≡ Err (opening.Failed p) → Rose (K.faults keeps.old p) (K.faults keeps.new p) }
+    ensures wanting { result ≡ Err opening.Memory → (p : ℕ) → IsCalmUnlessStopped K.stops K.faults p keeps.old keeps.new }
     ensures unopened { OnErr result (out.new ≡ out.old) }
     ensures keeps_later { (p : ℕ) → (K.stops keeps.old p ≤ K.stops keeps.new p) × (K.faults keeps.old p ≤ K.faults keeps.new p) }
     ensures later { O.faults out.old ≤ O.faults out.new }
     ensures tells { TellsOn 0 (O.faults out.new) (O.held out.old) (O.held out.new) }
-    ensures keeps_tells { (p : ℕ) → KeepsTold K.Keeps keeps.old keeps.new p }
-    ensures keeps_others { AreLeftFrom (length (setting_of setting).images) K.Keeps keeps.old keeps.new }
-    ensures keeps_beyond { AreLeftFrom PROCESSES K.Keeps keeps.old keeps.new }
+    ensures keeps_tells { (p : ℕ) → KeepsTold (of_words K.Keeps) keeps.old keeps.new p }
+    ensures keeps_others { AreLeftFrom (length (setting_of setting).images) (of_words K.Keeps) keeps.old keeps.new }
+    ensures keeps_beyond { AreLeftFrom PROCESSES (of_words K.Keeps) keeps.old keeps.new }
 {
     let Setting {
         protocol,
@@ -241,13 +247,14 @@ fn run_plan<L: Library, K: Keeps, O: Sink, R: Sink>(
     ensures library_fault { (which : Whose) → result.verdict ≡ Verdict.LibraryFault which → Rose (L.faults lib.old) (L.faults lib.new) }
     ensures library_asked { (which : Whose) → IfSome (L.files lib.old) (λ files. result.verdict ≡ Verdict.LibraryFault which → AsksToRun files plan.now which) }
     ensures device_fault { (p : ℕ) → result.verdict ≡ Verdict.DeviceFault p → Rose (K.faults keeps.old p) (K.faults keeps.new p) }
+    ensures wanting { result.verdict ≡ Verdict.WantOfMemory → (p : ℕ) → IsCalmUnlessStopped K.stops K.faults p keeps.old keeps.new }
     ensures output_fault { result.verdict ≡ Verdict.SinkFault Outlet.Out → Rose (O.faults out.old) (O.faults out.new) }
     ensures report_fault { result.verdict ≡ Verdict.SinkFault Outlet.Report → Rose (R.faults report.old) (R.faults report.new) }
     ensures headline { result.did ≡ Did.Run → IfSome (L.files lib.old) (λ files. IsOkAnd (as_verdict (opening_of files plan.now)) (λ setting.
         IsReported K.Keeps setting result (loan keeps.old keeps.new) (course (O.held out.old) (O.held out.new) (O.faults out.old) (O.faults out.new))
         (course (R.held report.old) (R.held report.new) (R.faults report.old) (R.faults report.new)))) }
     ensures passes { result.did ≡ Did.Run → IfSome (L.files lib.old) (λ files. IsOkAnd (as_verdict (opening_of files plan.now)) (λ setting.
-        TellsStores K.Keeps (length setting.images) keeps.old keeps.new → WritesPassing setting (course (O.held out.old) (O.held out.new) (O.faults out.old) (O.faults out.new))
+        TellsStores (of_words K.Keeps) (length setting.images) keeps.old keeps.new → WritesPassing setting (course (O.held out.old) (O.held out.new) (O.faults out.old) (O.faults out.new))
         (course (R.held report.old) (R.held report.new) (R.faults report.old) (R.faults report.new)) result.acts.items)) }
     ensures ran { result.did ≡ Did.Run → (setting : Settings) ×
         IsReported K.Keeps setting result (loan keeps.old keeps.new) (course (O.held out.old) (O.held out.new) (O.faults out.old) (O.faults out.new))
@@ -264,9 +271,9 @@ fn run_plan<L: Library, K: Keeps, O: Sink, R: Sink>(
     ensures report_later { R.faults report.old ≤ R.faults report.new }
     ensures keeps_refused { may_have_run result.verdict ≡ false → (result.verdict ≡ Verdict.WantOfMemory → ⊥) → keeps.new ≡ keeps.old }
     ensures keeps_later { (p : ℕ) → (K.stops keeps.old p ≤ K.stops keeps.new p) × (K.faults keeps.old p ≤ K.faults keeps.new p) }
-    ensures keeps_tells { (p : ℕ) → KeepsTold K.Keeps keeps.old keeps.new p }
-    ensures keeps_others { IfSome (L.files lib.old) (λ files. AreLeftFrom (stores_used (work_by files (ToRun plan.now))) K.Keeps keeps.old keeps.new) }
-    ensures keeps_beyond { AreLeftFrom PROCESSES K.Keeps keeps.old keeps.new }
+    ensures keeps_tells { (p : ℕ) → KeepsTold (of_words K.Keeps) keeps.old keeps.new p }
+    ensures keeps_others { IfSome (L.files lib.old) (λ files. AreLeftFrom (stores_used (work_by files (ToRun plan.now))) (of_words K.Keeps) keeps.old keeps.new) }
+    ensures keeps_beyond { AreLeftFrom PROCESSES (of_words K.Keeps) keeps.old keeps.new }
 {
     let setting = match open(alloc, plan, lib) {
         Ok(setting) => setting,

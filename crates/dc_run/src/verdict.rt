@@ -66,7 +66,7 @@ pub enum Verdict {
     DeviceFault(u32),
     /// That sink failed.
     SinkFault(Outlet),
-    /// The act at that place of the report, from 0 on, is the first that was not drawn at its turn or does not apply.
+    /// The act at that position of the report, from 0 on, is the first that was not drawn at its turn or does not apply.
     NotARun(u32),
     /// That line of the output is the first that differs; `Outcome::difference` has what stands there and what would.
     Differs(u64),

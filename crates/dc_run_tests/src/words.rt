@@ -32,7 +32,7 @@ impl Env for Given {
     }
 }
 
-/// Whether this is the word at a place.
+/// Whether this is the word at an offset.
 fn is(words: &[String], at: usize, wanted: &str) -> bool {
     match words.get(at) {
         Some(word) => word.as_str() == wanted,

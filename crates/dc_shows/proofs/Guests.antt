@@ -3,7 +3,7 @@ use Rattle.std.proofs.Common.{◌≡◌, ◌<◌, ◌≤◌, ◌/◌, ◌%◌, �
 use Rattle.std.proofs.lemmas.Bool.{and_parts, leb-true}
 use Rattle.dc_calls.specs.Calls.{call_of, if_good, is_within}
 use Rattle.dc_calls.specs.declared.call.Call as calls
-use Rattle.dc_calls.specs.declared.call.Call.TheVariants.{Exit, Output, Input, Clock, Random, Send, Receive, Own, BadArgument, Unknown}
+use Rattle.dc_calls.specs.declared.call.Call.TheVariants.{Exit, Output, Input, Clock, Random, Send, Receive, Number, BadArgument, Unknown}
 use Rattle.dc_events.specs.declared.event.Next.TheVariants as next
 use Rattle.dc_guest.specs.Guest.{Guest, after_answer, after_call, answered, bytes_at, call_at, coming, event_of, machine_after, minus, next_by, put_at}
 use Rattle.dc_model.specs.Guests.{Answer}
@@ -102,7 +102,7 @@ module _ (m : Machine) (is : IsMachine m) (p n : ℕ) (one : p < 2 ^ 32) (few : 
   calls_on (Receive to room) (answer.InputNext bytes) small told = answers_one m is (minus 1) (omega arith)
   calls_on (Receive to room) answer.InputEnd small told = answers_one m is (minus 1) (omega arith)
   calls_on (Receive to room) answer.ReceiveNone small told = answers_one m is (minus 1) (omega arith)
-  calls_on Own a small told = answers_two m is p n one few
+  calls_on Number a small told = answers_two m is p n one few
   calls_on BadArgument a small told = answers_one m is (minus 3) (omega arith)
   calls_on Unknown a small told = answers_one m is (minus 9) (omega arith)
 
@@ -115,7 +115,7 @@ module _ (m : Machine) (is : IsMachine m) (p n : ℕ) (one : p < 2 ^ 32) (few : 
   call_comes Random small = tt
   call_comes (Send q from count) small = (let h = few_taken count (drop from m.memory) in omega (arith, h, small), shown_bytes m is from count)
   call_comes (Receive to room) small = tt
-  call_comes Own small = tt
+  call_comes Number small = tt
   call_comes BadArgument small = tt
   call_comes Unknown small = tt
 

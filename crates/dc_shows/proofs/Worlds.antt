@@ -121,16 +121,16 @@ module _ (images : List Image) (inputs : List (List (List ℕ))) (few : length i
         let none : None ≡ Some message = sym (ap (λ xs. slice_get xs ((w.procs p).received s)) (is.silent s above p)) ∙ e in absurd (let never : ⊥ = cc in never))
         (cases_Bool (nat_lt s (length images)))
 
-    next_input : (a : Answer) (o : Option (List ℕ)) → slice_get (unwrap_or (slice_get inputs p) []) (w.procs p).place ≡ o → option_map answer.InputNext o ≡ Some a → IsTold a
+    next_input : (a : Answer) (o : Option (List ℕ)) → slice_get (unwrap_or (slice_get inputs p) []) (w.procs p).inputs_taken ≡ o → option_map answer.InputNext o ≡ Some a → IsTold a
     next_input a None e f = absurd (let never : ⊥ = cc in never)
-    next_input a (Some bytes) e f = let same : answer.InputNext bytes ≡ a = cc in subst IsTold same (all_get IsHanded (unwrap_or (slice_get inputs p) []) (w.procs p).place bytes (inputs_handed p) e)
+    next_input a (Some bytes) e f = let same : answer.InputNext bytes ≡ a = cc in subst IsTold same (all_get IsHanded (unwrap_or (slice_get inputs p) []) (w.procs p).inputs_taken bytes (inputs_handed p) e)
 
     told_by : (x : Act) (a : Answer) → IsGiven x → answer_for (guests_of images inputs) w p x ≡ Some a → IsTold a × HasSender (length images) x
     told_by act.Plain a given e = let same : answer.Plain ≡ a = cc in (subst IsTold same tt, tt)
     told_by (act.Clock v) a given e = let same : answer.Clock v ≡ a = cc in (subst IsTold same given, tt)
     told_by (act.Random v) a given e = let same : answer.Random v ≡ a = cc in (subst IsTold same given, tt)
     told_by act.InputNone a given e = let same : answer.InputNone ≡ a = cc in (subst IsTold same tt, tt)
-    told_by act.InputNext a given e = (next_input a (slice_get (unwrap_or (slice_get inputs p) []) (w.procs p).place) refl e, tt)
+    told_by act.InputNext a given e = (next_input a (slice_get (unwrap_or (slice_get inputs p) []) (w.procs p).inputs_taken) refl e, tt)
     told_by act.InputEnd a given e = let same : answer.InputEnd ≡ a = cc in (subst IsTold same tt, tt)
     told_by act.ReceiveNone a given e = let same : answer.ReceiveNone ≡ a = cc in (subst IsTold same tt, tt)
     told_by (act.ReceiveFrom s) a given e = ⊎_elim
@@ -181,10 +181,10 @@ module _ (images : List Image) (inputs : List (List (List ℕ))) (few : length i
             let all = rest u next.0 on in
             (all.0, (by.0, is_act (length images) x.act by.1 next.1, drawn.0, (let h = is_schedule.0 in omega (arith, h, by.2)), all.1))
 
-    begins : (p : ℕ) → p < length images → IsLocal (record { machine = started p (length images) (slice_get images p); place = 0; received = λ s. 0; sent = λ q. []; visible = 0 })
+    begins : (p : ℕ) → p < length images → IsLocal (record { machine = started p (length images) (slice_get images p); inputs_taken = 0; received = λ s. 0; sent = λ q. []; visible = 0 })
     begins p one = by_option (slice_get images p) refl
       where
-        by_option : (o : Option Image) → slice_get images p ≡ o → IsLocal (record { machine = started p (length images) o; place = 0; received = λ s. 0; sent = λ q. []; visible = 0 })
+        by_option : (o : Option Image) → slice_get images p ≡ o → IsLocal (record { machine = started p (length images) o; inputs_taken = 0; received = λ s. 0; sent = λ q. []; visible = 0 })
         by_option None e = record { machine = record { registers = tt; pc = omega arith; memory = tt }; number = omega (arith, one, few); count = few; sent = λ q. tt }
         by_option (Some image) e = let is = all_get IsImage images p image good e in record {
           machine = record { registers = below-set (2 ^ 32) (replicate 32 0) 2 (length image.memory - 16) (let h = is.size in omega (arith, h)) (below-replicate (2 ^ 32) 32 0 (omega arith)); pc = is.entry; memory = is.memory };

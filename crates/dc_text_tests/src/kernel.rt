@@ -237,7 +237,7 @@ fn set_counts(kernel: &mut Kernel) {
 
 fn set_places(kernel: &mut Kernel) {
     kernel.set_visible(2);
-    kernel.set_place(5);
+    kernel.set_inputs_taken(5);
 }
 
 fn become_one(kernel: &mut Kernel) {
@@ -252,7 +252,7 @@ fn has_values_of_one(kernel: &Kernel) -> Result<(), Fail> {
     holds(kernel.commit() == 3, "commit")?;
     holds(kernel.position() == 1000, "position")?;
     holds(kernel.visible() == 2, "visible")?;
-    holds(kernel.place() == 5, "place")?;
+    holds(kernel.inputs_taken() == 5, "place")?;
     holds(*kernel.regs() == Regs { x: X, pc: 0x104 }, "registers")
 }
 

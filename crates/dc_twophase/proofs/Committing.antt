@@ -58,7 +58,7 @@ pub record AreUndecided {C D : Type 0} (store : checkpoint.Ghosts C D) (g : ℕ)
 
 module _ {C D : Type 0} {store : checkpoint.Ghosts C D} {g : ℕ} where
   pub same_prepared : {old mid : Together C D} → AreUndecided store g old mid → AreSameStores store old.stores mid.stores
-  same_prepared first = record { long = first.long; placed = λ i b c before now. (first.undecided i b c before now).same.place_same }
+  same_prepared first = record { long = first.long; placed = λ i b c before now. (first.undecided i b c before now).same.index_same }
 
   -- the numbers of the first store when all are prepared
   pub lows : {old mid : Together C D} → AreUndecided store g old mid → HasRoom store g old → (b y : C) → slice_get old.stores 0 ≡ Some b → slice_get mid.stores 0 ≡ Some y → AreBelow g (store.numbers y mid.dev)
@@ -172,7 +172,7 @@ module _ {C D : Type 0} {store : checkpoint.Ghosts C D} (laws : Laws store) {mem
   }
 
   pub same_decided : {old mid late : Together C D} → AreDeciding store members text g old mid late → AreSameStores store old.stores late.stores
-  same_decided second = record { long = second.long ∙ second.first.all.long; placed = λ i b c before now. ((after_deciding second).same i b c before now).place_same }
+  same_decided second = record { long = second.long ∙ second.first.all.long; placed = λ i b c before now. ((after_deciding second).same i b c before now).index_same }
 
   -- the memory of each is as it was, once the members are prepared
   pub memory_prepared : {old mid : Together C D} → length members ≡ length old.stores → ArePreparing store members g old mid → EachPair old.stores mid.stores (λ i b c. IsMember members i → IsPrepared store (text i) g old.dev mid.dev b c)

@@ -84,7 +84,7 @@ pub record IsCommitted {C D : Type 0} (store : checkpoint.Ghosts C D) (g : ℕ) 
 -- a store that was not called
 pub record IsIdle {C D : Type 0} (store : checkpoint.Ghosts C D) (old new : D) (b c : C) : Type 0 where
   pub same : c ≡ b
-  pub still : store.untouched old new (store.place b)
+  pub still : store.untouched old new (store.index b)
 
 -- a store that took no part in a commit of others, which went whole
 pub record IsAside {C D : Type 0} (store : checkpoint.Ghosts C D) (old new : D) (b c : C) : Type 0 where

@@ -3,7 +3,7 @@ ghost use Rattle.dc_checkpoint.specs.Calls.{AreAll, AreBelow};
 ghost use Rattle.dc_checkpoint.specs.Handles.{IsSame};
 ghost use Rattle.dc_twophase.specs.Commits.{AllNew, AllNewOf, AllOld, HasRoom, IsAside, IsBeside, IsCommitted, IsDecided, IsDeciding, IsIdle, IsMember, IsOther, IsPrepared, IsSameMemory, IsUndecided};
 ghost use Rattle.dc_twophase.specs.Counts.{IsJoint, IsUnrefused};
-ghost use Rattle.dc_twophase.specs.Stores.{AreApart, AreCalls, AreOf, At, AtPair, Each, EachPair, CallsOne, IsNoPlace, Takes, on, text_at};
+ghost use Rattle.dc_twophase.specs.Stores.{AreApart, AreCalls, AreOf, At, AtPair, Each, EachPair, CallsOne, IsNoIndex, Takes, on, text_at};
 
 use crate::faults::{JointFault, joint_fault};
 use dc_checkpoint::Checkpoint;
@@ -237,7 +237,7 @@ pub fn commit_some<C: Checkpoint>(
     ensures steady { HasRoom C.Checkpoint g (on stores.old dev.old) → At 0 stores.new (λ c. C.steady c dev.new) }
     ensures joint { IsJoint C.Checkpoint stores.old dev.old dev.new result }
     ensures unrefused { IsUnrefused result }
-    ensures others { (q : ℕ) → IsNoPlace C.Checkpoint stores.old q → C.untouched dev.old dev.new q }
+    ensures others { (q : ℕ) → IsNoIndex C.Checkpoint stores.old q → C.untouched dev.old dev.new q }
     ensures continues { C.continues dev.old dev.new }
 {
     let size = words.len() / stores.len();
@@ -279,7 +279,7 @@ pub fn commit_all<C: Checkpoint>(
     ensures steady { HasRoom C.Checkpoint g (on stores.old dev.old) → At 0 stores.new (λ c. C.steady c dev.new) }
     ensures joint { IsJoint C.Checkpoint stores.old dev.old dev.new result }
     ensures unrefused { IsUnrefused result }
-    ensures others { (q : ℕ) → IsNoPlace C.Checkpoint stores.old q → C.untouched dev.old dev.new q }
+    ensures others { (q : ℕ) → IsNoIndex C.Checkpoint stores.old q → C.untouched dev.old dev.new q }
     ensures continues { C.continues dev.old dev.new }
 {
     let all = [true; STORES as usize];

@@ -84,12 +84,12 @@ pub same_shape : (a b : Frame) → a.size ≡ b.size → (shape_of a).form ≡ (
 same_shape a b size form first = let lines = same_lines a b size (ap (λ (f : Form). f.n) form) in λ i. record { size = size i; form = form i; lines = lines i; first = first i }
 
 -- two handles over one store
-module _ (a b : Frame) (told : ℕ → Option (List ℕ)) (place : a.place ≡ b.place) (size : a.size ≡ b.size) (form : (shape_of a).form ≡ (shape_of b).form) where
-  pub leaves_alike : (shape_of a).first ≡ (shape_of b).first → (d : ℕ) (r : Reading) → StandsFor (shape_of a) (parts a.lines (told a.place)) d r → StandsFor (shape_of b) (parts b.lines (told b.place)) d r
-  leaves_alike first d r left = subst (λ (x : Shape). StandsFor x (parts x.lines (told b.place)) d r) (same_shape a b size form first) (subst (λ (q : ℕ). StandsFor (shape_of a) (parts a.lines (told q)) d r) place left)
+module _ (a b : Frame) (told : ℕ → Option (List ℕ)) (index : a.index ≡ b.index) (size : a.size ≡ b.size) (form : (shape_of a).form ≡ (shape_of b).form) where
+  pub leaves_alike : (shape_of a).first ≡ (shape_of b).first → (d : ℕ) (r : Reading) → StandsFor (shape_of a) (parts a.lines (told a.index)) d r → StandsFor (shape_of b) (parts b.lines (told b.index)) d r
+  leaves_alike first d r left = subst (λ (x : Shape). StandsFor x (parts x.lines (told b.index)) d r) (same_shape a b size form first) (subst (λ (q : ℕ). StandsFor (shape_of a) (parts a.lines (told q)) d r) index left)
 
-  pub numbers_alike : (e : ℕ) → Numbers (parts a.lines (told a.place)) e → Numbers (parts b.lines (told b.place)) e
-  numbers_alike e is = subst (λ (q : ℕ). Numbers (parts q (told b.place)) e) (same_lines a b size (ap (λ (f : Form). f.n) form)) (subst (λ (q : ℕ). Numbers (parts a.lines (told q)) e) place is)
+  pub numbers_alike : (e : ℕ) → Numbers (parts a.lines (told a.index)) e → Numbers (parts b.lines (told b.index)) e
+  numbers_alike e is = subst (λ (q : ℕ). Numbers (parts q (told b.index)) e) (same_lines a b size (ap (λ (f : Form). f.n) form)) (subst (λ (q : ℕ). Numbers (parts a.lines (told q)) e) index is)
 
 -- a handle's store is one that it fits
 pub lent_fits : (frame : Frame) (extent : ℕ) → extent ≡ segment_words frame.lines → Fits extent frame.size frame.n

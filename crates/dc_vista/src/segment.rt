@@ -26,7 +26,7 @@ const LINE_WORDS: u32 = 16;
 
 /// A recoverable segment of words, as a store of one process's state.
 ///
-/// Its words are a header of 16, the memory and the text of the kernel in lines of 16, 64 places of 22 for logged events, a number for
+/// Its words are a header of 16, the memory and the text of the kernel in lines of 16, 64 slots of 22 for logged events, a number for
 /// each undo line, and as many undo lines as there are lines. The first store to a line since the last commit copies it to an undo line:
 /// the line's number, the copy, and then the count of undo lines. A commit writes the text of the kernel by such stores and sets the
 /// count to 0; a prepared commit sets a number in place of that, and counts once that number is decided.
@@ -62,7 +62,7 @@ impl<K: Keeps> Segment<K> {
     /// A handle with this first state. It makes no call of the device.
     fn new(
         alloc: Global,
-        place: u32,
+        index: u32,
         memory: Vec<u32>,
         kernel: Vec<u32>,
     ) -> Result<Segment<K>, AllocError>
@@ -70,7 +70,7 @@ impl<K: Keeps> Segment<K> {
         requires text { IsText (form_in kernel.items) kernel.items }
         requires number { 1 ≤ number_in kernel.items }
         requires pages { (pages : ℕ) × (length memory.items ≡ 1024 * pages) × (pages ≤ 256) }
-        ensures same { IfOk result (λ s. (s.frame.place ≡ place) × (s.frame.size ≡ length memory.items) × ((shape_of s.frame).form ≡ form_in kernel.items)) }
+        ensures same { IfOk result (λ s. (s.frame.index ≡ index) × (s.frame.size ≡ length memory.items) × ((shape_of s.frame).form ≡ form_in kernel.items)) }
         ensures n { IfOk result (λ s. s.frame.n ≡ (form_in kernel.items).n) }
         ensures first { IfOk result (λ s. (s.frame.memory ≡ memory) × (s.frame.kernel ≡ kernel)) }
         ensures none { IfOk result (λ s. since_of s.marks ≡ untouched (number_in kernel.items) 0 s.frame.lines) }
@@ -84,7 +84,7 @@ impl<K: Keeps> Segment<K> {
         let text = vec![in alloc; 0; kernel.len()]?;
         Ok(Segment {
             frame: Frame {
-                place,
+                index,
                 size,
                 n,
                 p,
@@ -102,7 +102,7 @@ impl<K: Keeps> Segment<K> {
 impl<K: Keeps> Checkpoint for Segment<K> {
     type Device = K;
 
-    ghost place = { λ s. s.frame.place };
+    ghost index = { λ s. s.frame.index };
 
     ghost size = { λ s. s.frame.size };
 
@@ -175,11 +175,11 @@ impl<K: Keeps> Checkpoint for Segment<K> {
     }
 
     fn load(&self, dev: &K, i: u32) -> u32 {
-        get(dev, self.frame.place, self.frame.lines, Word::Body(i))
+        get(dev, self.frame.index, self.frame.lines, Word::Body(i))
     }
 
     fn store(&mut self, dev: &mut K, i: u32, w: u32, mask: u32) -> Result<(), CheckFault> {
-        let old = get(dev, self.frame.place, self.frame.lines, Word::Body(i));
+        let old = get(dev, self.frame.index, self.frame.lines, Word::Body(i));
         checked(
             self.frame
                 .store(dev, &mut self.marks, i, masked(old, w, mask)),
@@ -207,14 +207,14 @@ impl<K: Keeps> Checkpoint for Segment<K> {
     }
 
     fn decided(&mut self, dev: &mut K) -> Result<u32, CheckFault> {
-        if get(dev, self.frame.place, self.frame.lines, Word::Ready) == 0 {
+        if get(dev, self.frame.index, self.frame.lines, Word::Ready) == 0 {
             return Ok(0);
         }
-        Ok(get(dev, self.frame.place, self.frame.lines, Word::Decided))
+        Ok(get(dev, self.frame.index, self.frame.lines, Word::Decided))
     }
 
     fn recover(&mut self, dev: &mut K, decided: u32, saved: &mut Saved) -> Result<(), CheckFault> {
-        if get(dev, self.frame.place, self.frame.lines, Word::Ready) == 0 {
+        if get(dev, self.frame.index, self.frame.lines, Word::Ready) == 0 {
             if let Err(_fault) = saved.kernel.decode(&self.frame.kernel) {
                 return Err(CheckFault::Refused(StoreFault::Kernel));
             }
@@ -244,21 +244,21 @@ impl<K: Keeps> Checkpoint for Segment<K> {
 
     ghost settled = { λ s dev ready d e r low high. settled_reading (shape_of s.frame) (since_of s.marks) _ ready d e r };
 
-    ghost some_reading = { λ s dev told. some_reading (shape_of s.frame) s.frame.lines (K.told dev s.frame.place) told };
+    ghost some_reading = { λ s dev told. some_reading (shape_of s.frame) s.frame.lines (K.told dev s.frame.index) told };
 
-    ghost some_number = { λ s dev told. some_number s.frame.lines (K.told dev s.frame.place) told };
+    ghost some_number = { λ s dev told. some_number s.frame.lines (K.told dev s.frame.index) told };
 
-    ghost contents_long = { λ s dev lent. memory_long s.frame.size s.frame.lines (K.extent dev s.frame.place) (K.told dev s.frame.place) (fits_in s.frame) lent (K.told_extent dev s.frame.place) };
+    ghost contents_long = { λ s dev lent. memory_long s.frame.size s.frame.lines (K.extent dev s.frame.index) (K.told dev s.frame.index) (fits_in s.frame) lent (K.told_extent dev s.frame.index) };
 
-    ghost contents_told = { λ s dev is. memory_told s.frame.size s.frame.lines (K.told dev s.frame.place) is };
+    ghost contents_told = { λ s dev is. memory_told s.frame.size s.frame.lines (K.told dev s.frame.index) is };
 
-    ghost told_contents = { λ s dev ready told. told_memory s.frame.size s.frame.lines (K.told dev s.frame.place) told };
+    ghost told_contents = { λ s dev ready told. told_memory s.frame.size s.frame.lines (K.told dev s.frame.index) told };
 
-    ghost leaves_alike = { λ c e dev same d r left. leaves_alike c.frame e.frame (K.told dev) (sym same.place_same) (sym same.size_same) (sym same.form_same) (sym same.first_same) d r left };
+    ghost leaves_alike = { λ c e dev same d r left. leaves_alike c.frame e.frame (K.told dev) (sym same.index_same) (sym same.size_same) (sym same.form_same) (sym same.first_same) d r left };
 
-    ghost numbers_alike = { λ c e dev same d is. numbers_alike c.frame e.frame (K.told dev) (sym same.place_same) (sym same.size_same) (sym same.form_same) d is };
+    ghost numbers_alike = { λ c e dev same d is. numbers_alike c.frame e.frame (K.told dev) (sym same.index_same) (sym same.size_same) (sym same.form_same) d is };
 
-    ghost lent_fits = { λ s dev is. lent_fits s.frame (K.extent dev s.frame.place) is };
+    ghost lent_fits = { λ s dev is. lent_fits s.frame (K.extent dev s.frame.index) is };
 
     ghost untouched_self = { λ dev q. same_self dev q };
 

@@ -67,7 +67,7 @@ words_read (a ∷ b ∷ c ∷ d ∷ bytes) (w ∷ words) long read =
     later : IsRead little_number 4 bytes words
     later k within = read (suc k) (omega (arith, within)) ∙ ap (λ n. little_number 4 (drop n (a ∷ b ∷ c ∷ d ∷ bytes))) (next k)
 
--- two places set behind a front
+-- two items set behind a front
 set_both : (done rest : List ℕ) (p q x y : ℕ)
     → set (set (done ++ p ∷ q ∷ rest) (length done) x) (length done + 1) y ≡ done ++ x ∷ y ∷ rest
 set_both done rest p q x y =
@@ -75,7 +75,7 @@ set_both done rest p q x y =
     ∙ ap (λ n. set ((done ++ x ∷ []) ++ q ∷ rest) n y) (sym (length-append done (x ∷ [])))
     ∙ set-append_seam (done ++ x ∷ []) q rest y ∙ append_assoc done (x ∷ []) (y ∷ rest)
 
--- two places set at the end of what is done
+-- two items set at the end of what is done
 two_more : (done rest : List ℕ) (i x y : ℕ) → length done ≡ 2 * i → 2 ≤ length rest
     → set (set (done ++ rest) (2 * i) x) (2 * i + 1) y ≡ (done ++ x ∷ y ∷ []) ++ drop 2 rest
 two_more done [] i x y long some = absurd (omega arith)

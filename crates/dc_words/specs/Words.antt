@@ -6,11 +6,11 @@ use Rattle.std.specs.List.{AllByRecursion, flat_map}
 abbrev pub word_of_bytes : ℕ → ℕ → ℕ → ℕ → ℕ
 word_of_bytes a b c d = a + 2 ^ 8 * b + 2 ^ 16 * c + 2 ^ 24 * d
 
--- the number of the two bytes from a place on
+-- the number of the two bytes from an offset on
 abbrev pub half_at : List ℕ → ℕ → ℕ
 half_at bytes at = slice_index bytes at + 2 ^ 8 * slice_index bytes (at + 1)
 
--- the number of the four bytes from a place on
+-- the number of the four bytes from an offset on
 abbrev pub word_at : List ℕ → ℕ → ℕ
 word_at bytes at = word_of_bytes (slice_index bytes at) (slice_index bytes (at + 1)) (slice_index bytes (at + 2)) (slice_index bytes (at + 3))
 

@@ -2,8 +2,8 @@ ghost use Rattle.std.specs.Prelude.{◌≡◌, ◌<◌, ◌==◌, ◌∷◌, [],
 ghost use Rattle.dc_words.specs.Texts.{fields_of, lines_of};
 
 /// Where the first such byte stands.
-pub fn place(stop: u8, text: &[u8]) -> Option<usize>
-    ensures place { result ≡ position (λ c. c == stop) text.now }
+pub fn find(stop: u8, text: &[u8]) -> Option<usize>
+    ensures find { result ≡ position (λ c. c == stop) text.now }
     ensures within { IfSome result (λ i. i < length text.now) }
 {
     text.iter().position(|c| *c == stop)
@@ -15,7 +15,7 @@ pub fn first_line(text: &[u8]) -> (&[u8], &[u8])
     ensures lines { lines_of text.now ≡ result.0.now ∷ lines_of result.1.now }
     ensures shorter { length result.1.now < length text.now }
 {
-    match place(b'\n', text) {
+    match find(b'\n', text) {
         Some(end) => (&text[..end], &text[end + 1..]),
         None => (text, &text[text.len()..]),
     }
@@ -27,6 +27,6 @@ pub fn first_field(stop: u8, text: &[u8]) -> Option<(&[u8], &[u8])>
     ensures none { result ≡ None → fields_of stop text.now ≡ text.now ∷ [] }
     ensures shorter { IfSome result (λ x. length x.1.now < length text.now) }
 {
-    let end = place(stop, text)?;
+    let end = find(stop, text)?;
     Some((&text[..end], &text[end + 1..]))
 }

@@ -17,10 +17,11 @@ use Rattle.dc_proc.specs.declared.down.Down.{Down as Fallen}
 use Rattle.dc_proc.specs.declared.up.Up.{Up as Process}
 use Rattle.dc_protocols.specs.declared.protocol.Protocol.{Protocol}
 use Rattle.dc_words.specs.Words.{bytes_in}
-use Rattle.dc_world.proofs.Handling.{counts_same}
-use Rattle.dc_world.specs.Opened.{IsBegun, first_kernel, whose}
-use Rattle.dc_world.specs.Slots.{IsOf}
-use Rattle.dc_world.specs.declared.slot.Slot.TheVariants.{Up, Down}
+use Rattle.dc_processes.proofs.Handling.{counts_same}
+use Rattle.dc_together.specs.Joints.{whose}
+use Rattle.dc_world.specs.Opened.{IsBegun, first_kernel}
+use Rattle.dc_processes.specs.Slots.{IsOf}
+use Rattle.dc_processes.specs.declared.slot.Slot.TheVariants.{Down, Up}
 
 -- nothing was received, and nothing was sent
 pub none_received : (n p : ℕ) (image : Image) (s : ℕ) → s < n → slice_index (first_kernel n p image).received s ≡ 0
@@ -34,7 +35,7 @@ first_counts : (turns n p : ℕ) (image : Image) → turns ≤ 2000000 → HasCo
 first_counts turns n p image few = record {
   position = omega (arith, few);
   visible = omega (arith, few);
-  place = omega (arith, few);
+  inputs_taken = omega (arith, few);
   received = λ s less. let e = none_received n p image s less in omega (arith, few, e);
   sent = λ q less. let e = ap (λ (l : Link). l.sent) (none_sent n p image q less) in omega (arith, few, e);
   commit = omega (arith, few);
@@ -43,10 +44,10 @@ first_counts turns n p image few = record {
 module _ {C D : Type 0} (g : checkpoint.Ghosts C D) (protocol : Protocol) (n p : ℕ) (image : Image) (c : C) (dev : D) (u : Process) (kernel : Kernel) (words text : List ℕ)
     (first : kernel ≡ first_kernel n p image) (bytes_are : bytes_in words ≡ image.memory.items) (long : 4 * length words ≡ length image.memory.items)
     (text_is : text ≡ text_of kernel) (form_is : form_in text ≡ form_of kernel) (number_is : number_in text ≡ kernel.commit)
-    (held_is : (held u).kernel ≡ kernel) (fresh : ((held u).unread ≡ []) × ((held u).own ≡ false) × ((held u).log_left ≡ 64)) (based : IsCopied kernel (held u).based)
+    (held_is : (held u).kernel ≡ kernel) (fresh : ((held u).unread ≡ []) × ((held u).unlogged ≡ false) × ((held u).log_left ≡ 64)) (based : IsCopied kernel (held u).based)
     (others : (q : ℕ) → q < kernel.n → slice_index (held u).others q ≡ number_of_first (link_to kernel.links q)) (whole : IsWhole u)
     (of : (u.protocol ≡ protocol) × (u.size ≡ length image.memory.items)) (valid : IsKernel kernel.n kernel.p kernel)
-    (same : (g.place c ≡ p) × (g.size c ≡ length words) × (g.form c ≡ form_in text)) (lent : g.lent c dev) (floor : g.floor c ≡ 0)
+    (same : (g.index c ≡ p) × (g.size c ≡ length words) × (g.form c ≡ form_in text)) (lent : g.lent c dev) (floor : g.floor c ≡ 0)
     (stands : (d : ℕ) (r : Reading) → g.leaves c dev d r → r ≡ Ok (unlogged words text)) (decided : AreAll 0 (g.numbers c dev)) (steady : g.steady c dev) where
   abbrev k : Kernel
   k = first_kernel n p image
@@ -77,7 +78,7 @@ module _ {C D : Type 0} (g : checkpoint.Ghosts C D) (protocol : Protocol) (n p :
 
   counts : (turns : ℕ) → turns ≤ 2000000 → HasCountsFor turns u.kernel
   counts turns few = counts_same turns (held u).kernel u.kernel
-      (record { n_same = refl; position_same = refl; visible_same = refl; place_same = refl; received_same = refl; commit_same = refl; sent_same = λ q less. refl })
+      (record { n_same = refl; position_same = refl; visible_same = refl; inputs_same = refl; received_same = refl; commit_same = refl; sent_same = λ q less. refl })
       (subst (HasCountsFor turns) (sym held_first) (first_counts turns n p image few))
 
   -- its store was made
@@ -86,7 +87,7 @@ module _ {C D : Type 0} (g : checkpoint.Ghosts C D) (protocol : Protocol) (n p :
     words = words;
     bytes_are = bytes_are;
     of = λ s e. let is : IsOf protocol n p (Up u) = (whole, n_is, p_is, of.0) in let at : Up u ≡ s = cc in subst (IsOf protocol n p) at is;
-    own = record { place_is = same.0; form_n = ap (λ f. f.n) (same.2 ∙ form_is) ∙ ap (λ (x : Kernel). x.n) first; form_p = ap (λ f. f.p) (same.2 ∙ form_is) ∙ ap (λ (x : Kernel). x.p) first };
+    belongs = record { index_is = same.0; form_n = ap (λ f. f.n) (same.2 ∙ form_is) ∙ ap (λ (x : Kernel). x.n) first; form_p = ap (λ f. f.p) (same.2 ∙ form_is) ∙ ap (λ (x : Kernel). x.p) first };
     handled = λ turns few. (
       record {
         lent = lent;
@@ -101,7 +102,7 @@ module _ {C D : Type 0} (g : checkpoint.Ghosts C D) (protocol : Protocol) (n p :
     kernel_ok = kernel_ok;
     leaves = stands_first;
     based = based_none;
-    held = λ on. record { kernel_is = held_first; unread_is = fresh.0; own_is = fresh.1; left_is = fresh.2; others_are = others_none };
+    held = λ on. record { kernel_is = held_first; unread_is = fresh.0; unlogged_is = fresh.1; left_is = fresh.2; others_are = others_none };
     memory = λ on. memory;
     decided = decided;
     steady = steady;
@@ -113,8 +114,8 @@ module _ {C D : Type 0} (g : checkpoint.Ghosts C D) (protocol : Protocol) (n p :
     words = words;
     bytes_are = bytes_are;
     of = λ s e. let is : IsOf protocol n p (Down d) = (down, down_of.n_is ∙ n_is, down_of.p_is ∙ p_is, down_of.protocol_is ∙ of.0) in let at : Down d ≡ s = cc in subst (IsOf protocol n p) at is;
-    own = record {
-      place_is = falls.same.place_same ∙ same.0;
+    belongs = record {
+      index_is = falls.same.index_same ∙ same.0;
       form_n = ap (λ f. f.n) (falls.same.form_same ∙ same.2 ∙ form_is) ∙ ap (λ (x : Kernel). x.n) first;
       form_p = ap (λ f. f.p) (falls.same.form_same ∙ same.2 ∙ form_is) ∙ ap (λ (x : Kernel). x.p) first;
     };

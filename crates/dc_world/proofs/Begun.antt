@@ -1,5 +1,5 @@
 -- Processes at their beginning, each while the next one is made.
-use Rattle.std.proofs.Common.{◌≡◌, ◌≢◌, ◌∙◌, ◌+◌, ◌-◌, ◌^◌, ◌<◌, ◌≤◌, ◌++◌, ℕ, List, [], ◌∷◌, zero, suc, Option, None, Some, IfSome, ap, arith, length, refl, slice_get, subst, sym, ⊎_elim}
+use Rattle.std.proofs.Common.{◌≡◌, ◌≢◌, ◌∙◌, ◌+◌, ◌-◌, ◌^◌, ◌<◌, ◌≤◌, ◌++◌, ◌∷◌, ℕ, Bool, true, false, inl, inr, List, [], zero, suc, Option, None, Some, IfSome, ap, arith, length, refl, slice_get, subst, sym, ⊎_elim}
 use Rattle.std.proofs.lemmas.Bool.{cases_eq}
 use Rattle.std.proofs.lemmas.List.{get_or_append_left, length-append}
 use Rattle.std.proofs.lemmas.Option.{slice_get_within}
@@ -9,13 +9,14 @@ use Rattle.dc_elf.specs.declared.image.Image.{Image}
 use Rattle.dc_media.specs.Causes.{Rose}
 use Rattle.dc_protocols.specs.declared.protocol.Protocol.{Protocol}
 use Rattle.dc_twophase.proofs.Laws.{Laws, QuietLaws}
-use Rattle.dc_world.proofs.Handling.{handled_still}
-use Rattle.dc_world.specs.Opened.{AreBegun, IsBegun, IsUpFor, whose}
-use Rattle.dc_world.specs.Stages.{KeepsTelling}
-use Rattle.dc_world.specs.Slots.{slot_at}
-use Rattle.dc_world.specs.declared.slot.Slot.{Slot}
+use Rattle.dc_processes.proofs.Handling.{handled_still}
+use Rattle.dc_together.specs.Joints.{whose}
+use Rattle.dc_world.specs.Opened.{AreBegun, IsBegun, IsCalmUnlessStopped, IsUpFor}
+use Rattle.dc_processes.specs.Stages.{KeepsTelling}
+use Rattle.dc_processes.specs.Slots.{is_up, slot_at}
+use Rattle.dc_processes.specs.declared.slot.Slot.{Slot}
 
--- a process at a place of a list that one was added to
+-- a process in a slot of a list that one was added to
 slot_front : (slots : List (Option Slot)) (s : Option Slot) (p : ℕ) → p < length slots → slot_at (slots ++ s ∷ []) p ≡ slot_at slots p
 slot_front slots s p less = get_or_append_left slots (s ∷ []) None p less
 
@@ -43,20 +44,20 @@ pub record AreMade {C D : Type 0} (g : checkpoint.Ghosts C D) (k : ℕ) (old new
   pub continues : g.continues old new
 
 module _ {C D : Type 0} (g : checkpoint.Ghosts C D) (laws : Laws g) (quiet : QuietLaws g) where
-  pub begun_still : (protocol : Protocol) (n p : ℕ) (image : Image) (c : C) (old new : D) (slot : Option Slot) → g.untouched old new (g.place c)
+  pub begun_still : (protocol : Protocol) (n p : ℕ) (image : Image) (c : C) (old new : D) (slot : Option Slot) → g.untouched old new (g.index c)
       → IsBegun g protocol (whose n p) image c old slot → IsBegun g protocol (whose n p) image c new slot
   begun_still protocol n p image c old new slot still is = record {
     words = is.words;
     bytes_are = is.bytes_are;
     of = is.of;
-    own = is.own;
+    belongs = is.belongs;
     handled = λ turns few. handled_still g laws turns c old new slot still (is.handled turns few);
     kernel_ok = is.kernel_ok;
-    leaves = λ d r left. is.leaves d r (laws.leaves_still c new old d r (laws.untouched_back old new (g.place c) still) left);
+    leaves = λ d r left. is.leaves d r (laws.leaves_still c new old d r (laws.untouched_back old new (g.index c) still) left);
     based = is.based;
     held = is.held;
     memory = λ on. subst (λ (o : Option (List ℕ)). IfSome o (λ told. told ≡ is.words)) (sym (laws.contents_still c old new still)) (is.memory on);
-    decided = λ e l. is.decided e (laws.numbers_still c new old e (laws.untouched_back old new (g.place c) still) l);
+    decided = λ e l. is.decided e (laws.numbers_still c new old e (laws.untouched_back old new (g.index c) still) l);
     steady = laws.steady_still c old new still is.steady;
   }
 
@@ -80,6 +81,22 @@ module _ {C D : Type 0} (g : checkpoint.Ghosts C D) (laws : Laws g) (quiet : Qui
   tells_after p old mid new still tells stops faults told = let same = quiet.counts_same mid new p still in
       quiet.told_still mid new p still (tells (subst (λ n. n < 2 ^ 64 - 1) same.0 stops) (subst (λ n. n < 2 ^ 64 - 1) same.1 faults) told)
 
+  -- a process that is up had no refusal, and one that is down was stopped
+  pub calm_made : (p : ℕ) (old new : D) (slot : Option Slot) → IsUpFor g p old new slot → IsCalmUnlessStopped g.stops g.faults p old new
+  calm_made p old new slot is = by (is_up slot) refl
+    where
+      by : (b : Bool) → is_up slot ≡ b → IsCalmUnlessStopped g.stops g.faults p old new
+      by true on = inl (is.calm on)
+      by false off = inr (is.stopped off)
+
+  calm_before : (p : ℕ) (old mid new : D) → g.untouched old mid p → IsCalmUnlessStopped g.stops g.faults p mid new → IsCalmUnlessStopped g.stops g.faults p old new
+  calm_before p old mid new still (inl calm) = let same = quiet.counts_same old mid p still in inl (calm.0 ∙ same.0, calm.1 ∙ same.1)
+  calm_before p old mid new still (inr rose) = inr (subst (λ n. Rose n (g.stops new p)) (quiet.counts_same old mid p still).0 rose)
+
+  calm_after : (p : ℕ) (old mid new : D) → g.untouched mid new p → IsCalmUnlessStopped g.stops g.faults p old mid → IsCalmUnlessStopped g.stops g.faults p old new
+  calm_after p old mid new still (inl calm) = let same = quiet.counts_same mid new p still in inl (same.0 ∙ calm.0, same.1 ∙ calm.1)
+  calm_after p old mid new still (inr rose) = inr (subst (λ n. Rose (g.stops old p) n) (sym (quiet.counts_same mid new p still).0) rose)
+
   -- the next one
   module _ (k : ℕ) (old mid new : D) (made : AreMade g k old mid) (others : (q : ℕ) → q ≢ k → g.untouched mid new q) where
     pub made_next : KeepsTelling g mid new k → g.continues mid new → AreMade g (k + 1) old new
@@ -91,6 +108,13 @@ module _ {C D : Type 0} (g : checkpoint.Ghosts C D) (laws : Laws g) (quiet : Qui
           (cases_eq k q);
       continues = laws.continues_on old mid new made.continues continues;
     }
+
+    -- and what was counted so far
+    pub calm_next : ((q : ℕ) → IsCalmUnlessStopped g.stops g.faults q old mid) → IsCalmUnlessStopped g.stops g.faults k mid new → (q : ℕ) → IsCalmUnlessStopped g.stops g.faults q old new
+    calm_next below calm q = ⊎_elim
+        (λ (same : k ≡ q). subst (λ r. IsCalmUnlessStopped g.stops g.faults r old new) same (calm_before k old mid new (made.kept k (omega arith)) calm))
+        (λ (ne : k ≢ q). calm_after q old mid new (others q (λ e. ne (sym e))) (below q))
+        (cases_eq k q)
 
     -- where it failed
     pub rose_next : Rose (g.faults mid k) (g.faults new k) → Rose (g.faults old k) (g.faults new k)
@@ -123,6 +147,6 @@ module _ {C D : Type 0} (g : checkpoint.Ghosts C D) (laws : Laws g) (quiet : Qui
             was.0,
             was.1,
             subst (IsBegun g protocol (whose (length images) q) was.0 c new) (sym (at_front q low))
-                (begun_still protocol (length images) q was.0 c mid new (slot_at slots q) (others (g.place c) (λ e. ne (sym e ∙ was.2.own.place_is))) was.2),
+                (begun_still protocol (length images) q was.0 c mid new (slot_at slots q) (others (g.index c) (λ e. ne (sym e ∙ was.2.belongs.index_is))) was.2),
           ))
           (cases_eq k q)

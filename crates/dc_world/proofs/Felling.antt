@@ -1,9 +1,8 @@
 -- Stops between turns, at the stores and at the processes of the code.
 use Rattle.dc_checkpoint.specs.Calls.{FallsStore}
 use Rattle.dc_checkpoint.specs.Handles.{showing_of}
-use Rattle.std.proofs.Common.{◌≡◌, ◌≢◌, ◌∙◌, ◌<◌, ◌+◌, ◌-◌, ◌*◌, ℕ, List, false, Option, None, Some, IsSome, inl, refl, sym, ap, subst, arith, drop, length, set, slice_get, take, ◌++◌, ⊎_elim}
+use Rattle.std.proofs.Common.{◌≡◌, ◌≢◌, ◌∙◌, ◌<◌, ◌+◌, ◌-◌, ◌*◌, ℕ, List, false, Option, None, Some, inl, refl, sym, ap, subst, arith, length, set, slice_get, ⊎_elim}
 use Rattle.std.proofs.lemmas.Bool.{cases_eq, true≢false}
-use Rattle.std.proofs.lemmas.List.{append-nil, drop_all, take_all}
 use Rattle.dc_checkpoint.specs.declared.checkpoint.Checkpoint as checkpoint
 use Rattle.dc_elf.specs.Images.{Image}
 use Rattle.dc_model.specs.declared.entry.Entry.TheVariants as entry
@@ -14,21 +13,17 @@ use Rattle.dc_protocols.specs.Rules.{is_joint}
 use Rattle.dc_recovery.specs.Core.{Core}
 use Rattle.dc_recovery.specs.Turned.{after_fall}
 use Rattle.dc_twophase.proofs.Laws.{Laws}
-use Rattle.dc_world.proofs.Beside.{leaves_self, leaves_stay, leaves_were, memory_stays}
+use Rattle.dc_processes.proofs.Beside.{leaves_self, leaves_stay, leaves_were, memory_stays}
 use Rattle.dc_world.proofs.Fallen.{world_fallen}
 use Rattle.dc_world.proofs.Waiting.{ready_next}
-use Rattle.dc_world.specs.Processes.{IsWell}
-use Rattle.dc_world.specs.Slots.{Falls, size_in, slot_at}
-use Rattle.dc_world.specs.Stages.{IsHandled, IsReady, IsWorld, Stage, leaves_of, stage_of}
-use Rattle.dc_world.specs.Turns.{IsTurned, later, marked}
-use Rattle.dc_world.specs.Worlds.{counted}
-use Rattle.dc_world.specs.declared.processes.Processes.{Processes}
-use Rattle.dc_world.specs.declared.slot.Slot.{Slot}
-use Rattle.dc_world.specs.declared.slot.Slot.TheVariants.{Up, Down}
-
--- a slice of all of a list that was written
-pub all_written : {A : Type 0} (n : ℕ) (xs ys : List A) → n ≡ length xs → length ys ≡ length xs → take n (ys ++ drop (length ys) xs) ≡ ys
-all_written n xs ys n_is long = ap (λ zs. take n (ys ++ zs)) (drop_all (length ys) xs (omega (arith, long))) ∙ ap (take n) (append-nil ys) ∙ take_all n ys (omega (arith, n_is, long))
+use Rattle.dc_processes.specs.Processes.{IsWell, counted}
+use Rattle.dc_processes.specs.Slots.{Falls, slot_at}
+use Rattle.dc_world.specs.Worlds.{IsReady}
+use Rattle.dc_processes.specs.Stages.{IsHandled, IsWorld, Stage, leaves_of, stage_of}
+use Rattle.dc_processes.specs.Turns.{IsTurned, later, marked}
+use Rattle.dc_processes.specs.declared.processes.Processes.{Processes}
+use Rattle.dc_processes.specs.declared.slot.Slot.{Slot}
+use Rattle.dc_processes.specs.declared.slot.Slot.TheVariants.{Down, Up}
 
 -- only slots changed
 pub rest_slots : (w w1 : Processes) → w1 ≡ record w { slots = w1.slots } → w1 ≡ record w { slots = w1.slots; acts = w1.acts; exposed = w1.exposed }
@@ -42,12 +37,6 @@ module _ {C D : Type 0} (g : checkpoint.Ghosts C D) where
   handled_falls k m c0 c1 dev (Some s) (Some (Up v)) falls store is = absurd (true≢false falls.down)
   handled_falls k m c0 c1 dev (Some (Up u)) (Some (Down d)) falls store is = (store.lent dev is.0.lent, falls.size_same ∙ is.0.sized ∙ ap (λ n. 4 * n) (sym store.same.size_same))
   handled_falls k m c0 c1 dev (Some (Down e)) (Some (Down d)) falls store is = (store.lent dev is.0, falls.size_same ∙ is.1 ∙ ap (λ n. 4 * n) (sym store.same.size_same))
-
-  -- what one needs that fell in its turn
-  pub handled_down : (m : ℕ) (c0 c1 : C) (dev : D) (old new : Option Slot) → Falls old new → IsSome old → FallsStore (showing_of g) c0 c1 → g.lent c0 dev → size_in old ≡ 4 * g.size c0 → IsHandled g m c1 dev new
-  handled_down m c0 c1 dev old None falls some store lent sized = absurd (true≢false (sym (falls.there some)))
-  handled_down m c0 c1 dev old (Some (Up v)) falls some store lent sized = absurd (true≢false falls.down)
-  handled_down m c0 c1 dev old (Some (Down d)) falls some store lent sized = (store.lent dev lent, falls.size_same ∙ sized ∙ ap (λ n. 4 * n) (sym store.same.size_same))
 
   -- one process fell
   module _ (laws : Laws g) (stores : List C) (dev : D) (w w1 : Processes) (p : ℕ) (c0 c1 : C) (alone : is_joint w.protocol ≡ false) (ready : IsReady g stores dev w) (there : p < length w.slots.items) (at0 : slice_get stores p ≡ Some c0)
@@ -66,8 +55,8 @@ module _ {C D : Type 0} (g : checkpoint.Ghosts C D) where
 
     pub turned_fallen : (images : List Image) (core : Core) → IsWorld g (system images old.inputs old.protocol) core old → IsTurned g images core old new (entry.Stop p) (marked mark.Marked None)
     turned_fallen images core world =
-        let place_own : (q : ℕ) (x : C) → slice_get stores q ≡ Some x → g.place x ≡ q = λ q x is. (ready.own q x is).place_is in
-        let untouched : (q : ℕ) → q ≢ g.place c0 → g.untouched dev dev q = λ q ne. laws.untouched_self dev q in
+        let index_of : (q : ℕ) (x : C) → slice_get stores q ≡ Some x → g.index x ≡ q = λ q x is. (ready.belongs q x is).index_is in
+        let untouched : (q : ℕ) → q ≢ g.index c0 → g.untouched dev dev q = λ q ne. laws.untouched_self dev q in
         let no_more : w.lines + 0 ≡ w.lines = omega arith in
         let left_is : w1.left ≡ w.left = ap (λ (x : Processes). x.left) rest in record {
           after = after_fall w.protocol core p;
@@ -75,11 +64,11 @@ module _ {C D : Type 0} (g : checkpoint.Ghosts C D) where
           lines_are = refl;
           stands = world_fallen g (system images old.inputs old.protocol) alone core p (subst (λ m. p < m) (sym world.count_is) there) old new world
               (λ q r l. ⊎_elim
-              (λ (here : p ≡ q). subst (λ z. leaves_of g old z 0 r) here (leaves_were g laws old new p c0 c1 refl place_own at0 untouched 0 r
-              (store.stands dev 0 r (omega arith) (leaves_self g laws old new p c0 c1 refl place_own at0 untouched 0 r (subst (λ z. leaves_of g new z 0 r) (sym here) l)))))
-              (λ (ne : p ≢ q). leaves_stay g laws old new p c0 c1 refl place_own at0 untouched q ne 0 r l)
+              (λ (here : p ≡ q). subst (λ z. leaves_of g old z 0 r) here (leaves_were g laws old new p c0 c1 refl index_of at0 untouched 0 r
+              (store.stands dev 0 r (omega arith) (leaves_self g laws old new p c0 c1 refl index_of at0 untouched 0 r (subst (λ z. leaves_of g new z 0 r) (sym here) l)))))
+              (λ (ne : p ≢ q). leaves_stay g laws old new p c0 c1 refl index_of at0 untouched q ne 0 r l)
               (cases_eq p q))
-              (λ q ne. memory_stays g laws old new p c0 c1 refl place_own at0 untouched q ne) falls (λ q ne. same q (λ e. ne (sym e)))
+              (λ q ne. memory_stays g laws old new p c0 c1 refl index_of at0 untouched q ne) falls (λ q ne. same q (λ e. ne (sym e)))
               long (ap (λ (x : Processes). x.protocol) rest) (ap (λ (x : Processes). lists_of x.inputs.items) rest) (ap (λ (x : Processes). x.acts.items) rest) (ap (λ (x : Processes). x.exposed.items) rest)
               (ap (λ (x : Processes). x.lines + 0) rest ∙ no_more) (omega (arith, left_is, some));
         }

@@ -1,7 +1,7 @@
 -- Where all commit together and the making of one store was stopped all fall; what a recovery is to fill is made.
 use Rattle.dc_checkpoint.specs.Calls.{FallsStore}
 use Rattle.dc_checkpoint.specs.Handles.{showing_of}
-use Rattle.std.proofs.Common.{◌≡◌, ◌≢◌, ◌∙◌, ◌<◌, ◌++◌, ℕ, List, [], ◌∷◌, Option, Some, ap, arith, inl, inr, length, length-append, slice_get, slice_index, subst, sym, true, ⊎_elim}
+use Rattle.std.proofs.Common.{◌≡◌, ◌≢◌, ◌∙◌, ◌<◌, ◌++◌, ◌∷◌, ℕ, List, [], Option, Some, ap, arith, inl, inr, length, length-append, slice_get, slice_index, subst, sym, true, ⊎_elim}
 use Rattle.std.proofs.lemmas.Bool.{cases_eq, true≢false}
 use Rattle.std.proofs.lemmas.Option.{slice_get_within}
 use Rattle.dc_checkpoint.specs.States.{Form, IsFit}
@@ -14,12 +14,12 @@ use Rattle.dc_protocols.specs.declared.protocol.Protocol.{Protocol}
 use Rattle.dc_twophase.proofs.Pairs.{before_it}
 use Rattle.dc_world.proofs.Begun.{get_end, get_front}
 use Rattle.dc_world.proofs.Felling.{handled_falls}
-use Rattle.dc_world.specs.Joints.{AreUp}
-use Rattle.dc_world.specs.Opened.{AreAlike, AreBegun, AreMadeFor, FallTogether, IsBegun, IsOpened, whose}
-use Rattle.dc_world.specs.Slots.{Falls, IsOf, slot_at}
+use Rattle.dc_together.specs.Joints.{AreUp, FallTogether, whose}
+use Rattle.dc_world.specs.Opened.{AreAlike, AreBegun, AreMadeFor, IsBegun, IsOpened}
+use Rattle.dc_processes.specs.Slots.{Falls, IsOf, slot_at}
 use Rattle.dc_world.specs.declared.opening.Setup.{Setup}
-use Rattle.dc_world.specs.declared.processes.Processes.{Processes}
-use Rattle.dc_world.specs.declared.slot.Slot.{Slot}
+use Rattle.dc_processes.specs.declared.processes.Processes.{Processes}
+use Rattle.dc_processes.specs.declared.slot.Slot.{Slot}
 
 -- one more was made
 pub made_more : (n : ℕ) (saved saved1 : List Saved) (v : Saved) → saved1 ≡ saved ++ v ∷ [] → IsFit (whose n (length saved)) v → AreMadeFor n saved → AreMadeFor n saved1
@@ -51,10 +51,10 @@ module _ {C D : Type 0} (g : checkpoint.Ghosts C D) where
     words = is.words;
     bytes_are = is.bytes_are;
     of = of;
-    own = record {
-      place_is = store.same.place_same ∙ is.own.place_is;
-      form_n = ap (λ (f : Form). f.n) store.same.form_same ∙ is.own.form_n;
-      form_p = ap (λ (f : Form). f.p) store.same.form_same ∙ is.own.form_p;
+    belongs = record {
+      index_is = store.same.index_same ∙ is.belongs.index_is;
+      form_n = ap (λ (f : Form). f.n) store.same.form_same ∙ is.belongs.form_n;
+      form_p = ap (λ (f : Form). f.p) store.same.form_same ∙ is.belongs.form_p;
     };
     handled = λ turns few. handled_falls g turns turns c c1 dev old new falls store (is.handled turns few);
     kernel_ok = is.kernel_ok;

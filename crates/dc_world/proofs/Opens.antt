@@ -20,7 +20,7 @@ use Rattle.dc_proc.specs.Carried.{system}
 use Rattle.dc_proc.specs.Events.{HasCountsFor}
 use Rattle.dc_proc.specs.Processes.{Held, IsAt, IsKernelAt, IsLinkOf, IsNumbered, IsSavedAs, kernel_status, reading_of}
 use Rattle.dc_proc.specs.Ups.{held}
-use Rattle.dc_proc.specs.Worlds.{IsUp, others_of}
+use Rattle.dc_processes.specs.Worlds.{IsUp, others_of}
 use Rattle.dc_protocols.specs.Rules.{is_causal, is_joint}
 use Rattle.dc_recovery.specs.Core.{Core, at_start, first_save, opened_core}
 use Rattle.dc_recovery.specs.Systems.{System}
@@ -28,20 +28,21 @@ use Rattle.dc_rv32.specs.Machine.{machine_of}
 use Rattle.dc_twophase.proofs.Pairs.{known}
 use Rattle.dc_words.specs.Words.{bytes_in}
 use Rattle.dc_world.proofs.Beginning.{none_received, none_sent}
-use Rattle.dc_world.proofs.Beside.{and_some, some_and}
-use Rattle.dc_world.proofs.Fitting.{own_form}
-use Rattle.dc_world.proofs.Handling.{counts_same}
+use Rattle.dc_processes.proofs.Beside.{and_some, some_and}
+use Rattle.dc_together.proofs.Fitting.{own_form}
+use Rattle.dc_processes.proofs.Handling.{counts_same}
 use Rattle.dc_world.proofs.Joined.{alike, begun_together, opened_still}
-use Rattle.dc_world.specs.Opened.{AreAlike, AreBegun, AreMadeFor, FallTogether, IsBegun, IsHeldFirst, IsOpened, first_kernel, whose}
-use Rattle.dc_world.specs.Processes.{IsWell}
-use Rattle.dc_world.specs.Slots.{IsOf, based_in, held_in, is_up, slot_at}
-use Rattle.dc_world.specs.Joints.{AreReady, AreUp, IsDownAt, IsFitAt, IsOwn, IsRoomFor}
-use Rattle.dc_world.specs.Stages.{AreDecided, IsHandled, IsReady, IsTold, IsWorld, Stage, leaves_of, memory_of, numbers_of, seen_of, stage_of, store_of, words_of}
-use Rattle.dc_world.specs.declared.joint.Joint.{Joint}
+use Rattle.dc_world.specs.Opened.{AreAlike, AreBegun, AreMadeFor, IsBegun, IsHeldFirst, IsOpened, first_kernel}
+use Rattle.dc_processes.specs.Processes.{IsWell}
+use Rattle.dc_processes.specs.Slots.{IsOf, based_in, held_in, is_up, slot_at}
+use Rattle.dc_together.specs.Joints.{AreReady, AreUp, FallTogether, IsDownAt, IsFitAt, Belongs, IsRoomFor, whose}
+use Rattle.dc_world.specs.Worlds.{IsReady}
+use Rattle.dc_processes.specs.Stages.{AreDecided, IsHandled, IsTold, IsWorld, Stage, leaves_of, memory_of, numbers_of, seen_of, stage_of, store_of, words_of}
+use Rattle.dc_processes.specs.declared.joint.Joint.{Joint}
 use Rattle.dc_world.specs.declared.opening.Setup.{Setup}
-use Rattle.dc_world.specs.declared.processes.Processes.{Processes}
-use Rattle.dc_world.specs.declared.slot.Slot.{Slot}
-use Rattle.dc_world.specs.declared.slot.Slot.TheVariants.{Up, Down}
+use Rattle.dc_processes.specs.declared.processes.Processes.{Processes}
+use Rattle.dc_processes.specs.declared.slot.Slot.{Slot}
+use Rattle.dc_processes.specs.declared.slot.Slot.TheVariants.{Down, Up}
 
 -- process p of some images before its first event
 module _ (setup : Setup) (p : ℕ) (image : Image) (there : slice_get setup.images.items p ≡ Some image) (words : List ℕ) (bytes_are : bytes_in words ≡ image.memory.items) where
@@ -76,7 +77,7 @@ module _ (setup : Setup) (p : ℕ) (image : Image) (there : slice_get setup.imag
     status = sym (ap kernel_status machine_is);
     position = refl;
     visible = refl;
-    place = refl;
+    inputs_taken = refl;
     received = λ s less. none_received n p image s (inside s less);
     links = link_is;
   }
@@ -87,7 +88,7 @@ module _ (setup : Setup) (p : ℕ) (image : Image) (there : slice_get setup.imag
     kernel_is = subst (IsKernelAt S.guests.count p 0 (begun S.guests p) words) (sym is.kernel_is) kernel_is;
     kept = λ q less. ap (λ (x : Kernel). (link_to x.links q).kept) is.kernel_is ∙ ap (λ (l : Link). l.kept) (none_sent n p image q (inside q less)) ∙ sym (drop-nil (slice_index h.others q));
     unread_is = ap (map _) is.unread_is;
-    own_is = is.own_is;
+    unlogged_is = is.unlogged_is;
     left_is = is.left_is;
     based_is = λ s less. based s (inside s less);
     number_is = ap (λ (x : Kernel). x.commit) is.kernel_is;
@@ -133,7 +134,7 @@ fit_up g turns c dev None on is = absurd is
 fit_up g turns c dev (Some (Down d)) on is = absurd (true≢false (sym on))
 fit_up g turns c dev (Some (Up u)) on is = (
   is.0,
-  counts_same turns u.kernel (held u).kernel (record { n_same = refl; position_same = refl; visible_same = refl; place_same = refl; received_same = refl; commit_same = refl; sent_same = λ q less. refl }) is.1,
+  counts_same turns u.kernel (held u).kernel (record { n_same = refl; position_same = refl; visible_same = refl; inputs_same = refl; received_same = refl; commit_same = refl; sent_same = λ q less. refl }) is.1,
   is.2,
 )
 
@@ -189,14 +190,14 @@ module _ {C D : Type 0} (g : checkpoint.Ghosts C D) (setup : Setup) (entries : �
     is_room together = subst (λ n. IsRoomFor g stores n w.joint) (sym begins.slots_long) (record {
       texts = texts together;
       saved_long = saved_long together;
-      saved_fit = λ p c v there filled. subst (λ f. IsFit f v) (sym (own_form g (length images) p c (each p c there).2.own)) (saved_fit p v filled);
+      saved_fit = λ p c v there filled. subst (λ f. IsFit f v) (sym (own_form g (length images) p c (each p c there).2.belongs)) (saved_fit p v filled);
     })
 
     pub ready : length images ≤ 8 → length setup.inputs.items ≡ length images → entries ≤ w.acts.room → IsReady g stores dev w
     ready small inputs room = record {
       well = well small inputs;
       stores_long = stores_long ∙ sym begins.slots_long;
-      own = λ p c there. subst (λ m. IsOwn g m p c) (sym begins.slots_long) (each p c there).2.own;
+      belongs = λ p c there. subst (λ m. Belongs g m p c) (sym begins.slots_long) (each p c there).2.belongs;
       handled = λ _ p c there. subst (λ turns. IsHandled g turns c dev (at p)) (sym begins.left_is) ((each p c there).2.handled entries (omega (arith, few)));
       together = λ is. let together = ap is_joint (sym begins.protocol_is) ∙ is in (are_ready (alike together), is_room together);
       room = let a = ap length begins.acts_are in let b = begins.left_is in omega (arith, a, b, room);
@@ -205,7 +206,7 @@ module _ {C D : Type 0} (g : checkpoint.Ghosts C D) (setup : Setup) (entries : �
       few_entries = let a = begins.entries_are in let b = begins.left_is in omega (arith, a, b, few);
     }
 
-  module _ (told_contents : (c : C) (d : D) → g.ready c d → g.told d (g.place c) → IsSome (g.contents c d)) (told : IsTold g (stage_of stores dev w)) where
+  module _ (told_contents : (c : C) (d : D) → g.ready c d → g.told d (g.index c) → IsSome (g.contents c d)) (told : IsTold g (stage_of stores dev w)) where
     abbrev x : Stage C D
     x = stage_of stores dev w
 
@@ -222,7 +223,7 @@ module _ {C D : Type 0} (g : checkpoint.Ghosts C D) (setup : Setup) (entries : �
     up_is p less on =
         let (c, store_is, image, image_is, is) = one p (within p less) in
         let held = is.held on in
-        let device : g.told dev (g.place c) = subst (g.told dev) (sym is.own.place_is) (told.told p (subst (λ m. p < m) (sym begins.slots_long) (within p less))) in
+        let device : g.told dev (g.index c) = subst (g.told dev) (sym is.belongs.index_is) (told.told p (subst (λ m. p < m) (sym begins.slots_long) (within p less))) in
         let contents_are = told_words (g.contents c dev) is.words (told_contents c dev (ready_up g 0 c dev (at p) on (is.handled 0 (omega arith))) device) (is.memory on) in
         let memory_is : memory_of g (store_of x p) dev ≡ Some is.words = ap (λ o. memory_of g o dev) store_is ∙ contents_are in
         record {
@@ -318,6 +319,6 @@ module _ {C D : Type 0} (g : checkpoint.Ghosts C D) (setup : Setup) (entries : �
       (subst (λ (j : Joint). is_joint setup.protocol ≡ true → length j.saved.items ≡ count) joint_is saved_long)
       (subst (λ (j : Joint). AreMadeFor count j.saved.items) joint_is saved_fit) small inputs (subst (λ (x : Processes). entries ≤ x.acts.room) (sym rest) room)
 
-  pub opened_joined : ((c : C) (d : D) → g.ready c d → g.told d (g.place c) → IsSome (g.contents c d)) → is_causal setup.protocol ≡ false → IsTold g (stage_of stores1 dev w1)
+  pub opened_joined : ((c : C) (d : D) → g.ready c d → g.told d (g.index c) → IsSome (g.contents c d)) → is_causal setup.protocol ≡ false → IsTold g (stage_of stores1 dev w1)
       → IsWorld g (system (map seen_image setup.images.items) (lists_of setup.inputs.items) setup.protocol) (opened_core (λ p. is_up (slot_at w1.slots.items p))) (stage_of stores1 dev w1)
   opened_joined told_contents free told = opened g setup entries stores1 dev w1 begins1 begun1 (as_many ∙ stores_long) few some told_contents told free

@@ -8,21 +8,21 @@ use Rattle.dc_model.specs.declared.mark.Mark.TheVariants as mark
 use Rattle.dc_protocols.specs.Rules.{is_joint}
 use Rattle.dc_protocols.specs.declared.protocol.Protocol.{Protocol}
 use Rattle.dc_recovery.proofs.Parts.{with_all}
-use Rattle.dc_twophase.specs.Stores.{IsNoPlace}
+use Rattle.dc_twophase.specs.Stores.{IsNoIndex}
 use Rattle.dc_twophase.specs.declared.faults.JointFault.{JointFault}
 use Rattle.dc_twophase.specs.declared.faults.JointFault.TheVariants as joint
 use Rattle.dc_world.specs.Faults.{fall_answer}
-use Rattle.dc_world.specs.Joints.{AreOwn}
+use Rattle.dc_together.specs.Joints.{AllBelong}
 use Rattle.dc_world.specs.Worlds.{TakesPart}
 
 -- where all commit together each takes part
 pub part_all : (protocol : Protocol) (n : ℕ) (turn : Turn) → is_joint protocol ≡ true → (q : ℕ) → q < n → TakesPart protocol n q (entry.Turn turn)
 part_all protocol n turn together q less = (with_all protocol turn.p q together, less)
 
-module _ {C D : Type 0} (g : checkpoint.Ghosts C D) (n : ℕ) (stores : List C) (long : length stores ≡ n) (own : AreOwn g n stores) where
+module _ {C D : Type 0} (g : checkpoint.Ghosts C D) (n : ℕ) (stores : List C) (long : length stores ≡ n) (belong : AllBelong g n stores) where
   -- a device past theirs is no store's
-  pub no_place : (q : ℕ) → n ≤ q → IsNoPlace g stores q
-  no_place q past i c at e = let less = slice_get_within stores i c at in let place = (own i c at).place_is in omega (arith, less, place, e, past, long)
+  pub no_index : (q : ℕ) → n ≤ q → IsNoIndex g stores q
+  no_index q past i c at e = let less = slice_get_within stores i c at in let index = (belong i c at).index_is in omega (arith, less, index, e, past, long)
 
 -- where an entry answers that it was stopped, its fault names a process
 pub answer_stopped : (P Q : ℕ → Type 0) (fault : JointFault) → ((p : ℕ) → fault ≡ joint.Stopped p → P p × Q p) → IfOk (fall_answer fault) (λ did. did ≡ mark.Stopped → (p : ℕ) × P p × Q p)

@@ -17,23 +17,23 @@ use Rattle.dc_recovery.specs.Parts.{fallen, is_with}
 use Rattle.dc_recovery.specs.Turned.{after_fall, after_power}
 use Rattle.dc_twophase.proofs.Pairs.{before_it, known}
 use Rattle.dc_twophase.specs.Stores.{EachPair}
-use Rattle.dc_world.proofs.Alls.{each_all}
-use Rattle.dc_world.proofs.Beside.{and_some, some_and}
-use Rattle.dc_world.proofs.Downed.{world_downed}
+use Rattle.dc_processes.proofs.Alls.{each_all}
+use Rattle.dc_processes.proofs.Beside.{and_some, some_and}
+use Rattle.dc_together.proofs.Downed.{world_downed}
 use Rattle.dc_world.proofs.Fallen.{world_powered}
 use Rattle.dc_world.proofs.Felling.{handled_falls}
-use Rattle.dc_world.proofs.Fitting.{down_at, down_there, fit_up, room_same}
+use Rattle.dc_together.proofs.Fitting.{down_at, down_there, fit_up, room_same}
 use Rattle.dc_world.proofs.Waiting.{own_kept, well_counted}
-use Rattle.dc_world.specs.Joints.{AreOwn, AreReady, IsDownAt, IsFitAt, IsRoomFor}
-use Rattle.dc_world.specs.Processes.{IsWell}
-use Rattle.dc_world.specs.Slots.{Falls, is_up, size_in, slot_at}
-use Rattle.dc_world.specs.Stages.{IsReady, IsWorld, Stage, leaves_of, numbers_of, stage_of, store_of}
-use Rattle.dc_world.specs.Turns.{IsTurned, later, marked}
-use Rattle.dc_world.specs.Worlds.{counted}
-use Rattle.dc_world.specs.declared.joint.Joint.{Joint}
-use Rattle.dc_world.specs.declared.processes.Processes.{Processes}
-use Rattle.dc_world.specs.declared.slot.Slot.{Slot}
-use Rattle.dc_world.specs.declared.slot.Slot.TheVariants.{Up, Down}
+use Rattle.dc_together.specs.Joints.{AllBelong, AreReady, IsDownAt, IsFitAt, IsRoomFor}
+use Rattle.dc_processes.specs.Processes.{IsWell, counted}
+use Rattle.dc_processes.specs.Slots.{Falls, is_up, size_in, slot_at}
+use Rattle.dc_world.specs.Worlds.{IsReady}
+use Rattle.dc_processes.specs.Stages.{IsWorld, Stage, leaves_of, numbers_of, stage_of, store_of}
+use Rattle.dc_processes.specs.Turns.{IsTurned, later, marked}
+use Rattle.dc_processes.specs.declared.joint.Joint.{Joint}
+use Rattle.dc_processes.specs.declared.processes.Processes.{Processes}
+use Rattle.dc_processes.specs.declared.slot.Slot.{Slot}
+use Rattle.dc_processes.specs.declared.slot.Slot.TheVariants.{Down, Up}
 
 -- where all commit together a stop of one fells all
 pub fall_all : {C D : Type 0} (g : checkpoint.Ghosts C D) (images : List Image) (c : Core) (p : ℕ) (old new : Stage C D) → is_joint old.protocol ≡ true → IsTurned g images c old new entry.Power (marked mark.Marked None)
@@ -88,7 +88,7 @@ module _ {C D : Type 0} (g : checkpoint.Ghosts C D) where
     ready_powered = record {
       well = well_counted w1 well1;
       stores_long = as_many ∙ ready.stores_long ∙ sym long;
-      own = subst (λ n. AreOwn g n stores1) (sym long) (own_kept g (length w.slots.items) stores stores1 as_many (λ i b c x y. (pairs i b c x y).same) ready.own);
+      belongs = subst (λ n. AllBelong g n stores1) (sym long) (own_kept g (length w.slots.items) stores stores1 as_many (λ i b c x y. (pairs i b c x y).same) ready.belongs);
       handled = λ alone q c at. let was = before_it stores stores1 q c as_many at in
           handled_falls g w.left (w1.left - 1) was.0 c dev (slot_at w.slots.items q) (slot_at w1.slots.items q) (falls q (inside q was.0 was.1)) (pairs q was.0 c was.1 at)
           (ready.handled (ap is_joint (sym protocol_is) ∙ alone) q was.0 was.1);

@@ -1,12 +1,4 @@
-pub mod Slots
-pub mod Processes
-pub mod Answers
-pub mod Joints
-pub mod Stages
 pub mod Faults
-pub mod Turns
-pub mod Taking
-pub mod Together
 pub mod Worlds
 pub mod Opened
 pub mod Ended

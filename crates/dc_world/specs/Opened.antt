@@ -1,8 +1,7 @@
 -- What a world is when it was opened.
 use Rattle.std.specs.Prelude.{◌≡◌, ◌⊎◌, ◌<◌, ◌≤◌, ◌*◌, ◌-◌, ℕ, List, [], true, false, Option, Some, IfSome, length, replicate, slice_get, slice_index, slice_set}
 use Rattle.dc_limits.specs.declared.bounds.TheConstants.{LOGGED_EVENTS}
-use Rattle.dc_checkpoint.specs.Calls.{AreAll, FallsStore}
-use Rattle.dc_checkpoint.specs.Handles.{showing_of}
+use Rattle.dc_checkpoint.specs.Calls.{AreAll}
 use Rattle.dc_checkpoint.specs.States.{Form, IsFit, Reading}
 use Rattle.dc_checkpoint.specs.declared.checkpoint.Checkpoint as checkpoint
 use Rattle.dc_elf.specs.declared.image.Image.{Image}
@@ -12,16 +11,14 @@ use Rattle.dc_media.specs.Causes.{Rose}
 use Rattle.dc_elf.specs.Loaded.{CanStart}
 use Rattle.dc_words.specs.Lists.{lists_of}
 use Rattle.dc_proc.specs.Processes.{Held, reading_of}
-use Rattle.dc_protocols.specs.Rules.{is_joint}
 use Rattle.dc_protocols.specs.declared.protocol.Protocol.{Protocol}
-use Rattle.dc_twophase.specs.Stores.{EachPair}
 use Rattle.dc_words.specs.Words.{bytes_in}
-use Rattle.dc_world.specs.Joints.{AreUp, IsOwn}
-use Rattle.dc_world.specs.Slots.{Falls, IsOf, based_in, held_in, is_up, slot_at}
-use Rattle.dc_world.specs.Stages.{IsHandled}
+use Rattle.dc_together.specs.Joints.{AreUp, Belongs, whose}
+use Rattle.dc_processes.specs.Slots.{IsOf, based_in, held_in, is_up, slot_at}
+use Rattle.dc_processes.specs.Stages.{IsHandled}
 use Rattle.dc_world.specs.declared.opening.Setup.{Setup}
-use Rattle.dc_world.specs.declared.processes.Processes.{Processes}
-use Rattle.dc_world.specs.declared.slot.Slot.{Slot}
+use Rattle.dc_processes.specs.declared.processes.Processes.{Processes}
+use Rattle.dc_processes.specs.declared.slot.Slot.{Slot}
 
 -- an image in which a guest can begin, of whole pages
 abbrev pub CanOpen : Image → Type 0
@@ -39,20 +36,16 @@ first_kernel n p image = kernel_at n p (length image.memory.items) image.entry
 pub record IsHeldFirst (kernel : Kernel) (held : Held) : Type 0 where
   pub kernel_is : held.kernel ≡ kernel
   pub unread_is : held.unread ≡ []
-  pub own_is : held.own ≡ false
+  pub unlogged_is : held.unlogged ≡ false
   pub left_is : held.log_left ≡ LOGGED_EVENTS
   pub others_are : (q : ℕ) → q < kernel.n → slice_index held.others q ≡ 0
-
--- process p of n
-abbrev pub whose : ℕ → ℕ → Form
-whose n p = record { n = n; p = p }
 
 -- a process before its first event, with its store, whose images all stand for that; up, it may take any turns of a run
 pub record IsBegun {C D : Type 0} (g : checkpoint.Ghosts C D) (protocol : Protocol) (form : Form) (image : Image) (c : C) (dev : D) (slot : Option Slot) : Type 0 where
   pub words : List ℕ
   pub bytes_are : bytes_in words ≡ image.memory.items
   pub of : (s : Slot) → slot ≡ Some s → IsOf protocol form.n form.p s
-  pub own : IsOwn g form.n form.p c
+  pub belongs : Belongs g form.n form.p c
   pub handled : (turns : ℕ) → turns ≤ 2000000 → IsHandled g turns c dev slot
   pub kernel_ok : IsKernel form.n form.p (first_kernel form.n form.p image)
   pub leaves : (d : ℕ) (r : Reading) → g.leaves c dev d r → r ≡ reading_of (record { words = words; kernel = first_kernel form.n form.p image; log = [] })
@@ -67,24 +60,18 @@ abbrev pub AreBegun : {C D : Type 0} → checkpoint.Ghosts C D → Protocol → 
 AreBegun g protocol images slots stores dev = (p : ℕ) (c : _) → slice_get stores p ≡ Some c
     → (image : Image) × (slice_get images p ≡ Some image) × IsBegun g protocol (whose (length images) p) image c dev (slot_at slots p)
 
+-- a process's device counted neither a stop nor a fault, unless it was stopped
+abbrev pub IsCalmUnlessStopped : {S : Type 0} → (S → ℕ → ℕ) → (S → ℕ → ℕ) → ℕ → S → S → Type 0
+IsCalmUnlessStopped stops faults p old new = ((stops new p ≡ stops old p) × (faults new p ≡ faults old p)) ⊎ Rose (stops old p) (stops new p)
+
 -- a process is down exactly for a stop of its device, and one that is up had no refusal of it
 pub record IsUpFor {C D : Type 0} (g : checkpoint.Ghosts C D) (p : ℕ) (old new : D) (slot : Option Slot) : Type 0 where
   pub stopped : is_up slot ≡ false → Rose (g.stops old p) (g.stops new p)
   pub calm : is_up slot ≡ true → (g.stops new p ≡ g.stops old p) × (g.faults new p ≡ g.faults old p)
 
--- what a recovery of n processes is to fill, each made for the process of its place
+-- what a recovery of n processes is to fill, each made for the process of its slot
 abbrev pub AreMadeFor : ℕ → List Saved → Type 0
 AreMadeFor n saved = (p : ℕ) (v : Saved) → slice_get saved p ≡ Some v → IsFit (whose n p) v
-
--- all fell, as one of them was down
-pub record HaveFallen {C D : Type 0} (g : checkpoint.Ghosts C D) (slots slots1 : List (Option Slot)) (stores stores1 : List C) : Type 0 where
-  pub one : (q : ℕ) × (q < length slots) × (is_up (slot_at slots q) ≡ false)
-  pub falls : (p : ℕ) → p < length slots → Falls (slot_at slots p) (slot_at slots1 p)
-  pub pairs : EachPair stores stores1 (λ i. FallsStore (showing_of g))
-
--- they are as they were, where each commits by itself or all are up; else all fell
-abbrev pub FallTogether : {C D : Type 0} → checkpoint.Ghosts C D → Protocol → List (Option Slot) → List (Option Slot) → List C → List C → Type 0
-FallTogether g protocol slots slots1 stores stores1 = ((slots1 ≡ slots) × (stores1 ≡ stores) × (is_joint protocol ≡ true → AreUp slots)) ⊎ ((is_joint protocol ≡ true) × HaveFallen g slots slots1 stores stores1)
 
 -- all are up, or none is
 abbrev pub AreAlike : List (Option Slot) → Type 0

@@ -4,19 +4,8 @@
 //! of recovery allows, wherever the device stops.
 #![tactic(auto)]
 
-mod answering;
-mod committing;
 mod faults;
-mod joint;
 mod opening;
-mod processes;
-mod recovering;
-mod rejoining;
-mod slot;
-mod stopping;
-mod taking;
-mod together;
-mod turning;
 mod world;
 
 pub use faults::{OpenFault, TurnFault};

@@ -1,6 +1,6 @@
 //! The opening of a world: each process before its first event, with a store for each.
 
-ghost use Rattle.std.specs.Prelude.{◌≡◌, ◌≢◌, ◌<◌, ◌≤◌, ◌+◌, ◌*◌, ◌%◌, ℕ, [], ◌∷◌, ◌++◌, Err, Some, All, IfOk, OnOk, false, true, length, map};
+ghost use Rattle.std.specs.Prelude.{◌≡◌, ◌≢◌, ◌<◌, ◌≤◌, ◌+◌, ◌*◌, ◌%◌, ◌∷◌, ◌++◌, ℕ, [], Err, Some, All, IfOk, OnOk, false, true, length, map};
 ghost use Rattle.dc_checkpoint.specs.States.{IsText, form_in, number_in};
 ghost use Rattle.dc_kernel.specs.Layout.{kernel_words};
 ghost use Rattle.dc_kernel.specs.Texts.{text_of};
@@ -12,15 +12,14 @@ ghost use Rattle.dc_proc.specs.Processes.{form_of};
 ghost use Rattle.dc_protocols.specs.Rules.{is_causal, is_joint};
 ghost use Rattle.dc_recovery.specs.Core.{opened_core};
 ghost use Rattle.dc_recovery.specs.Parts.{is_with};
-ghost use Rattle.dc_world.specs.Opened.{AreAlike, AreBegun, AreMadeFor, CanOpen, IsBegun, IsOpened, IsUpFor, kernel_at, whose};
-ghost use Rattle.dc_world.specs.Stages.{IsReady, IsTold, IsWorld, KeepsTelling, stage_of};
-ghost use Rattle.dc_world.specs.Slots.{is_up, slot_at};
+ghost use Rattle.dc_together.specs.Joints.{whose};
+ghost use Rattle.dc_world.specs.Worlds.{IsReady};
+ghost use Rattle.dc_world.specs.Opened.{AreAlike, AreBegun, AreMadeFor, CanOpen, IsBegun, IsCalmUnlessStopped, IsOpened, IsUpFor, kernel_at};
+ghost use Rattle.dc_processes.specs.Stages.{IsTold, IsWorld, KeepsTelling, stage_of};
+ghost use Rattle.dc_processes.specs.Slots.{is_up, slot_at};
 ghost use Rattle.dc_world.specs.declared.faults.OpenFault.TheVariants as faults;
 
 use crate::faults::OpenFault;
-use crate::joint::Joint;
-use crate::processes::Processes;
-use crate::slot::Slot;
 use crate::world::World;
 use dc_acts::Acts;
 use dc_checkpoint::Checkpoint;
@@ -31,7 +30,9 @@ use dc_limits::{ENTRIES, PROCESSES};
 use dc_links::Message;
 use dc_media::MakeFault;
 use dc_proc::Up;
+use dc_processes::{Joint, Processes, Slot};
 use dc_protocols::{Protocol, is_joint};
+use dc_together::fall_together;
 use dc_words::to_words;
 use std::alloc::{AllocError, Global};
 
@@ -84,6 +85,7 @@ fn begin<C: Checkpoint + Drop>(
     ensures begun { IfOk result (λ made. IsBegun C.Checkpoint protocol (whose n p) image.now made.1 dev.new (Some made.0)) }
     ensures up { IfOk result (λ made. IsUpFor C.Checkpoint p dev.old dev.new (Some made.0)) }
     ensures failed { (q : ℕ) → result ≡ Err (faults.Failed q) → (q ≡ p) × Rose (C.faults dev.old p) (C.faults dev.new p) }
+    ensures wanting { result ≡ Err faults.Memory → (C.stops dev.new p ≡ C.stops dev.old p) × (C.faults dev.new p ≡ C.faults dev.old p) }
     ensures tells { KeepsTelling C.Checkpoint dev.old dev.new p }
     ensures others { (q : ℕ) → q ≢ p → C.untouched dev.old dev.new q }
     ensures continues { C.continues dev.old dev.new }
@@ -132,6 +134,7 @@ fn begin_each<C: Checkpoint + Drop>(
     ensures begun { IfOk result (λ made. AreBegun C.Checkpoint protocol images.now made.0.items made.1.items dev.new) }
     ensures up { IfOk result (λ made. (p : ℕ) → p < length images.now → IsUpFor C.Checkpoint p dev.old dev.new (slot_at made.0.items p)) }
     ensures failed { (p : ℕ) → result ≡ Err (faults.Failed p) → (p < length images.now) × Rose (C.faults dev.old p) (C.faults dev.new p) }
+    ensures wanting { result ≡ Err faults.Memory → (p : ℕ) → IsCalmUnlessStopped C.stops C.faults p dev.old dev.new }
     ensures tells { (p : ℕ) → KeepsTelling C.Checkpoint dev.old dev.new p }
     ensures others { (q : ℕ) → length images.now ≤ q → C.untouched dev.old dev.new q }
     ensures continues { C.continues dev.old dev.new }
@@ -209,6 +212,7 @@ impl<C: Checkpoint + Drop> World<C> {
         ensures calm { IfOk result (λ w. (p : ℕ) → p < length setup.images.items → is_up (slot_at w.processes.slots.items p) ≡ true
             → (C.stops dev.new p ≡ C.stops dev.old p) × (C.faults dev.new p ≡ C.faults dev.old p)) }
         ensures failed { (p : ℕ) → result ≡ Err (faults.Failed p) → (p < length setup.images.items) × Rose (C.faults dev.old p) (C.faults dev.new p) }
+        ensures wanting { result ≡ Err faults.Memory → (p : ℕ) → IsCalmUnlessStopped C.stops C.faults p dev.old dev.new }
         ensures tells { (p : ℕ) → KeepsTelling C.Checkpoint dev.old dev.new p }
         ensures others { (q : ℕ) → length setup.images.items ≤ q → C.untouched dev.old dev.new q }
         ensures continues { C.continues dev.old dev.new }
@@ -228,7 +232,7 @@ impl<C: Checkpoint + Drop> World<C> {
             left: entries,
             joint,
         };
-        processes.fall_together(&mut stores);
+        fall_together(&mut processes, &mut stores);
         Ok(World { processes, stores })
     }
 }

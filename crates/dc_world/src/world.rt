@@ -12,22 +12,24 @@ ghost use Rattle.dc_model.specs.declared.entry.Entry.TheVariants as entries;
 ghost use Rattle.dc_model.specs.declared.mark.Mark.TheVariants as marks;
 ghost use Rattle.dc_protocols.specs.Rules.{is_joint};
 ghost use Rattle.dc_model.specs.declared.visible.Visible.{Visible as Visibles};
-ghost use Rattle.dc_world.specs.Processes.{IsWell};
-ghost use Rattle.dc_world.specs.Stages.{IsReady, KeepsTelling};
+ghost use Rattle.dc_processes.specs.Processes.{IsWell, counted};
+ghost use Rattle.dc_processes.specs.Stages.{KeepsTelling};
 ghost use Rattle.dc_world.specs.Ended.{TellsEnd};
-ghost use Rattle.dc_world.specs.Slots.{have_ended};
-ghost use Rattle.dc_world.specs.Turns.{GoesOn, HasNoRun, later, lines_of};
-ghost use Rattle.dc_world.specs.Worlds.{IsCutOff, IsOfProcesses, IsPartOf, MayRun, counted, stage_in};
+ghost use Rattle.dc_processes.specs.Slots.{have_ended};
+ghost use Rattle.dc_processes.specs.Turns.{GoesOn, HasNoRun, later, lines_of};
+ghost use Rattle.dc_world.specs.Worlds.{IsCutOff, IsOfProcesses, IsPartOf, IsReady, MayRun, stage_in};
 ghost use Rattle.dc_twophase.specs.declared.faults.JointFault.TheVariants as joint;
 ghost use Rattle.dc_world.specs.declared.faults.TurnFault.TheVariants as faults;
 
 use crate::faults::{TurnFault, answer_to};
-use crate::processes::Processes;
 use dc_acts::{Acts, line_of};
+use dc_alone::turn_alone;
 use dc_checkpoint::{CheckFault, Checkpoint};
 use dc_media::{Sink, SinkFailed, write_whole};
 use dc_model::{Entry, Mark, Turn, Visible};
+use dc_processes::Processes;
 use dc_protocols::is_joint;
+use dc_together::turn_together;
 use dc_twophase::{JointFault, joint_fault};
 
 /// Writes the line of what was shown, if something was. It tells how many whole lines that is.
@@ -83,7 +85,7 @@ impl<C: Checkpoint + Drop> World<C> {
         ensures stopped { OnErr result (GoesOn C.Checkpoint (stage_in self.old dev.old) (later 0 (stage_in self.new dev.new)) (entries.Turn turn.now) marks.Stopped None) }
     {
         let store = &mut self.stores[turn.p as usize];
-        self.processes.turn(turn, store, dev, shown)
+        turn_alone(&mut self.processes, turn, store, dev, shown)
     }
 
     /// A turn of a process where all commit together: it takes its next event, or all recover where all are down. What it shows is
@@ -116,8 +118,7 @@ impl<C: Checkpoint + Drop> World<C> {
         ensures turned { IfOk result (λ mark. GoesOn C.Checkpoint (stage_in self.old dev.old) (later (length (lines_of shown.new)) (stage_in self.new dev.new)) (entries.Turn turn.now) mark shown.new) }
         ensures stopped { OnErr result (GoesOn C.Checkpoint (stage_in self.old dev.old) (later 0 (stage_in self.new dev.new)) (entries.Turn turn.now) marks.Stopped None) }
     {
-        self.processes
-            .turn_together(turn, &mut self.stores, dev, shown)
+        turn_together(&mut self.processes, turn, &mut self.stores, dev, shown)
     }
 
     /// A turn of a process: it takes its next event, or recovers where it is down. What it shows is handed on.

@@ -81,18 +81,18 @@ fn turns_are(case: &str, acts: &[Taken], entries: usize) -> Result<(), Fail> {
     if text == "any" {
         return Ok(());
     }
-    let mut place = 0usize;
+    let mut index = 0usize;
     for turn in 0..entries {
         if !is_turn(text, turn)? {
             continue;
         }
-        let Some(act) = acts.get(place) else {
+        let Some(act) = acts.get(index) else {
             return holds(false, case, "fewer acts");
         };
         holds(act.t as usize == turn, case, "the turns of the acts")?;
-        place = place.saturating_add(1);
+        index = index.saturating_add(1);
     }
-    holds(place == acts.len(), case, "more acts")
+    holds(index == acts.len(), case, "more acts")
 }
 
 /// The report of the acts has the lines that the case says.

@@ -1,6 +1,6 @@
 //! Numbers in lists.
 
-/// The number at a place of a list, 0 where there is none.
+/// The number at an index of a list, 0 where there is none.
 pub fn at(list: &[u64], i: usize) -> u64 {
     list.get(i).copied().unwrap_or(0)
 }

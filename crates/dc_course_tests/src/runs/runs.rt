@@ -9,10 +9,11 @@ ghost use Rattle.dc_world.specs.Worlds.{IsOfProcesses};
 use crate::runs::setting::{may_run, setup};
 use dc_armed::Armed;
 use dc_cases::{numbers, value};
-use dc_course::{Course, run, run_on_memory};
+use dc_course::{Course, run};
 use dc_media::PlannedStop;
 use dc_memmedia::{ListedCall, MemKeeps, MemSink};
 use dc_model::Entry;
+use dc_rio::{OnWords, run_on_memory};
 use dc_vista::Segment;
 use dc_world::{OpenFault, Setup};
 use std::alloc::Global;
@@ -60,7 +61,7 @@ pub fn run_refused(
     let mut out = output_of(alloc, case)?;
     let keeps = MemKeeps::new(alloc, refused.to_vec(alloc)?)?;
     let mut dev = Armed::new(keeps, Vec::new(alloc));
-    let answer = run::<Segment<Armed<MemKeeps>>, MemSink>(
+    let answer = run::<OnWords<Segment<Armed<MemKeeps>>>, MemSink>(
         alloc, setup, entries, &mut dev, &mut out,
     );
     Ok(Ran {

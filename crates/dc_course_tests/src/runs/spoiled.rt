@@ -3,10 +3,10 @@
 ghost use Rattle.std.specs.Prelude.{None};
 
 use crate::runs::runs::{Ran, output_of, setup_for};
-use dc_course::run_on_memory;
 use dc_media::{DeviceFault, Keeps, MakeFault};
 use dc_memmedia::MemKeeps;
 use dc_model::Entry;
+use dc_rio::run_on_memory;
 use std::alloc::Global;
 use std::test::Fail;
 

@@ -137,14 +137,14 @@ fn is_line(visible: Option<&Visible>, text: &str) -> Result<(), Fail> {
 /// The lines, but for repeats, are those of the visible records.
 fn lines_are(out: &str, visibles: &[Visible]) -> Result<(), Fail> {
     let mut came = [0u32; 3];
-    let mut place = 0usize;
+    let mut index = 0usize;
     for line in out.lines() {
         if is_new(&mut came, line)? {
-            is_line(visibles.get(place), line)?;
-            place = place.saturating_add(1);
+            is_line(visibles.get(index), line)?;
+            index = index.saturating_add(1);
         }
     }
-    holds(place == visibles.len(), out, "fewer lines")
+    holds(index == visibles.len(), out, "fewer lines")
 }
 
 /// A run came to what its acts lead the guests to by themselves.

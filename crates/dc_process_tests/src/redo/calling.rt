@@ -106,7 +106,7 @@ fn changed(rig: &mut Rig, alloc: Global) -> Result<u64, Fail>
     Ok(u64::from(bytes.as_slice() != rig.kept.as_slice()))
 }
 
-/// Bytes of the disk from a place on.
+/// Bytes of the disk from an offset on.
 fn bytes(rig: &mut Rig, alloc: Global, from: u64, count: u64) -> Result<Vec<u64>, Fail>
     requires { ⟦<Rig as Trial>⟧.fits rig.old }
     ensures { ⟦<Rig as Trial>⟧.fits rig.new }

@@ -83,7 +83,7 @@ prepare 9 = ok
 bytes 4832 24 = 1 0 0 0 80 0 0 0 6 0 0 0 9 0 0 0 1 0 0 0 64 0 0 0
 decide 9 = ok
 bytes 4920 17 = 1 0 0 0 8 0 0 0 3 0 0 0 9 0 0 0 0
-# an undecided record is closed; what follows takes its place
+# an undecided record is closed; what follows takes its index
 segment 1 0 1
 prepare 9 = ok
 fall = ok

@@ -53,7 +53,7 @@ pub struct Rig {
 impl Trial for Rig {
     ghost fits = { λ r.
         (⟦<Redo<MemDisks> as Checkpoint>⟧.lent r.store r.dev)
-        × (⟦<Redo<MemDisks> as Checkpoint>⟧.place r.store ≡ r.p)
+        × (⟦<Redo<MemDisks> as Checkpoint>⟧.index r.store ≡ r.p)
         × (⟦<Redo<MemDisks> as Checkpoint>⟧.size r.store ≡ r.size)
         × (⟦<Redo<MemDisks> as Checkpoint>⟧.form r.store ≡ record { n = r.n; p = r.p })
         × (r.ready ≡ true → ⟦<Redo<MemDisks> as Checkpoint>⟧.ready r.store r.dev)

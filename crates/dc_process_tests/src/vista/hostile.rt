@@ -21,7 +21,7 @@ fn part(letter: &str) -> Result<u32, Fail> {
 }
 
 /// The place of a word that is told as its part and its place there.
-fn place(at: &str) -> Result<u64, Fail> {
+fn index(at: &str) -> Result<u64, Fail> {
     let (letter, i) = at.split_at_checked(1).unwrap_or(("", ""));
     Ok(u64::from(part(letter)?) + u64::from(i.parse::<u32>()?))
 }
@@ -37,7 +37,7 @@ fn put<T: Trial>(trial: &mut T, alloc: Global, i: u64, w: u64) -> Result<(), Fai
     )
 }
 
-/// One word in so many places.
+/// One word in so many slots.
 fn put_run<T: Trial>(trial: &mut T, alloc: Global, i: u64, w: u64, count: u32) -> Result<(), Fail>
     requires { T.fits trial.old }
     ensures { T.fits trial.new }
@@ -60,7 +60,7 @@ fn put_told<T: Trial>(trial: &mut T, alloc: Global, word: &str) -> Result<(), Fa
     put_run(
         trial,
         alloc,
-        place(at)?,
+        index(at)?,
         w.parse::<u64>()?,
         count.parse::<u32>()?,
     )

@@ -51,7 +51,7 @@ pub struct Rig {
 impl Trial for Rig {
     ghost fits = { λ r.
         (⟦<Segment<MemKeeps> as Checkpoint>⟧.lent r.store r.dev)
-        × (⟦<Segment<MemKeeps> as Checkpoint>⟧.place r.store ≡ r.p)
+        × (⟦<Segment<MemKeeps> as Checkpoint>⟧.index r.store ≡ r.p)
         × (⟦<Segment<MemKeeps> as Checkpoint>⟧.size r.store ≡ r.size)
         × (⟦<Segment<MemKeeps> as Checkpoint>⟧.form r.store ≡ record { n = r.n; p = r.p })
         × (r.ready ≡ true → ⟦<Segment<MemKeeps> as Checkpoint>⟧.ready r.store r.dev)

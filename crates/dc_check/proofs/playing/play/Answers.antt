@@ -40,8 +40,8 @@ loop-rest-preserved c =
       stands = done.2;
       plays = let drawn : is_drawn G.count c.args.schedule.now c.loop-rest.next x ≡ true =
           ap (λ n. is_drawn n c.args.schedule.now c.loop-rest.next x) (length-map c.args.images.now seen_image) ∙ sym c.is_drawn.ensures ∙ (let yes : c.is_drawn.result ≡ true = search rules in yes) in
-          let on : told ≡ played_from G c.args.schedule.now (x.t + 1) (c.loop-rest.place + 1) v after = played_on G c.args.schedule.now c.loop-rest.next c.loop-rest.place w x after c.loop-rest.rest.now told is c.loop-rest.invariant.plays v drawn there in
-          subst (λ n. told ≡ played_from G c.args.schedule.now (n + 1) (c.loop-rest.place + 1) v after) (sym c.from-next.ensures) on;
+          let on : told ≡ played_from G c.args.schedule.now (x.t + 1) (c.loop-rest.position + 1) v after = played_on G c.args.schedule.now c.loop-rest.next c.loop-rest.position w x after c.loop-rest.rest.now told is c.loop-rest.invariant.plays v drawn there in
+          subst (λ n. told ≡ played_from G c.args.schedule.now (n + 1) (c.loop-rest.position + 1) v after) (sym c.from-next.ensures) on;
       inputs = search rules;
       processes = search rules;
       below = all_rest (length c.args.images.now) x after c.loop-rest.rest.now is c.loop-rest.invariant.below;

@@ -11,13 +11,13 @@ abbrev pub invariant-loop-rest : goal.invariant-loop-rest
 invariant-loop-rest l = let G = guests_of (map seen_image l.fn.images) (lists_of l.fn.inputs) in record {
   world : World Guest;
   stands : Stands l.plain l.lines world;
-  plays : played G l.fn.schedule l.fn.acts ≡ played_from G l.fn.schedule l.next l.place world l.rest;
+  plays : played G l.fn.schedule l.fn.acts ≡ played_from G l.fn.schedule l.next l.position world l.rest;
   inputs : l.plain.inputs ≡ lists_of l.fn.inputs;
   processes : length l.plain.processes ≡ length l.fn.images;
   below : All (λ x. x.p < length l.fn.images) l.rest;
-  shown : (p : ℕ) → (world.procs p).visible ≤ l.place;
-  count : length world.visibles ≤ l.place;
-  left : l.place + length l.rest ≡ length l.fn.acts;
+  shown : (p : ℕ) → (world.procs p).visible ≤ l.position;
+  count : length world.visibles ≤ l.position;
+  left : l.position + length l.rest ≡ length l.fn.acts;
 }
 
 abbrev pub decreases-loop-rest : goal.decreases-loop-rest

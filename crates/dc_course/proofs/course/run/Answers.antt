@@ -1,23 +1,25 @@
-use Rattle.std.proofs.Common.{◌≡◌, ◌∙◌, ◌≤◌, ◌<◌, ◌+◌, ◌-◌, ◌^◌, ℕ, Bool, true, false, Err, ap, arith, length, refl, reverse, subst, sym}
+use Rattle.std.proofs.Common.{◌≡◌, ◌∙◌, ◌≤◌, ◌<◌, ◌+◌, ◌-◌, ◌^◌, ℕ, Bool, true, false, Err, ap, arith, inl, length, refl, reverse, subst, sym}
 use Rattle.std.proofs.lemmas.List.{length-map}
 use Rattle.dc_course.proofs.Between.{tells_on}
 use Rattle.dc_course.proofs.Counting.{sum_later, sum_rises}
 use Rattle.dc_course.proofs.Ups.{up_in, up_past, up_there, up_together}
 use Rattle.dc_course.proofs.Steps.{now_world, sound}
+use Rattle.dc_course.proofs.Tracing.{moment_is}
 use Rattle.dc_course.proofs.Whole.{course_is, ending_broken, ending_whole, begun_running, told_at, up_as}
-use Rattle.dc_course.specs.Headline.{AreUpAlike, IsCalledOn, IsEnding, Last, PlannedCome, Setting, StopsCome, StopsTold, counted_with, late, system_in, unplanned}
+use Rattle.dc_course.specs.Headline.{AreUpAlike, IsEnding, Last, Setting, StopsTold, counted_with, late, system_in, unplanned}
 use Rattle.dc_course.specs.Headline.Last.{Whole}
-use Rattle.dc_course.specs.Courses.{IsCourse, StoresLeft, TellsThroughout, account_of, counts_of, setting_of}
+use Rattle.dc_course.specs.Courses.{IsCourse, PlannedCome, StoresLeft, TellsThroughout, account_of, counts_of, setting_of}
+use Rattle.dc_course.specs.Moments.{IsMoment, Moments}
 use Rattle.dc_course.specs.Running.{CanBegin, IsEnded, IsRunning, IsSettingOf, moment_of, output}
 use Rattle.dc_course.specs.declared.course.Course.{Course}
 use Rattle.dc_course.specs.declared.ending.Ending.{Ending}
 use Rattle.dc_guest.specs.Guest.{guests_of}
 use Rattle.dc_elf.specs.Loaded.{seen_image}
 use Rattle.dc_recovery.proofs.Ends.{holds_opened}
-use Rattle.dc_recovery.specs.Core.{Core, opened_core}
+use Rattle.dc_recovery.specs.Core.{Core, opened_core, opening}
 use Rattle.dc_world.specs.Ended.{HaveEnded}
-use Rattle.dc_world.specs.Slots.{is_up, slot_at}
-use Rattle.dc_world.specs.Stages.{IsTold}
+use Rattle.dc_processes.specs.Slots.{is_up, slot_at}
+use Rattle.dc_processes.specs.Stages.{IsTold}
 use Rattle.dc_world.specs.Worlds.{stage_in}
 use Rattle.dc_world.specs.declared.faults.OpenFault.TheVariants as opening
 use Rattle.dc_course.proofs.course.run.Goals.{in-Ok-run, in-Err-run}
@@ -26,6 +28,18 @@ use Rattle.dc_course.proofs.course.run.Goals as goal
 
 pub returns-in-Err-clause-failed : goal.returns-in-Err-clause-failed
 returns-in-Err-clause-failed g c p e = c.in-Err.ensures.failed p (let same : c.in-Err.fault ≡ opening.Failed p = cc in ap Err same)
+
+pub returns-in_err-marks-clause-wanting : goal.returns-in_err-marks-clause-wanting
+returns-in_err-marks-clause-wanting g c e p = inl (refl, refl)
+
+pub returns-in_err-marks-clause-unplanned : goal.returns-in_err-marks-clause-unplanned
+returns-in_err-marks-clause-unplanned g c e p = omega arith
+
+pub returns-in-Err-clause-wanting : goal.returns-in-Err-clause-wanting
+returns-in-Err-clause-wanting g c e p = c.in-Err.ensures.wanting (let same : c.in-Err.fault ≡ opening.Memory = cc in ap Err same) p
+
+pub returns-in-Err-clause-unplanned : goal.returns-in-Err-clause-unplanned
+returns-in-Err-clause-unplanned g c e p = g.met.C.Planned.idle_none c.args.dev.now c.open.new.dev p c.requires.idle c.open.ensures.continues
 
 pub returns-clause-lasts : goal.returns-clause-lasts
 returns-clause-lasts g c = g.met.C.Planned.lasts_on c.args.dev.now c.open.new.dev c.run.new.dev (g.met.C.Planned.lasts_within c.args.dev.now c.open.new.dev c.open.ensures.continues) c.run.ensures.lasts
@@ -127,38 +141,35 @@ stops_told g c tells p less =
     let none : unplanned (given g c) p (reverse c.in_ok-marks.marks.items) ≡ 0 = ap (λ ms. unplanned (given g c) p (reverse ms)) c.in_ok-marks.ensures.items in
     omega (arith, first, rest, none)
 
--- the calls of a process's device up to where the marks end
-pub record Called (g : Over) (c : goal.After-course g) (last : Last) (p : ℕ) : Type 0 where
-  pub made : ℕ
-  pub on : IsCalledOn (given g c) p c.in_ok-marks.marks.items c.run.new.self.marks.items (g.C.Planned.calls c.open.new.dev p) made
-  pub later : made ≤ g.C.Planned.calls c.run.new.dev p
-  pub whole : last ≡ Whole → made ≡ g.C.Planned.calls c.run.new.dev p
+-- the first moment is behind the opening
+first_moment : (g : Over) (c : goal.After-course g) → TellsThroughout g.C.Checkpoint (length c.args.setup.images.items) c.args.dev.now c.run.new.dev
+    → Moments (given g c) (opening (up g c)) (λ core d. StoresLeft g.C.Checkpoint (given g c) core d) g.C.Planned.calls c.args.dev.now (reverse c.in_ok-marks.marks.items) c.open.new.dev
+first_moment g c tells =
+    let shown = moment_is g.C.Checkpoint (given g c) (start g c) c.in-Ok.world.stores.items c.open.new.dev c.in-Ok.world.processes c.in_ok-marks.marks.items (output (g.O.Sink.held c.args.out.now) (g.O.Sink.held c.args.out.now)) (begun g c tells) c.in-Ok.ensures.ready in
+    let none = c.in_ok-marks.ensures.items in
+    subst (λ ms. Moments (given g c) (opening (up g c)) (λ core d. StoresLeft g.C.Checkpoint (given g c) core d) g.C.Planned.calls c.args.dev.now (reverse ms) c.open.new.dev) (sym none) (
+      λ p less. g.met.C.Planned.calls_later c.args.dev.now c.open.new.dev p (opened_lasts g c),
+      subst (λ ms. IsMoment (given g c) (opening (up g c)) (λ core d. StoresLeft g.C.Checkpoint (given g c) core d) (reverse ms) c.open.new.dev) none shown,
+    )
 
--- the planned stops came
-planned_come : (g : Over) (c : goal.After-course g) (last : Last) (p : ℕ) → Called g c last p → PlannedCome (given g c) last c.run.new.self.marks.items p (g.C.Planned.calls c.args.dev.now p) (g.C.Planned.calls c.run.new.dev p)
-planned_come g c last p called = record {
-  made = called.made;
-  come = called.on (g.C.Planned.calls c.args.dev.now p) (subst (λ ms. StopsCome (given g c) p (reverse ms) (g.C.Planned.calls c.args.dev.now p) (g.C.Planned.calls c.open.new.dev p)) (sym c.in_ok-marks.ensures.items)
-      (g.met.C.Planned.calls_later c.args.dev.now c.open.new.dev p (opened_lasts g c)));
-  later = called.later;
-  whole = called.whole;
-}
+-- the moments up to where the marks end
+pub record Traced (g : Over) (c : goal.After-course g) (last : Last) : Type 0 where
+  pub come : PlannedCome (given g c) (opening (up g c)) (λ core d. StoresLeft g.C.Checkpoint (given g c) core d) (counts_of g.C.Planned.unplanned g.C.Planned.calls c.args.dev.now c.run.new.dev) last c.run.new.self.marks.items
 
 -- its last entry went so, and it ended so
 course : (g : Over) (c : goal.After-course g) (tells : TellsThroughout g.C.Checkpoint (length c.args.setup.images.items) c.args.dev.now c.run.new.dev) (ending : Ending) → c.match-run.ending ≡ ending → (last : Last)
     (ended : IsEnded g.C.Checkpoint (given g c) (start g c) (stage_in c.run.new.self.world c.run.new.dev) c.run.new.self.marks.items last (output (g.O.Sink.held c.args.out.now) (g.O.Sink.held c.run.new.out)))
-    → IsEnding (given g c) ending c.run.new.self.marks.items last ended.core → ((p : ℕ) → p < length (given g c).images → Called g c last p)
+    → IsEnding (given g c) ending c.run.new.self.marks.items last ended.core → Traced g c last
     → IsCourse (given g c) (account_of c.course.result) c.course.result.ending (output (g.O.Sink.held c.args.out.now) (g.O.Sink.held c.run.new.out)) (counts_of g.C.Planned.unplanned g.C.Planned.calls c.args.dev.now c.run.new.dev)
-    (λ core. StoresLeft g.C.Checkpoint (given g c) core c.run.new.dev)
-course g c tells ending same last ended is called =
+    (λ core d. StoresLeft g.C.Checkpoint (given g c) core d)
+course g c tells ending same last ended is traced =
     let out = output (g.O.Sink.held c.args.out.now) (g.O.Sink.held c.run.new.out) in
     let counts = counts_of g.C.Planned.unplanned g.C.Planned.calls c.args.dev.now c.run.new.dev in
     let w = c.run.new.self.world in
-    let left = (λ (core : Core). StoresLeft g.C.Checkpoint (given g c) core c.run.new.dev) in
-    subst (λ (o : Course). IsCourse (given g c) (account_of o) o.ending out counts left) (sym c.course.ensures)
-    (subst (λ e. IsCourse (given g c) (record { acts = w.processes.acts.items; marks = c.run.new.self.marks.items; lines = w.processes.lines }) e out counts left) (sym same)
+    subst (λ (o : Course). IsCourse (given g c) (account_of o) o.ending out counts (λ core d. StoresLeft g.C.Checkpoint (given g c) core d)) (sym c.course.ensures)
+    (subst (λ e. IsCourse (given g c) (record { acts = w.processes.acts.items; marks = c.run.new.self.marks.items; lines = w.processes.lines }) e out counts (λ core d. StoresLeft g.C.Checkpoint (given g c) core d)) (sym same)
     (course_is g.C.Checkpoint (given g c) (up g c) (up_alike g c) refl w.stores.items c.run.new.dev w.processes c.run.new.self.marks.items last out ended c.run.ensures.ready
-    (c.run.ensures.long ∙ c.in-Ok.ensures.begins.slots_long ∙ sym (length-map c.args.setup.images.items seen_image)) (up_beyond g c) counts ending is (stops_told g c tells) (λ p less. planned_come g c last p (called p less))))
+    (c.run.ensures.long ∙ c.in-Ok.ensures.begins.slots_long ∙ sym (length-map c.args.setup.images.items seen_image)) (up_beyond g c) counts ending refl is (stops_told g c tells) traced.come))
 
 pub returns-clause-headline : goal.returns-clause-headline
 returns-clause-headline g c tells = elim c.match-run.branch [
@@ -172,12 +183,12 @@ returns-clause-headline g c tells = elim c.match-run.branch [
       let came = ending_whole g.C.Checkpoint (given g c) (start g c) (moment_of c.run.new.self c.run.new.dev (g.O.Sink.held c.run.new.out)) (g.O.Sink.held c.args.out.now) w.ended.result r
       (subst (λ i. HaveEnded w.ended.result (guests_of images i) r.core) r.of.inputs_are have) (let used = w.in-Ok-run.ensures.used in omega (arith, used)) in
       course g c tells _ (w.ending-is ∙ w.ended-ending.ensures) came.last came.ended came.is
-      (λ p less. let own = inside g c p less in let come = w.in-Ok-run.ensures.come (given g c) p less (setting_is g c) (plan_kept g c) refl (tells.stops p own) (tells.faults p own) in record { made = come.0; on = come.1; later = come.2; whole = λ e. come.3 refl }))
+      (let come = w.in-Ok-run.ensures.come (given g c) (start g c) (can_begin g c) (setting_is g c) (plan_kept g c) refl c.args.dev.now (g.O.Sink.held c.args.out.now) (told_opened g c tells) (told_ended g c tells) (begun g c tells) (first_moment g c tells) in record { come = record { now = come.0; moments = come.1; later = come.2; whole = λ e. come.3 refl } }))
   | in-Err-run w ↦ (
       let came = ending_broken g.C.Checkpoint (given g c) (start g c) (moment_of c.run.new.self c.run.new.dev (g.O.Sink.held c.run.new.out)) (g.O.Sink.held c.args.out.now) w.in-Err-run.fault
       (w.in-Err-run.ensures.runs_off w.in-Err-run.fault refl (given g c) (start g c) (g.O.Sink.held c.args.out.now) (can_begin g c) refl (told_opened g c tells) (told_ended g c tells) (begun g c tells)) in
       course g c tells _ (w.ending-is ∙ w.ended_by-ending.ensures) came.last came.ended came.is
-      (λ p less. let own = inside g c p less in let come = w.in-Err-run.ensures.come (given g c) p less (setting_is g c) (plan_kept g c) refl (tells.stops p own) (tells.faults p own) in record { made = come.0; on = come.1; later = come.2; whole = λ e. absurd (came.broken e) }))
+      (let come = w.in-Err-run.ensures.come (given g c) (start g c) (can_begin g c) (setting_is g c) (plan_kept g c) refl c.args.dev.now (g.O.Sink.held c.args.out.now) (told_opened g c tells) (told_ended g c tells) (begun g c tells) (first_moment g c tells) in record { come = record { now = come.0; moments = come.1; later = come.2; whole = λ e. absurd (came.broken e) } }))
 ]
 
 pub returns-clause-planned : goal.returns-clause-planned

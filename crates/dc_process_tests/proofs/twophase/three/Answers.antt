@@ -10,8 +10,8 @@ returns-clause-lent g c =
     let two = c.in_ok-second.ensures in
     let three = c.in_ok-third.ensures in
     rw c.in_ok-stores.ensures (each_three (λ i x. C.lent x c.open-3.new.dev) _ _ _
-    (law.lent_still _ _ _ (three.others _ (omega (arith, one.place))) (law.lent_still _ _ _ (two.others _ (omega (arith, one.place))) one.lent))
-    (law.lent_still _ _ _ (three.others _ (omega (arith, two.place))) two.lent)
+    (law.lent_still _ _ _ (three.others _ (omega (arith, one.index))) (law.lent_still _ _ _ (two.others _ (omega (arith, one.index))) one.lent))
+    (law.lent_still _ _ _ (three.others _ (omega (arith, two.index))) two.lent)
     three.lent)
 
 pub returns-clause-ready : goal.returns-clause-ready
@@ -22,6 +22,6 @@ returns-clause-ready g c =
     let two = c.in_ok-second.ensures in
     let three = c.in_ok-third.ensures in
     rw c.in_ok-stores.ensures (each_three (λ i x. C.ready x c.open-3.new.dev) _ _ _
-    (law.ready_still _ _ _ (three.others _ (omega (arith, one.place))) (law.ready_still _ _ _ (two.others _ (omega (arith, one.place))) one.ready))
-    (law.ready_still _ _ _ (three.others _ (omega (arith, two.place))) two.ready)
+    (law.ready_still _ _ _ (three.others _ (omega (arith, one.index))) (law.ready_still _ _ _ (two.others _ (omega (arith, one.index))) one.ready))
+    (law.ready_still _ _ _ (three.others _ (omega (arith, two.index))) two.ready)
     three.ready)

@@ -1,4 +1,4 @@
--- `deallocate` makes room of the places, and hands it back with the allocator's token. Assumes `Logic`.
+-- `deallocate` makes room of the cells, and hands it back with the allocator's token. Assumes `Logic`.
 use mathlib.Core.Path.{◌≡◌, refl, sym, ap, subst, ◌∙◌}
 use Prim.Native.Nat.{ℕ, ◌*◌, ◌<◌, ◌^◌}
 use native.Mathlib.Omega.{arith}

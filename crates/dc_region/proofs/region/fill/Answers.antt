@@ -1,5 +1,5 @@
 use Rattle.std.proofs.Common.{arith, ◌∙◌}
-use Rattle.dc_region.proofs.Places.{one_more_filled}
+use Rattle.dc_region.proofs.Cells.{one_more_filled}
 use Rattle.dc_region.proofs.region.fill.Goals as goal
 
 pub loop-i-preserved : goal.loop-i-preserved

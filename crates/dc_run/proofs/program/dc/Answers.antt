@@ -1,4 +1,4 @@
-use Rattle.std.proofs.Common.{◌≡◌, ◌∙◌, Err, Some, ap, length, refl, rules}
+use Rattle.std.proofs.Common.{◌≡◌, ◌∙◌, Err, Some, ap, inl, length, refl, rules}
 use Rattle.dc_command.specs.Command.{asked_of}
 use Rattle.dc_command.specs.Command.{names_view}
 use Rattle.dc_command.specs.Command.Asked.{ToRun, ToCheck, ToAssemble}
@@ -6,7 +6,8 @@ use Rattle.dc_run.specs.Checking.{Checked, IsChecked}
 use Rattle.dc_run.proofs.Checks.{check_asks, check_exact, check_passes}
 use Rattle.dc_run.proofs.Commands.{assembly_asks, assembly_exact, assembly_opened, check_opened, run_exact, run_asks, run_opened, unasked_opened}
 use Rattle.dc_run.proofs.Ends.{never_refused, opened_with, other_complete, run_complete, run_of_words}
-use Rattle.dc_course.specs.Segments.{TellsStores}
+use Rattle.dc_course.specs.Lent.{TellsStores}
+use Rattle.dc_media.specs.Devices.{of_words}
 use Rattle.dc_run.specs.Headline.{IsReported, course, loan}
 use Rattle.dc_run.specs.Passing.{WritesPassing}
 use Rattle.dc_run.specs.Settings.{has_run}
@@ -67,7 +68,7 @@ returns-in-Ok-Run-clause-complete g c = let asked : asked_of c.args.words.now �
     run_complete g.K.Keeps c.args.words.now c.run_plan.result.verdict c.args.keeps.now c.run_plan.new.keeps (g.L.Library.faults c.args.lib.now) (g.L.Library.faults c.run_plan.new.lib) out report
     c.run_plan.ensures.library_fault c.run_plan.ensures.device_fault c.run_plan.ensures.output_fault c.run_plan.ensures.report_fault known c.in-Ok-Run.plan.now asked c.run_plan.ensures.opened
     (λ p fault e. opened_with known c.in-Ok-Run.plan.now (λ setting. IsReported g.K.Keeps setting c.run_plan.result lent out report)
-    (λ setting. TellsStores g.K.Keeps (length setting.images) c.args.keeps.now c.run_plan.new.keeps → ⊥)
+    (λ setting. TellsStores (of_words g.K.Keeps) (length setting.images) c.args.keeps.now c.run_plan.new.keeps → ⊥)
     (λ setting is. never_refused g.K.Keeps setting c.run_plan.result lent out report p fault e is) (c.run_plan.ensures.headline (c.run_plan.ensures.did (ap has_run e))))
 
 pub returns-in-Ok-Check-clause-complete : goal.returns-in-Ok-Check-clause-complete
@@ -93,17 +94,26 @@ returns-in-Ok-Run-clause-passes g c ran = let asked : asked_of c.args.words.now 
     let out = course (g.O.Sink.held c.args.out.now) (g.O.Sink.held c.run_plan.new.out) (g.O.Sink.faults c.args.out.now) (g.O.Sink.faults c.run_plan.new.out) in
     let report = course (g.R.Sink.held c.args.report.now) (g.R.Sink.held c.run_plan.new.report) (g.R.Sink.faults c.args.report.now) (g.R.Sink.faults c.run_plan.new.report) in
     run_of_words (g.L.Library.files c.args.lib.now) c.args.words.now c.in-Ok-Run.plan.now
-    (λ setting. TellsStores g.K.Keeps (length setting.images) c.args.keeps.now c.run_plan.new.keeps → WritesPassing setting out report c.run_plan.result.acts.items) asked (c.run_plan.ensures.passes ran)
+    (λ setting. TellsStores (of_words g.K.Keeps) (length setting.images) c.args.keeps.now c.run_plan.new.keeps → WritesPassing setting out report c.run_plan.result.acts.items) asked (c.run_plan.ensures.passes ran)
 
 pub returns-in-Ok-Run-clause-keeps_others : goal.returns-in-Ok-Run-clause-keeps_others
 returns-in-Ok-Run-clause-keeps_others g c = let asked : asked_of c.args.words.now ≡ Some (ToRun c.in-Ok-Run.plan.now) = search rules in
-    asked_left g.K.Keeps (g.L.Library.files c.args.lib.now) c.args.words.now c.in-Ok-Run.plan.now c.args.keeps.now c.run_plan.new.keeps asked c.run_plan.ensures.keeps_others
+    asked_left (of_words g.K.Keeps) (g.L.Library.files c.args.lib.now) c.args.words.now c.in-Ok-Run.plan.now c.args.keeps.now c.run_plan.new.keeps asked c.run_plan.ensures.keeps_others
 
 pub returns-in-Ok-Check-clause-keeps_others : goal.returns-in-Ok-Check-clause-keeps_others
-returns-in-Ok-Check-clause-keeps_others g c = left_same g.K.Keeps (g.L.Library.files c.args.lib.now) (λ files. stores_used (work_of files c.args.words.now)) c.args.keeps.now
+returns-in-Ok-Check-clause-keeps_others g c = left_same (of_words g.K.Keeps) (g.L.Library.files c.args.lib.now) (λ files. stores_used (work_of files c.args.words.now)) c.args.keeps.now
 
 pub returns-in-Ok-Assemble-clause-keeps_others : goal.returns-in-Ok-Assemble-clause-keeps_others
-returns-in-Ok-Assemble-clause-keeps_others g c = left_same g.K.Keeps (g.L.Library.files c.args.lib.now) (λ files. stores_used (work_of files c.args.words.now)) c.args.keeps.now
+returns-in-Ok-Assemble-clause-keeps_others g c = left_same (of_words g.K.Keeps) (g.L.Library.files c.args.lib.now) (λ files. stores_used (work_of files c.args.words.now)) c.args.keeps.now
 
 pub returns-in-Err-clause-keeps_others : goal.returns-in-Err-clause-keeps_others
-returns-in-Err-clause-keeps_others g c = left_same g.K.Keeps (g.L.Library.files c.args.lib.now) (λ files. stores_used (work_of files c.args.words.now)) c.args.keeps.now
+returns-in-Err-clause-keeps_others g c = left_same (of_words g.K.Keeps) (g.L.Library.files c.args.lib.now) (λ files. stores_used (work_of files c.args.words.now)) c.args.keeps.now
+
+pub returns-in-Ok-Check-clause-wanting : goal.returns-in-Ok-Check-clause-wanting
+returns-in-Ok-Check-clause-wanting g c e p = inl (refl, refl)
+
+pub returns-in-Ok-Assemble-clause-wanting : goal.returns-in-Ok-Assemble-clause-wanting
+returns-in-Ok-Assemble-clause-wanting g c e p = inl (refl, refl)
+
+pub returns-in-Err-clause-wanting : goal.returns-in-Err-clause-wanting
+returns-in-Err-clause-wanting g c e p = inl (refl, refl)

@@ -1,6 +1,7 @@
-use Rattle.std.proofs.Common.{◌∙◌, Result, ap, inl, length, subst, sym}
+use Rattle.std.proofs.Common.{◌∙◌, Result, ap, inl, length, refl, subst, sym}
 use Rattle.std.proofs.lemmas.Bool.{true≢false}
-use Rattle.dc_course.specs.Segments.{TellsStores}
+use Rattle.dc_course.specs.Lent.{TellsStores}
+use Rattle.dc_media.specs.Devices.{of_words}
 use Rattle.dc_run.specs.Passing.{WritesPassing}
 use Rattle.dc_run.proofs.Passed.{run_passes, sink_ending}
 use Rattle.dc_run.specs.Headline.{course, loan}
@@ -58,13 +59,21 @@ returns-in-Ok-run_setting-clause-passes g c ran =
     let report = course (g.R.Sink.held c.args.report.now) (g.R.Sink.held c.reported.new.report) (g.R.Sink.faults c.args.report.now) (g.R.Sink.faults c.reported.new.report) in
     let lent = loan c.args.keeps.now c.run_setting.new.keeps in
     let reports = run_report c.in-Ok-run_setting.course c.outcome_of.result c.reported.result.verdict report c.outcome_of.ensures c.reported.ensures.reports in
-    opened_so (g.L.Library.files c.args.lib.now) c.args.plan.now setting (λ s. TellsStores g.K.Keeps (length s.images) c.args.keeps.now c.run_setting.new.keeps → WritesPassing s out report c.reported.result.acts.items) c.in-Ok.ensures.told
+    opened_so (g.L.Library.files c.args.lib.now) c.args.plan.now setting (λ s. TellsStores (of_words g.K.Keeps) (length s.images) c.args.keeps.now c.run_setting.new.keeps → WritesPassing s out report c.reported.result.acts.items) c.in-Ok.ensures.told
     (λ tells calm calm' empty empty' shown listed at at'. run_passes g.K.Keeps setting c.reported.result lent out report c.in-Ok.ensures.given
     (with_report g.K.Keeps setting c.in-Ok-run_setting.course c.outcome_of.result c.reported.result lent out report c.outcome_of.ensures c.in-Ok-run_setting.ensures.headline c.reported.ensures.reports c.reported.ensures.acts c.reported.ensures.marks c.reported.ensures.lines)
     tells calm calm' (λ e. c.in-Ok-run_setting.ensures.sink (sink_ending c.in-Ok-run_setting.course.ending c.reported.result.verdict _ report reports e)) empty empty' shown listed at at')
 
 pub returns-in-Ok-run_setting-clause-keeps_others : goal.returns-in-Ok-run_setting-clause-keeps_others
-returns-in-Ok-run_setting-clause-keeps_others g c = opened_left g.K.Keeps (g.L.Library.files c.args.lib.now) c.args.plan.now (setting_of c.in-Ok.setting) c.args.keeps.now c.run_setting.new.keeps c.in-Ok.ensures.told c.in-Ok-run_setting.ensures.keeps_others
+returns-in-Ok-run_setting-clause-keeps_others g c = opened_left (of_words g.K.Keeps) (g.L.Library.files c.args.lib.now) c.args.plan.now (setting_of c.in-Ok.setting) c.args.keeps.now c.run_setting.new.keeps c.in-Ok.ensures.told c.in-Ok-run_setting.ensures.keeps_others
 
 pub returns-in-Err-clause-keeps_others : goal.returns-in-Err-clause-keeps_others
-returns-in-Err-clause-keeps_others g c = left_same g.K.Keeps (g.L.Library.files c.args.lib.now) (λ files. stores_used (work_by files (ToRun c.args.plan.now))) c.args.keeps.now
+returns-in-Err-clause-keeps_others g c = left_same (of_words g.K.Keeps) (g.L.Library.files c.args.lib.now) (λ files. stores_used (work_by files (ToRun c.args.plan.now))) c.args.keeps.now
+
+pub returns-in-Err-clause-wanting : goal.returns-in-Err-clause-wanting
+returns-in-Err-clause-wanting g c e p = inl (refl, refl)
+
+pub returns-in-Ok-run_setting-clause-wanting : goal.returns-in-Ok-run_setting-clause-wanting
+returns-in-Ok-run_setting-clause-wanting g c e p = absurd (true≢false (sym (reported_may c.in-Ok-run_setting.course.ending c.reported.result.verdict _ _
+    (run_report c.in-Ok-run_setting.course c.outcome_of.result c.reported.result.verdict
+    (course (g.R.Sink.held c.args.report.now) (g.R.Sink.held c.reported.new.report) (g.R.Sink.faults c.args.report.now) (g.R.Sink.faults c.reported.new.report)) c.outcome_of.ensures c.reported.ensures.reports)) ∙ ap may_have_run e))

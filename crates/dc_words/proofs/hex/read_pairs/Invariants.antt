@@ -6,7 +6,7 @@ use Rattle.dc_words.proofs.hex.read_pairs.Given as goal
 abbrev pub invariant-loop-rest : goal.invariant-loop-rest
 invariant-loop-rest l = record {
   bytes : bytes_of_hex l.text ≡ bytes_before (take l.count l.to) (bytes_of_hex l.rest);
-  place : 2 * l.count + length l.rest ≡ length l.text;
+  find : 2 * l.count + length l.rest ≡ length l.text;
   length : length l.to ≡ length l.fn.to;
 }
 

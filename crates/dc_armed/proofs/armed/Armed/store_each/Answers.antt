@@ -13,7 +13,7 @@ returns-then-is_err-clause-words g c = let told = g.K.Keeps.told in let p = c.ar
     let word = slice_index c.args.words.now c.loop-word.word-index in
     word_refused c.loop-word.word-index c.args.i word c.args.words.now (omega arith) refl c.store-done.result (told c.args.self.now.device p) (told c.loop-word.self.device p) (told c.store-done.new.self.device p)
     (sym c.if-is_err.true ∙ c.is_err.ensures.value) so_far.words
-    (subst (λ at. SetsWord at word c.store-done.result (told c.loop-word.self.device p) (told c.store-done.new.self.device p)) so_far.place c.store-done.ensures.word)
+    (subst (λ at. SetsWord at word c.store-done.result (told c.loop-word.self.device p) (told c.store-done.new.self.device p)) so_far.index c.store-done.ensures.word)
 
 pub returns-then-is_err-clause-calls : goal.returns-then-is_err-clause-calls
 returns-then-is_err-clause-calls g c = let so_far = c.loop-word.invariant in
@@ -29,11 +29,11 @@ returns-then-is_err-clause-call g c = let so_far = c.loop-word.invariant in let 
 pub loop-word-preserved : goal.loop-word-preserved
 loop-word-preserved g c = let told = g.K.Keeps.told in let p = c.args.p in let so_far = c.loop-word.invariant in let done = c.store-done.ensures in
     let word = slice_index c.args.words.now c.loop-word.word-index in record {
-      place = omega (arith, so_far.place);
+      index = omega (arith, so_far.index);
       extent = search rules;
       words = word_made c.loop-word.word-index c.args.i word c.args.words.now (omega arith) refl c.store-done.result (told c.args.self.now.device p) (told c.loop-word.self.device p) (told c.store-done.new.self.device p)
           (sym c.if-is_err.false ∙ c.is_err.ensures.value) so_far.words
-          (subst (λ at. SetsWord at word c.store-done.result (told c.loop-word.self.device p) (told c.store-done.new.self.device p)) so_far.place done.word);
+          (subst (λ at. SetsWord at word c.store-done.result (told c.loop-word.self.device p) (told c.store-done.new.self.device p)) so_far.index done.word);
       stops = search rules;
       faults = search rules;
       calls = counted_more c.loop-word.word-index _ _ _ so_far.calls done.calls;
@@ -45,7 +45,7 @@ loop-word-preserved g c = let told = g.K.Keeps.told in let p = c.args.p in let s
 
 pub loop-word-init : goal.loop-word-init
 loop-word-init g c = record {
-  place = search rules;
+  index = search rules;
   extent = search rules;
   words = search rules;
   stops = search rules;
@@ -64,21 +64,21 @@ pub returns-then-is_err-clause-stops : goal.returns-then-is_err-clause-stops
 returns-then-is_err-clause-stops g c = let so_far = c.loop-word.invariant in let done = c.store-done.ensures in
     comes_in_row (of_words g.K.Keeps) c.args.p c.args.i c.loop-word.word-index c.args.words.now c.args.self.now c.loop-word.self c.store-done.new.self so_far.so_far so_far.words so_far.calls
     c.store-done.result (sym c.if-is_err.true ∙ c.is_err.ensures.value)
-    (subst (λ at. IsStored (of_words g.K.Keeps) c.args.p at (slice_index c.args.words.now c.loop-word.word-index) c.store-done.result c.loop-word.self c.store-done.new.self) so_far.place
+    (subst (λ at. IsStored (of_words g.K.Keeps) c.args.p at (slice_index c.args.words.now c.loop-word.word-index) c.store-done.result c.loop-word.self c.store-done.new.self) so_far.index
     (record { once = done.once; passes = done.passes; stops = done.stops; parts = done.parts; calls = done.calls; waits = done.waits }))
 
 pub returns-then-is_err-clause-parts : goal.returns-then-is_err-clause-parts
 returns-then-is_err-clause-parts g c = let so_far = c.loop-word.invariant in let done = c.store-done.ensures in
     parts_in_row (of_words g.K.Keeps) c.args.p c.args.i c.loop-word.word-index c.args.words.now c.args.self.now c.loop-word.self c.store-done.new.self so_far.so_far so_far.words so_far.calls
     c.store-done.result (sym c.if-is_err.true ∙ c.is_err.ensures.value)
-    (subst (λ at. IsStored (of_words g.K.Keeps) c.args.p at (slice_index c.args.words.now c.loop-word.word-index) c.store-done.result c.loop-word.self c.store-done.new.self) so_far.place
+    (subst (λ at. IsStored (of_words g.K.Keeps) c.args.p at (slice_index c.args.words.now c.loop-word.word-index) c.store-done.result c.loop-word.self c.store-done.new.self) so_far.index
     (record { once = done.once; passes = done.passes; stops = done.stops; parts = done.parts; calls = done.calls; waits = done.waits }))
 
 pub returns-then-is_err-clause-left : goal.returns-then-is_err-clause-left
 returns-then-is_err-clause-left g c = let so_far = c.loop-word.invariant in let done = c.store-done.ensures in
     left_in_row (of_words g.K.Keeps) c.args.p c.args.i c.loop-word.word-index c.args.words.now c.args.self.now c.loop-word.self c.store-done.new.self so_far.so_far so_far.words so_far.calls
     c.store-done.result (sym c.if-is_err.true ∙ c.is_err.ensures.value)
-    (subst (λ at. IsStored (of_words g.K.Keeps) c.args.p at (slice_index c.args.words.now c.loop-word.word-index) c.store-done.result c.loop-word.self c.store-done.new.self) so_far.place
+    (subst (λ at. IsStored (of_words g.K.Keeps) c.args.p at (slice_index c.args.words.now c.loop-word.word-index) c.store-done.result c.loop-word.self c.store-done.new.self) so_far.index
     (record { once = done.once; passes = done.passes; stops = done.stops; parts = done.parts; calls = done.calls; waits = done.waits }))
 
 pub returns-clause-touches : goal.returns-clause-touches

@@ -12,7 +12,7 @@ use Rattle.dc_armed.proofs.armed.Armed.store_each.Given as goal
 -- so many words are set, each by one store, and none was refused
 abbrev pub invariant-loop-word : goal.invariant-loop-word
 invariant-loop-word g l = let K = g.K.Keeps in let old = l.fn.self in let now = l.self in record {
-  place : l.at ≡ l.i + l.word-index;
+  index : l.at ≡ l.i + l.word-index;
   extent : K.extent now.device l.p ≡ K.extent old.device l.p;
   words : Becomes (K.told old.device l.p) (K.told now.device l.p) (λ before after. after ≡ set_words l.word-index l.i l.words before);
   stops : all_stops K.stops now l.p ≡ all_stops K.stops old l.p;

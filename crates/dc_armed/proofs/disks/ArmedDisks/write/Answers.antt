@@ -1,4 +1,10 @@
+use Rattle.std.proofs.Common.{rules, ◌≡◌, ◌≢◌, ◌≤◌, ℕ, Some}
+use Rattle.dc_media.specs.Devices.{of_disks}
+use Rattle.dc_armed.specs.Armed.{Armed}
+use Rattle.dc_armed.specs.Stops.{Waits, after_answer, came_to, capped, due, one_fewer, waiting_for}
+use Rattle.dc_armed.proofs.Counting.{capped_later}
 use Rattle.dc_armed.proofs.Parting.{Writes-comes}
+use Rattle.dc_armed.proofs.Punctual.{punctual_due}
 use Rattle.dc_armed.proofs.disks.ArmedDisks.write.Goals as goal
 
 pub returns-in-Some-clause-bytes : goal.returns-in-Some-clause-bytes
@@ -8,3 +14,28 @@ returns-in-Some-clause-bytes g c =
     rw (← c.self.view_is)
     (Writes-comes (D.extent c.self.inside.device c.args.p) c.args.at c.args.p c.in-Some.tear c.args.from.now c.call.new.self c.comes.new.self c.torn_write-done.result c.comes.result _ _
     (rw (← c.self.view_is) at c.requires) (g.met.D.Disks.told_extent c.self.inside.device c.args.p) c.torn_write-done.ensures.bytes c.comes.ensures.comes c.comes.ensures.refused)
+
+pub returns-in-Some-clause-call : goal.returns-in-Some-clause-call
+returns-in-Some-clause-call g c =
+    let old : Armed g.row.D.Denot = record { device = c.self.inside.device; plan = c.self.inside.plan } in
+    let new : Armed g.row.D.Denot = record { device = c.torn_write-done.new.disks; plan = c.comes.new.self } in
+    let is : due old.plan c.args.p ≡ Some c.in-Some.tear = search rules in
+    let waits : Waits c.args.p (after_answer c.comes.result (one_fewer (waiting_for old.plan c.args.p))) old.plan new.plan = search rules in
+    let called : (q : ℕ) → capped (g.D.Disks.calls old.device q) ≤ capped (g.D.Disks.calls new.device q) = search (rules, capped_later) in
+    let off : (q : ℕ) → q ≢ c.args.p → came_to new.plan q ≡ came_to old.plan q = search rules in record {
+      touches = record {
+        tells = search rules;
+        others = search rules;
+        continues = rw (← c.self.view_is) (record {
+          later = search rules;
+          stopped = search rules;
+          failed = search rules;
+          called = called;
+          plan = search rules;
+          awaited = search rules;
+          punctual = punctual_due (of_disks g.D.Disks) c.args.p c.in-Some.tear c.comes.result old new is waits called off;
+        });
+      };
+      extent = search rules;
+      cause = search rules;
+    }

@@ -1,6 +1,7 @@
 use Rattle.std.proofs.Common.{rules, length}
 use Rattle.dc_media.specs.Devices.{of_words}
 use Rattle.dc_armed.specs.Armed.{Armed}
+use Rattle.dc_armed.proofs.Punctual.{punctual_in_row}
 use Rattle.dc_armed.proofs.Rows.{awaited_in_row, called_in_row}
 use Rattle.dc_armed.proofs.keeps.ArmedKeeps.store_words.Goals as goal
 
@@ -19,6 +20,8 @@ returns-clause-call g c = let done = c.store_words-done in
           called = called_in_row (of_words g.K.Keeps) c.args.p (length c.args.words.now) done.result old new done.ensures.calls (λ q ne. (others q ne).calls_same);
           plan = search rules;
           awaited = awaited_in_row (of_words g.K.Keeps) c.args.p (length c.args.words.now) done.result old new done.ensures.calls (λ q ne. (others q ne).calls_same)
+              (search rules) done.ensures.call.cause (search rules) (search rules);
+          punctual = punctual_in_row (of_words g.K.Keeps) c.args.p (length c.args.words.now) done.result old new done.ensures.calls (λ q ne. (others q ne).calls_same)
               (search rules) done.ensures.call.cause (search rules) (search rules);
         });
       };

@@ -5,5 +5,5 @@ use Rattle.dc_asm.proofs.Naming.{added}
 use Rattle.dc_asm.proofs.names.Names.define.Goals as goal
 
 pub returns : goal.returns
-returns c = λ other. hash_map_updates_str c.args.name.now c.args.self.now.places c.insert.new.self _ c.in_ok-insert.ensures.updates other
-    ∙ added (found c.args.self.now) c.args.name.now other c.args.place (search rules)
+returns c = λ other. hash_map_updates_str c.args.name.now c.args.self.now.definitions c.insert.new.self _ c.in_ok-insert.ensures.updates other
+    ∙ added (found c.args.self.now) c.args.name.now other c.args.definition (search rules)

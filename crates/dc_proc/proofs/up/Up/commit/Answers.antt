@@ -19,13 +19,13 @@ returns-in_err-commit-clause-torn g c = any_err c.from_residual.result (λ image
 
 pub returns-clause-paired : goal.returns-clause-paired
 returns-clause-paired g c = paired_committed (held c.args.self.now) (held c.settle.new.self) c.settle.new.self.based.items _ _ _ _ _ _ c.deref.result.now c.requires.paired c.in_ok-commit.ensures.call.touches.same.form_same
-    (c.settle.ensures.held ∙ ap (λ (h : Held). record h { unread = []; own = false; log_left = 64; based = c.settle.new.self.based.items }) c.write_text.ensures.held)
+    (c.settle.ensures.held ∙ ap (λ (h : Held). record h { unread = []; unlogged = false; log_left = 64; based = c.settle.new.self.based.items }) c.write_text.ensures.held)
     c.in_ok-commit.ensures.number.0 (c.deref.ensures.value ∙ c.write_text.ensures.text) c.in_ok-commit.ensures.number.1
 
 pub returns-clause-goes : goal.returns-clause-goes
 returns-clause-goes g c images inputs protocol p answers st d from over =
     over_committed (system images inputs protocol) refl p answers st (held c.args.self.now) _ _ c.write_text.ensures.kernel over _ (held c.settle.new.self) c.settle.new.self.based.items _
-    (c.settle.ensures.held ∙ ap (λ (h : Held). record h { unread = []; own = false; log_left = 64; based = c.settle.new.self.based.items }) c.write_text.ensures.held)
+    (c.settle.ensures.held ∙ ap (λ (h : Held). record h { unread = []; unlogged = false; log_left = 64; based = c.settle.new.self.based.items }) c.write_text.ensures.held)
     (search rules) c.in_ok-commit.ensures.memory
     (λ r l. subst (λ t. IsSaved (g.C.Checkpoint.contents c.args.store.now c.args.dev.now) t r) (c.deref.ensures.value ∙ c.write_text.ensures.text) (c.in_ok-commit.ensures.stands d r from l))
 

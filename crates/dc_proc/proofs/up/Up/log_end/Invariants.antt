@@ -3,7 +3,7 @@ use Rattle.dc_proc.specs.Processes.{logged_of}
 use Rattle.dc_recovery.specs.Saves.{log_end}
 use Rattle.dc_proc.proofs.up.Up.log_end.Given as goal
 
--- what is behind this place ends there
+-- what is behind this record ends there
 abbrev pub invariant-loop-i : goal.invariant-loop-i
 invariant-loop-i l = record {
   within : l.i ≤ length l.self.log.items;

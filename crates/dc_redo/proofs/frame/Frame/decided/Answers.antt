@@ -12,7 +12,7 @@ pub returns-clause-decided : goal.returns-clause-decided
 returns-clause-decided g c e left =
     let sh = shape_of c.args.self.now in
     let halved : c.args.self.now.half ≡ half_bytes sh = c.args.self.now.halved in
-    let told = g.D.Disks.told c.fetch.new.dev c.args.self.now.place in
+    let told = g.D.Disks.told c.fetch.new.dev c.args.self.now.index in
     let piece = c.fetch.new.piece in
     let read = c.in_ok-fetch.ensures.read c.if-not-branch.false in
     let rest = subst (λ n. IsAtRest (λ x. (2 * n ≤ length x) × (take (2 * n) x ≡ piece)) told) halved read in
@@ -27,7 +27,7 @@ pub returns-then-first-second-clause-decided : goal.returns-then-first-second-cl
 returns-then-first-second-clause-decided g c e left =
     let sh = shape_of c.args.self.now in
     let halved : c.args.self.now.half ≡ half_bytes sh = c.args.self.now.halved in
-    let told = g.D.Disks.told c.fetch.new.dev c.args.self.now.place in
+    let told = g.D.Disks.told c.fetch.new.dev c.args.self.now.index in
     let piece = c.fetch.new.piece in
     let read = c.in_ok-fetch.ensures.read c.if-not-branch.false in
     let rest = subst (λ n. IsAtRest (λ x. (2 * n ≤ length x) × (take (2 * n) x ≡ piece)) told) halved read in
@@ -42,6 +42,6 @@ pub returns-then-not-branch-clause-decided : goal.returns-then-not-branch-clause
 returns-then-not-branch-clause-decided g c =
     let sh = shape_of c.args.self.now in
     let halved : c.args.self.now.half ≡ half_bytes sh = c.args.self.now.halved in
-    let told = g.D.Disks.told c.fetch.new.dev c.args.self.now.place in
+    let told = g.D.Disks.told c.fetch.new.dev c.args.self.now.index in
     let short = c.in_ok-fetch.ensures.short c.if-not-branch.true in
     short_number sh told (subst (λ n. IsAtRest (λ x. length x < 2 * n) told) halved short)

@@ -49,7 +49,7 @@ returns-then-from-bytes-clause-goes g c =
     let m_long : length (memory_in sh old) ≡ sh.size = length-take-le sh.size old (omega (arith, long, lined)) in
     let k_long : length kernel ≡ sh.kernel = (right_from frame.n frame.p kernel c.requires.text).long ∙ sym frame.layout in
     let is = body_is_state sh c.store_text.new.marks.body.items (memory_in sh old) kernel m_long k_long c.store_text.ensures.body in
-    on_ok_weaker c.save_lines.result (λ goes. subst (λ (s : Reading). GoesOn sh (known_of c.save_lines.new.marks) c.args.prepared (number_in kernel) s (g.D.Disks.told c.save_lines.new.dev frame.place)) is goes) c.save_lines.ensures.goes
+    on_ok_weaker c.save_lines.result (λ goes. subst (λ (s : Reading). GoesOn sh (known_of c.save_lines.new.marks) c.args.prepared (number_in kernel) s (g.D.Disks.told c.save_lines.new.dev frame.index)) is goes) c.save_lines.ensures.goes
 
 pub returns-clause-goes : goal.returns-clause-goes
 returns-clause-goes g c =
@@ -62,4 +62,4 @@ returns-clause-goes g c =
     let m_long : length (memory_in sh old) ≡ sh.size = length-take-le sh.size old (omega (arith, long, lined)) in
     let k_long : length kernel ≡ sh.kernel = (right_from frame.n frame.p kernel c.requires.text).long ∙ sym frame.layout in
     let is = body_is_state sh c.store_text.new.marks.body.items (memory_in sh old) kernel m_long k_long c.store_text.ensures.body in
-    on_ok_weaker c.save_whole.result (λ goes. subst (λ (s : Reading). GoesOn sh (known_of c.save_whole.new.marks) c.args.prepared (number_in kernel) s (g.D.Disks.told c.save_whole.new.dev frame.place)) is goes) c.save_whole.ensures.goes
+    on_ok_weaker c.save_whole.result (λ goes. subst (λ (s : Reading). GoesOn sh (known_of c.save_whole.new.marks) c.args.prepared (number_in kernel) s (g.D.Disks.told c.save_whole.new.dev frame.index)) is goes) c.save_whole.ensures.goes

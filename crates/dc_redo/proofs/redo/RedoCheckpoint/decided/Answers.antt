@@ -11,8 +11,8 @@ pub returns-clause-awake : goal.returns-clause-awake
 returns-clause-awake g c =
     let sh = shape_of c.args.self.now.frame in
     let k = known_of c.args.self.now.marks in
-    let old = g.D.Disks.told c.args.dev.now c.args.self.now.frame.place in
-    let new = g.D.Disks.told c.decided.new.dev c.args.self.now.frame.place in
+    let old = g.D.Disks.told c.args.dev.now c.args.self.now.frame.index in
+    let new = g.D.Disks.told c.decided.new.dev c.args.self.now.frame.index in
     let large = large_still sh _ _ c.decided.ensures.call.extent in
     rw c.checked.ensures (on_checked c.decided.result (λ rest. (
       (λ ready. (large ready.0, ready.1, rest_still (Agrees sh k) _ old new ready.2 c.decided.ensures.there rest)),

@@ -1,4 +1,4 @@
--- A `&` to the places reaches each word. Assumes `Logic`.
+-- A `&` to the cells reaches each word. Assumes `Logic`.
 use denote.RawPtr.{RawPtr}
 use denote.Param.Shared.{copy_shared}
 use denote.Struct.Laws.{field_copy}

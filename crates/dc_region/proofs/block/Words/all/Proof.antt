@@ -1,4 +1,4 @@
--- `all` shows the words that the places lend. Assumes `Logic`.
+-- `all` shows the words that the cells lend. Assumes `Logic`.
 use mathlib.Core.Path.{◌≡◌, refl, sym, ap, subst, ◌∙◌}
 use Prim.Native.Nat.{ℕ, ◌*◌, ◌<◌, ◌^◌}
 use native.Mathlib.Omega.{arith}
@@ -40,7 +40,7 @@ use denote.Triple.Walked.{says, needs, Stays, stay_dropped, walk_of, ends_at, Go
 use Rattle.std.specs.Prelude.{Option, Some}
 use Rattle.std.proofs.VecSteps.Shapes.{after}
 use Rattle.std.proofs.RcSteps.{word, word-Good}
-use Rattle.dc_region.specs.Places.{AreFilled}
+use Rattle.dc_region.specs.Cells.{AreFilled}
 use Rattle.dc_region.specs.Ownership.{words_lent}
 use Rattle.dc_region.proofs.Memory.{Wr, Bs, base_had, all_seen}
 use Rattle.dc_region.specs.contracts.block.Words.all as F

@@ -1,4 +1,4 @@
--- `get` reads one word that the places lend. Assumes `Logic`.
+-- `get` reads one word that the cells lend. Assumes `Logic`.
 use mathlib.Core.Path.{◌≡◌, refl, sym, subst, ◌∙◌}
 use Prim.Native.Nat.{ℕ, ◌+◌, ◌*◌, ◌<◌, ◌^◌}
 use native.Mathlib.Omega.{arith}
@@ -40,7 +40,7 @@ use denote.Triple.Walked.{says, needs, Stays, stay_dropped, walk_of, ends_at, Go
 use Rattle.std.specs.Prelude.{Option, Some, None}
 use Rattle.std.proofs.VecSteps.Shapes.{after}
 use Rattle.std.proofs.RcSteps.{word, word-Good}
-use Rattle.dc_region.specs.Places.{IsFilled}
+use Rattle.dc_region.specs.Cells.{IsFilled}
 use Rattle.dc_region.specs.Ownership.{slot_lent, words_lent}
 use Rattle.dc_region.proofs.Memory.{Wr, Bs, base_had, filled_within, slot_seen}
 use Rattle.dc_region.specs.contracts.block.Words.get as F

@@ -1,4 +1,4 @@
--- `put` writes one place, whatever it holds. Assumes `Logic`.
+-- `put` writes one cell, whatever it holds. Assumes `Logic`.
 use mathlib.Core.Path.{◌≡◌, refl, sym, subst, ◌∙◌}
 use Prim.Native.Nat.{ℕ, ◌+◌, ◌*◌, ◌<◌, ◌^◌}
 use native.Mathlib.Omega.{arith}
@@ -99,7 +99,7 @@ module _ {M : Type 1} {𝓤 : Ura M} (𝓛 : Logic 𝓤) (at_mem : Memory → SP
         sets ! (bin ! (get_in ! (fld ! refl (stop !)) (sub ! 0 refl (whole !))) (get ! refl) tt) refl (tt, tt) $
         use1 𝓛 (‵ (slot b (index * 4 + o) (get_or d.slots index None)) ⊛ ‵ (Besides 𝓛 b o d.slots index)) (slot_out 𝓛 b o d.slots index within) $ split ! $
         use1 𝓛 (‵ (froom (ty_int w32) b (index * 4 + o))) (emptied 𝓛 b (index * 4 + o) (get_or d.slots index None)) $
-        -- [the room; the other places; the mark; its cell; the open borrow, in three entries]
+        -- [the room; the other cells; the mark; its cell; the open borrow, in three entries]
         assigns_last ! (of_opd ! (get ! refl)) (through ! refl (stop !)) (init ! 0 refl (tt, record { fits = fits_x })) $
         exec ! C Λ En (after 1 (code.function).body) (at_ret En Post) $ sets ! (of_opd ! (unit_lit !)) refl (tt, tt) $
         use1 𝓛 (‵ (slot b (index * 4 + o) (Some x))) (uint_in 𝓛 full_share w32 x b (index * 4 + o)) $

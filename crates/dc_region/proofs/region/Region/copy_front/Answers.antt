@@ -6,7 +6,7 @@ pub load-word-requires : goal.load-word-requires
 load-word-requires c = let l = c.loop-k in let same = ap length l.invariant ∙ length-copied l.k c.args.from c.args.to c.args.self.now in omega (arith, same, c.requires.source)
 
 pub store-requires : goal.store-requires
-store-requires c = let l = c.loop-k in let same = ap length l.invariant ∙ length-copied l.k c.args.from c.args.to c.args.self.now in omega (arith, same, c.requires.place)
+store-requires c = let l = c.loop-k in let same = ap length l.invariant ∙ length-copied l.k c.args.from c.args.to c.args.self.now in omega (arith, same, c.requires.index)
 
 pub loop-k-preserved : goal.loop-k-preserved
 loop-k-preserved c = let l = c.loop-k in

@@ -1,6 +1,6 @@
 use Rattle.std.proofs.Common.{sym, ap, ◌∙◌}
-use Rattle.dc_region.specs.Places.{held}
-use Rattle.dc_region.proofs.Places.{held-map}
+use Rattle.dc_region.specs.Cells.{held}
+use Rattle.dc_region.proofs.Cells.{held-map}
 use Rattle.dc_region.proofs.region.Region.words.Goals as goal
 
 pub returns : goal.returns

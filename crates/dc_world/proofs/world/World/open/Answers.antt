@@ -1,16 +1,18 @@
-use Rattle.std.proofs.Common.{◌≡◌, ◌∙◌, ◌<◌, ◌++◌, ap, drop, length, map, rules, subst, sym, take, false}
+use Rattle.std.proofs.Common.{◌≡◌, ◌∙◌, ◌<◌, ◌++◌, ap, drop, inl, refl, length, map, rules, subst, sym, take, false}
 use Rattle.dc_media.specs.Causes.{Rose}
 use Rattle.dc_elf.specs.Loaded.{seen_image}
 use Rattle.dc_words.specs.Lists.{lists_of}
 use Rattle.dc_proc.specs.Carried.{system}
 use Rattle.dc_recovery.specs.Core.{opened_core}
-use Rattle.dc_world.proofs.Felling.{all_written}
+use Rattle.dc_together.proofs.Rows.{all_written}
 use Rattle.dc_world.proofs.Joined.{alike}
+use Rattle.dc_together.specs.Joints.{FallTogether}
 use Rattle.dc_world.proofs.Opens.{opened_joined, ready_joined, well}
-use Rattle.dc_world.specs.Opened.{AreBegun, AreMadeFor, FallTogether, IsOpened}
-use Rattle.dc_world.specs.Slots.{is_up, slot_at}
-use Rattle.dc_world.specs.Stages.{IsReady, IsTold, IsWorld, stage_of}
-use Rattle.dc_world.specs.declared.processes.Processes.{Processes}
+use Rattle.dc_world.specs.Worlds.{IsReady}
+use Rattle.dc_world.specs.Opened.{AreBegun, AreMadeFor, IsOpened}
+use Rattle.dc_processes.specs.Slots.{is_up, slot_at}
+use Rattle.dc_processes.specs.Stages.{IsTold, IsWorld, stage_of}
+use Rattle.dc_processes.specs.declared.processes.Processes.{Processes}
 use Rattle.dc_protocols.specs.Rules.{is_causal}
 use Rattle.dc_world.proofs.world.World.open.Goals as goal
 
@@ -38,11 +40,11 @@ returns-clause-ready g c =
     let as_many : length new ≡ length stores = c.fall_together.ensures.as_many ∙ ap (λ xs. length xs) c.deref_mut.ensures.value in
     let all : take c.in_ok-slots.stores.len (new ++ drop (length new) stores) ≡ new = all_written c.in_ok-slots.stores.len stores new (search rules) as_many in
     let many : c.len-2.result ≡ length c.args.setup.images.items = search rules in
-    subst (λ xs. IsReady g.C.Checkpoint xs c.begin_each.new.dev c.fall_together.new.self) (sym all)
-    (ready_joined g.C.Checkpoint c.args.setup c.args.entries stores new c.begin_each.new.dev w c.fall_together.new.self begins
+    subst (λ xs. IsReady g.C.Checkpoint xs c.begin_each.new.dev c.fall_together.new.processes) (sym all)
+    (ready_joined g.C.Checkpoint c.args.setup c.args.entries stores new c.begin_each.new.dev w c.fall_together.new.processes begins
     (subst (λ xs. AreBegun g.C.Checkpoint c.args.setup.protocol xs c.in_ok-slots.slots.items stores c.begin_each.new.dev) images_are c.in_ok-slots.ensures.begun)
     (search rules) c.requires.entries c.requires.some c.fall_together.ensures.rest c.fall_together.ensures.long c.fall_together.ensures.well as_many
-    (subst (λ xs. FallTogether g.C.Checkpoint w.protocol w.slots.items c.fall_together.new.self.slots.items xs new) c.deref_mut.ensures.value c.fall_together.ensures.together)
+    (subst (λ xs. FallTogether g.C.Checkpoint w.protocol w.slots.items c.fall_together.new.processes.slots.items xs new) c.deref_mut.ensures.value c.fall_together.ensures.together)
     c.requires.few c.requires.inputs c.in_ok-acts.ensures.room (search rules) (search rules) (subst (λ n. AreMadeFor n c.in_ok-joint.joint.saved.items) many c.in_ok-joint.ensures.saved_fit))
 
 pub returns-clause-opened : goal.returns-clause-opened
@@ -52,7 +54,7 @@ returns-clause-opened g c =
     let begins : IsOpened c.args.setup c.args.entries w = search rules in
     let stores = c.in_ok-slots.stores.items in
     let new = c.fall_together.new.stores in
-    let w1 = c.fall_together.new.self in
+    let w1 = c.fall_together.new.processes in
     let as_many : length new ≡ length stores = c.fall_together.ensures.as_many ∙ ap (λ xs. length xs) c.deref_mut.ensures.value in
     let all : take c.in_ok-slots.stores.len (new ++ drop (length new) stores) ≡ new = all_written c.in_ok-slots.stores.len stores new (search rules) as_many in
     subst (λ xs. is_causal c.args.setup.protocol ≡ false → IsTold g.C.Checkpoint (stage_of xs c.begin_each.new.dev w1)
@@ -64,4 +66,16 @@ returns-clause-opened g c =
     g.met.C.Checkpoint.told_contents)
 
 pub returns-clause-alike : goal.returns-clause-alike
-returns-clause-alike g c together = alike g.C.Checkpoint c.args.setup.protocol c.in_ok-slots.slots.items c.fall_together.new.self.slots.items c.deref_mut.result.now c.fall_together.new.stores c.fall_together.ensures.long c.fall_together.ensures.as_many c.fall_together.ensures.together together
+returns-clause-alike g c together = alike g.C.Checkpoint c.args.setup.protocol c.in_ok-slots.slots.items c.fall_together.new.processes.slots.items c.deref_mut.result.now c.fall_together.new.stores c.fall_together.ensures.long c.fall_together.ensures.as_many c.fall_together.ensures.together together
+
+pub returns-in_err-acts-clause-wanting : goal.returns-in_err-acts-clause-wanting
+returns-in_err-acts-clause-wanting g c e p = inl (refl, refl)
+
+pub returns-in_err-exposed-clause-wanting : goal.returns-in_err-exposed-clause-wanting
+returns-in_err-exposed-clause-wanting g c e p = inl (refl, refl)
+
+pub returns-in_err-joint-clause-wanting : goal.returns-in_err-joint-clause-wanting
+returns-in_err-joint-clause-wanting g c e p = inl (refl, refl)
+
+pub returns-in_err-slots-clause-wanting : goal.returns-in_err-slots-clause-wanting
+returns-in_err-slots-clause-wanting g c e p = c.in_err-slots.ensures.wanting (search rules) p

@@ -4,11 +4,12 @@ use Rattle.std.proofs.Common.{◌≡◌, ◌++◌, ◌∙◌, None, ap, drop, le
 use Rattle.dc_model.specs.declared.entry.Entry.TheVariants as entry
 use Rattle.dc_model.specs.declared.mark.Mark.TheVariants as mark
 use Rattle.dc_twophase.specs.Stores.{EachPair}
-use Rattle.dc_world.proofs.Felling.{all_written}
+use Rattle.dc_together.proofs.Rows.{all_written}
+use Rattle.dc_world.specs.Worlds.{IsReady}
 use Rattle.dc_world.proofs.Powered.{ready_powered, turned_powered}
-use Rattle.dc_world.specs.Stages.{IsReady, stage_of}
-use Rattle.dc_world.specs.Turns.{IsTurned, later, marked}
-use Rattle.dc_world.specs.Worlds.{counted}
+use Rattle.dc_processes.specs.Processes.{counted}
+use Rattle.dc_processes.specs.Stages.{stage_of}
+use Rattle.dc_processes.specs.Turns.{IsTurned, later, marked}
 use Rattle.dc_world.proofs.world.World.power.Goals as goal
 
 pub returns-clause-ready : goal.returns-clause-ready

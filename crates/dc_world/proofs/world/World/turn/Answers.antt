@@ -2,7 +2,7 @@ use Rattle.std.proofs.Common.{◌≡◌, ◌∙◌, ◌+◌, Err, ap, arith}
 use Rattle.dc_world.proofs.Torn.{cut_off, line_whole, one_line, ready_written}
 use Rattle.dc_world.specs.Worlds.{stage_in}
 use Rattle.dc_world.specs.declared.faults.TurnFault.TheVariants as faults
-use Rattle.dc_world.specs.declared.processes.Processes.{Processes}
+use Rattle.dc_processes.specs.declared.processes.Processes.{Processes}
 use Rattle.dc_world.proofs.world.World.turn.Goals as goal
 
 pub returns-in-Ok-write_shown-clause-turned : goal.returns-in-Ok-write_shown-clause-turned

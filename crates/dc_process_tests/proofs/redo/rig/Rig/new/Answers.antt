@@ -9,7 +9,7 @@ unstopped true e = sym e
 pub returns-in-Ok : goal.returns-in-Ok
 returns-in-Ok c = let h = c.in-Ok.ensures.handle in (
   h.lent,
-  h.place_is,
+  h.index_is,
   h.size_is ∙ c.in_ok-memory.ensures,
   h.form_is ∙ c.in_ok-text.ensures.form,
   λ e. c.in-Ok.ensures.ready (unstopped c.in-Ok.stopped e),

@@ -1,0 +1,73 @@
+use Rattle.std.proofs.Common.{◌≡◌, ◌∙◌, ◌≤◌, ◌<◌, IfOk, IsSome, ap, arith, length, refl, rules, subst, sym}
+use Rattle.std.proofs.lemmas.Result.{IfOk-weaker}
+use Rattle.dc_course.proofs.Within.{calm_within}
+use Rattle.dc_disk.proofs.Logs.{disk_course}
+use Rattle.dc_redo.specs.Handles.{shape_of}
+use Rattle.dc_armed.specs.Armed.{all_stops}
+use Rattle.dc_course.specs.Courses.{IsCourse, account_of, counts_of, setting_of}
+use Rattle.dc_course.specs.Running.{output}
+use Rattle.dc_course.specs.Lent.{IsLeftAlone, KeepsTold, TellsStores, capped_by}
+use Rattle.dc_media.specs.Devices.{of_disks}
+use Rattle.dc_disk.specs.Logs.{LogsLeft}
+use Rattle.dc_media.specs.Causes.{Rose}
+use Rattle.dc_world.specs.Opened.{IsCalmUnlessStopped}
+use Rattle.dc_disk.proofs.disks.run_on_disks.Goals as goal
+
+pub returns-clause-later : goal.returns-clause-later
+returns-clause-later g c p = subst (λ k. (g.D.Disks.stops c.args.disks.now p ≤ g.D.Disks.stops k p) × (g.D.Disks.faults c.args.disks.now p ≤ g.D.Disks.faults k p)) (search rules) (
+  subst (λ k. g.D.Disks.stops k p ≤ g.D.Disks.stops c.run-course.new.dev.device.now p) (ap (λ k. k.now) c.new-armed.ensures.device) (c.run-course.ensures.lasts.stopped p),
+  subst (λ k. g.D.Disks.faults k p ≤ g.D.Disks.faults c.run-course.new.dev.device.now p) (ap (λ k. k.now) c.new-armed.ensures.device) (c.run-course.ensures.lasts.failed p),
+)
+
+pub returns-clause-failed : goal.returns-clause-failed
+returns-clause-failed g c p e =
+    let told = c.run-course.ensures.failed p e in
+    subst (λ k. (p < length c.args.setup.images.items) × Rose (g.D.Disks.faults c.args.disks.now p) (g.D.Disks.faults k p)) {x = c.run-course.new.dev.device.now} (search rules)
+    (told.0, subst (λ k. Rose (g.D.Disks.faults k p) (g.D.Disks.faults c.run-course.new.dev.device.now p)) (ap (λ b. b.now) c.new-armed.ensures.device) told.1)
+
+pub returns-clause-headline : goal.returns-clause-headline
+returns-clause-headline g c =
+    let setting = setting_of c.args.setup c.args.schedule.now c.args.stops.items in
+    let out = output (g.O.Sink.held c.args.out.now) (g.O.Sink.held c.run-course.new.out) in
+    subst (λ k. IfOk c.run-course.result (λ course. TellsStores (of_disks g.D.Disks) (length c.args.setup.images.items) c.args.disks.now k →
+    IsCourse setting (account_of course) course.ending out (counts_of g.D.Disks.stops (capped_by g.D.Disks.calls) c.args.disks.now k) (λ core x. LogsLeft g.D.Disks setting core x))) {x = c.run-course.new.dev.device.now} (search rules)
+    (IfOk-weaker c.run-course.result _ _ (λ course says tells.
+    let armed = c.new-armed.result in
+    let dev = c.run-course.new.dev in
+    let lent : armed.device.now ≡ c.args.disks.now = ap (λ b. b.now) c.new-armed.ensures.device in
+    disk_course g.D.Disks c.args.setup c.args.schedule.now armed.plan.stops c.args.stops.items (account_of course) course.ending out (λ d. d.device.now) armed dev c.args.disks.now
+    (says (record {
+      told = λ p less. subst (λ x. IsSome (g.D.Disks.told x p)) (sym lent) (tells.told p less);
+      stops = λ p less. let all = c.run-course.ensures.planned p in let none = c.new-armed.ensures.came p in let few = tells.stops p less in let long = c.requires.entries in omega (arith, all, none, few, long);
+      faults = tells.faults;
+    })) c.new-armed.ensures.stops lent c.requires.some (λ s. shape_of s.store.frame) (λ s. refl) (λ s. s.store.frame.layout) (λ s. s.store.frame.events) (λ x s d r l. l) (λ x s d l. l)) c.run-course.ensures.headline)
+
+pub returns-clause-tells : goal.returns-clause-tells
+returns-clause-tells g c p =
+    let lent : c.new-armed.result.device.now ≡ c.args.disks.now = ap (λ b. b.now) c.new-armed.ensures.device in
+    subst (λ k. KeepsTold (of_disks g.D.Disks) c.args.disks.now k p) {x = c.run-course.new.dev.device.now} (search rules)
+    (λ few sound told. c.run-course.ensures.tells p
+    (let all = c.run-course.ensures.planned p in let none = c.new-armed.ensures.came p in let long = c.requires.entries in omega (arith, all, none, few, long)) sound
+    (subst (λ x. IsSome (g.D.Disks.told x p)) (sym lent) told))
+
+pub returns-clause-others : goal.returns-clause-others
+returns-clause-others g c q high =
+    let lent : c.new-armed.result.device.now ≡ c.args.disks.now = ap (λ b. b.now) c.new-armed.ensures.device in
+    let same = c.run-course.ensures.others q high in
+    subst (λ k. IsLeftAlone (of_disks g.D.Disks) c.args.disks.now k q) {x = c.run-course.new.dev.device.now} (search rules) (record {
+      told_same = same.told_same ∙ ap (λ k. g.D.Disks.told k q) lent;
+      extent_same = same.extent_same ∙ ap (λ k. g.D.Disks.extent k q) lent;
+      stops_same = let all = same.stops_same in let none = c.new-armed.ensures.came q in let later = c.run-course.ensures.lasts.stopped q in let is = ap (λ k. g.D.Disks.stops k q) lent in omega (arith, all, none, later, is);
+      faults_same = same.faults_same ∙ ap (λ k. g.D.Disks.faults k q) lent;
+    })
+
+pub returns-clause-wanting : goal.returns-clause-wanting
+returns-clause-wanting g c e p =
+    let armed = c.new-armed.result in
+    let dev = c.run-course.new.dev in
+    let none = c.new-armed.ensures.came p in
+    subst (λ k. IsCalmUnlessStopped g.D.Disks.stops g.D.Disks.faults p c.args.disks.now k) {x = dev.device.now} (search rules)
+    (subst (λ k. IsCalmUnlessStopped g.D.Disks.stops g.D.Disks.faults p k dev.device.now) (ap (λ b. b.now) c.new-armed.ensures.device)
+    (calm_within (g.D.Disks.stops armed.device.now p) (g.D.Disks.stops dev.device.now p) (all_stops (λ d. g.D.Disks.stops d.now) armed p) (all_stops (λ d. g.D.Disks.stops d.now) dev p)
+    (g.D.Disks.faults armed.device.now p) (g.D.Disks.faults dev.device.now p) (omega (arith, none)) (c.run-course.ensures.lasts.stopped p) (omega arith)
+    (c.run-course.ensures.unplanned e p) (c.run-course.ensures.wanting e p)))

@@ -1,0 +1,14 @@
+pub mod Alike
+pub mod Acknowledged
+pub mod Owns
+pub mod Happened
+pub mod Downed
+pub mod Rejoined
+pub mod Cuts
+pub mod Rows
+pub mod Composed
+pub mod Fitting
+pub mod Joining
+pub mod Choosing
+pub mod Reread
+pub mod Recovers
