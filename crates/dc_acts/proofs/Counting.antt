@@ -104,7 +104,7 @@ pub record IsCutTo (p reach i : ℕ) (was acts : List Taken) (kept own : ℕ) : 
   pub stay : take kept acts ≡ kept_of p reach was i
   pub rest : drop i acts ≡ drop i was
   pub own_is : own ≡ min (acts_of p (take i was)) reach
-  pub place : kept ≤ i
+  pub behind : kept ≤ i
   pub size : length acts ≡ length was
 
 -- nothing is taken out of acts that are no more of p than may stay
@@ -123,7 +123,7 @@ cut_begun p start was within = record {
   stay = sym (cut_nothing p (acts_of p (take start was)) (take start was) (length was) (omega (arith, length-take start was)) (omega arith));
   rest = refl;
   own_is = omega arith;
-  place = omega arith;
+  behind = omega arith;
   size = refl;
 }
 
@@ -144,7 +144,7 @@ module _ (p reach i : ℕ) (was acts : List Taken) (kept own : ℕ) (x d : Taken
   in_was = let size = at.size in omega arith
 
   in_acts : kept < length acts
-  in_acts = let place = at.place in omega arith
+  in_acts = let behind = at.behind in omega arith
 
   here : x ≡ get_or was i d
   here = let rest = at.rest in let first = drop-cons acts i d within in let second = drop-cons was i d in_was in cc
@@ -157,9 +157,9 @@ module _ (p reach i : ℕ) (was acts : List Taken) (kept own : ℕ) (x d : Taken
       → IsCutTo p reach (i + 1) was (slice_set acts kept x) (kept + 1) mine
   moved next mine mine_is = record {
     stay = take_more_set acts kept x in_acts ∙ ap (λ ys. ys ++ x ∷ []) at.stay ∙ sym next;
-    rest = drop-set-lt (i + 1) acts kept x (let place = at.place in omega arith) ∙ left;
+    rest = drop-set-lt (i + 1) acts kept x (let behind = at.behind in omega arith) ∙ left;
     own_is = mine_is;
-    place = let place = at.place in omega arith;
+    behind = let behind = at.behind in omega arith;
     size = length-set acts kept x ∙ at.size;
   }
 
@@ -172,7 +172,7 @@ module _ (p reach i : ℕ) (was acts : List Taken) (kept own : ℕ) (x d : Taken
     stay = at.stay ∙ sym (kept_not p reach i was x d in_was here e (omega arith));
     rest = left;
     own_is = omega arith;
-    place = let place = at.place in omega arith;
+    behind = let behind = at.behind in omega arith;
     size = at.size;
   }
 

@@ -1,8 +1,3 @@
 mod Counting
 mod Cutting
-mod Gathering
-mod LineTexts
 mod Owning
-mod ReportTexts
-mod Sent
-mod Weighing

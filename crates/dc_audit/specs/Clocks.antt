@@ -161,6 +161,7 @@ pub record Ledger : Type 0 where
   pub links : List Way
   pub last : List Known
 
+-- the clocks, the messages on their way and the last commit's clock, as one
 abbrev pub ledger : List (List Known) → List Way → List Known → Ledger
 ledger clocks links last = record { clocks = clocks; links = links; last = last }
 

@@ -103,6 +103,7 @@ pub record Listed : Type 0 where
   pub marks : List Bool
   pub outside : Bool
 
+-- the marks and whether one was outside, as one
 abbrev pub listed : List Bool → Bool → Listed
 listed marks outside = record { marks = marks; outside = outside }
 

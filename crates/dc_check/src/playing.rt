@@ -98,7 +98,7 @@ fn take(plain: &mut Plain, lines: &mut Lines, taken: &Taken) -> Result<(), Apply
     ensures inputs { plain.new.inputs ≡ plain.old.inputs }
 {
     match plain.apply(taken.p, &taken.act) {
-        Ok(()) => {}
+        Ok(_) => {}
         Err(fault) => return Err(fault),
     }
     let Ok(()) = add_lines(lines, plain.visibles()) else {

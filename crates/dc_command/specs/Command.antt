@@ -13,11 +13,12 @@ pub record Names : Type 0 where
   pub report : List ℕ
   pub out : List ℕ
 
--- what the words ask for, by the names of files: to run a plan, to check an output against a report, or to assemble a source
+-- what the words ask for, by the names of files: to run a plan, to check an output against a report, to assemble a source, or to audit a journal
 pub data Asked : Type 0 where
   ToRun : (plan : List ℕ) → Asked
   ToCheck : (names : Names) → Asked
   ToAssemble : (source : List ℕ) → Asked
+  ToAudit : (journal : List ℕ) → Asked
 
 -- a word that a command needs at its place
 abbrev pub positional : List ℕ → Rule
@@ -43,9 +44,13 @@ check_command = with_word (with_word (with_word (new_app (codes "check")) (codes
 abbrev pub asm_command : App
 asm_command = with_word (new_app (codes "asm")) (codes "source")
 
+-- `audit` and the name of a journal
+abbrev pub audit_command : App
+audit_command = with_word (new_app (codes "audit")) (codes "journal")
+
 -- the program's commands
 abbrev pub command_line : App
-command_line = with_subcommand (with_subcommand (with_subcommand bare_line run_command.top) check_command.top) asm_command.top
+command_line = with_subcommand (with_subcommand (with_subcommand (with_subcommand bare_line run_command.top) check_command.top) asm_command.top) audit_command.top
 
 -- the names of a check, where all three are there
 abbrev pub names_by : Option (List ℕ) → Option (List ℕ) → Option (List ℕ) → Option Asked
@@ -56,7 +61,8 @@ names_by _ _ _ = None
 abbrev pub met_by : List ℕ → List Row → Option Asked
 met_by name rows = if bytes_eq name (codes "asm") then option_map ToAssemble (first_of (codes "source") rows)
     else (if bytes_eq name (codes "check") then names_by (first_of (codes "plan") rows) (first_of (codes "report") rows) (first_of (codes "out") rows)
-    else option_map ToRun (first_of (codes "plan") rows))
+    else (if bytes_eq name (codes "audit") then option_map ToAudit (first_of (codes "journal") rows)
+    else option_map ToRun (first_of (codes "plan") rows)))
 
 -- what the rows of a command ask for
 abbrev pub met : Option (List ℕ × List Row) → Option Asked
@@ -79,3 +85,4 @@ abbrev pub asked_view : asked' → Asked
 asked_view (word.Run plan) = ToRun plan.now
 asked_view (word.Check names) = ToCheck (names_view names)
 asked_view (word.Assemble source) = ToAssemble source.now
+asked_view (word.Audit journal) = ToAudit journal.now

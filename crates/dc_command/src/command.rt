@@ -22,6 +22,8 @@ pub enum Asked<'a> {
     Check(Names<'a>),
     /// To assemble that source.
     Assemble(&'a str),
+    /// To audit that journal.
+    Audit(&'a str),
 }
 
 /// Why words are no command's.
@@ -66,7 +68,8 @@ fn command<'a>(alloc: Global) -> Result<Command<'a>, AllocError>
     let top = Command::new(alloc, "dc").subcommand_required(true);
     let top = with_command(alloc, top, "run", "plan")?;
     let top = with_check(alloc, top)?;
-    with_command(alloc, top, "asm", "source")
+    let top = with_command(alloc, top, "asm", "source")?;
+    with_command(alloc, top, "audit", "journal")
 }
 
 /// The word of that name.
@@ -96,6 +99,9 @@ fn met_by<'a>(name: &str, matches: &ArgMatches<'a>) -> Option<Asked<'a>>
     }
     if name == "check" {
         return names_met(matches);
+    }
+    if name == "audit" {
+        return Some(Asked::Audit(word(matches, "journal")?));
     }
     Some(Asked::Run(word(matches, "plan")?))
 }

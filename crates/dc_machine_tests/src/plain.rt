@@ -96,7 +96,7 @@ fn applies(plain: &mut Plain, p: u32, act: &Act) -> Option<bool>
         return None;
     }
     match plain.apply(p, act) {
-        Ok(()) => Some(true),
+        Ok(_) => Some(true),
         Err(ApplyFault::Illegal) => Some(false),
         Err(ApplyFault::Memory) => None,
     }

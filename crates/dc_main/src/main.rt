@@ -5,7 +5,7 @@ mod telling;
 mod texts;
 mod topic;
 
-use dc_host::{FileLibrary, LateFile, StreamSink};
+use dc_files::{FileLibrary, LateFile, StreamSink};
 use dc_memmedia::{MemDisks, MemKeeps};
 use dc_run::{Outcome, Verdict, conclude, dc, words_of};
 use std::alloc::AllocError;
@@ -56,13 +56,17 @@ fn answer<R: Files + AllocGlobal + Clone + Drop, W: Write + Drop>(
 
 /// Does what its arguments ask, says the outcome on standard error and ends with its status.
 fn main(rt: HostRuntime) -> ExitCode {
+    let mut words = Vec::new(rt.alloc());
     let outcome = match words_of(&rt) {
-        Ok(words) => answer(&rt, words.as_slice(), rt.stdout()),
+        Ok(read) => {
+            words = read;
+            answer(&rt, &words, rt.stdout())
+        }
         Err(verdict) => Some(Outcome::idle(rt.alloc(), verdict)),
     };
     let Some(outcome) = outcome else {
         return ExitCode::SUCCESS;
     };
-    let status = conclude(&outcome, &mut StreamSink::new(rt.stderr()));
-    ExitCode::from(status)
+    let mut error = StreamSink::new(rt.stderr());
+    ExitCode::from(conclude(rt.alloc(), &words, &outcome, &mut error))
 }

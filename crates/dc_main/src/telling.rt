@@ -1,6 +1,6 @@
 use crate::texts;
 use crate::topic::Topic;
-use dc_host::beside_program;
+use dc_files::beside_program;
 use dc_media::{Sink, SinkFailed, write_whole};
 use dc_run::{Outlet, Verdict};
 use std::alloc::AllocError;

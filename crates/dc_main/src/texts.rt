@@ -19,7 +19,8 @@ Commands:
   @ run PLAN               run the guests of a plan
   @ check PLAN REPORT OUT  tell whether a run's files belong together
   @ asm SOURCE             assemble a guest
-  @ help [COMMAND]         this text, or more on run, check or asm
+  @ audit JOURNAL          tell whether a journal has Save-work
+  @ help [COMMAND]         this text, or more on one command
   @ --version              the version, and what it was proved with
 
 `--help` and `-h` are help, also behind a command, as in `@ run --help`;
@@ -31,9 +32,11 @@ Files, named from the working folder:
   REPORT     such a dc.report
   OUT        the standard output of a run, kept in a file
   SOURCE     RV32I instructions, one a line; the guest is the standard output
+  JOURNAL    events and commits of processes, by whatever system, a line each
 
 Statuses, each with its line on standard error:
-  0   done: every guest has ended, the output passes, or the guest is written
+  0   done: every guest has ended, the output passes, the guest is written,
+      or the journal has Save-work
   1   unfinished: the turns are used up, and some guest has not ended
   2   usage: the words mean nothing
   3   plan refused: it breaks the rule that is named
@@ -48,6 +51,8 @@ Statuses, each with its line on standard error:
   12  store refused: it holds no commit of this guest
   13  report refused: in the line that is named
   14  source refused: in the line that is named
+  18  journal refused: in the line that is named
+  19  not saved: the event of a line was not committed before another line
 
 Examples, which make a guest that ends at once, run it and check the run:
   printf 'addi x17,x0,1\\necall\\n' > guest.s && @ asm guest.s > guest.elf
@@ -64,7 +69,7 @@ is a line each on standard output; the report of the run is dc.report.
 
 Keys of a plan, a TOML document (* has to be there):
   protocol *  cand, cand-log, cpvs, cbndvs, cbndvs-log, cpv-2pc or cbndv-2pc
-  medium *    \"rio\", recoverable memory; \"disk\" is not built yet
+  medium *    \"rio\", recoverable memory; or \"disk\"
   memory *    each guest's bytes: 65536 to 1048576, a multiple of 4096
   guests *    an array of 1 to 8 files; guests are numbered from 0
   inputs      an array a guest: up to 10000 texts, each to 64 bytes in small hex
@@ -77,7 +82,8 @@ Keys of a stop, a table [[stop]] at the end of the plan:
   turn *      the entry, 0 to 999999, counted from 0 as the schedule's lines are
   process *   the guest
   call *      which of its store's calls in that turn: 1 to 4000000000
-  keep *      how many words that call still stores: 0 to 4000000000
+  keep *      how many words (of a disk bytes) it still stores: 0 to 4000000000
+  fill        only on a disk: what the bytes that are not kept become, 0 to 255
 
 Lines of a schedule, at most 1000000:
   P W C       guest P takes a turn, with the word W and the clock C
@@ -107,4 +113,21 @@ Lines of a source, where blanks at the ends and what follows # do not count:
   lw RD,NUMBER(RS1)        registers x0 to x31
   .word NUMBER             any word
   NAME:                    names the next word; the first is at address 1024
+";
+
+/// The command `audit`.
+pub const AUDIT: &str = "\
+@ audit JOURNAL tells whether a journal has Save-work, and prints `ok E`
+where it has, with its E events: nothing that could have come otherwise was
+shown, or committed by another process, before it was saved by a commit.
+
+Lines of a journal, at most 4000000, in the order in which things happened:
+  dc-journal 1 N FORM    the first: N processes, 1 to 16; FORM plain or causal
+  e P nd                 process P was told what could have come otherwise
+  e P logged             the same, and a log has it
+  e P visible            it showed something
+  e P send Q K           it sent message K to Q, counted from 0 for each pair
+  e P receive Q K nd     it received message K of Q; or logged in place of nd
+  commit P,Q             these processes committed together, in rising order
+  end                    the last
 ";

@@ -11,6 +11,8 @@ pub enum Topic {
     Check,
     /// The command `asm`.
     Assembling,
+    /// The command `audit`.
+    Audit,
     /// Its version.
     Version,
 }
@@ -23,6 +25,7 @@ impl Topic {
             Topic::Run => texts::RUN,
             Topic::Check => texts::CHECK,
             Topic::Assembling => texts::ASSEMBLING,
+            Topic::Audit => texts::AUDIT,
             Topic::Version => texts::VERSION,
         }
     }
@@ -34,6 +37,7 @@ fn topic_of_command(name: &str) -> Option<Topic> {
         "run" => Some(Topic::Run),
         "check" => Some(Topic::Check),
         "asm" => Some(Topic::Assembling),
+        "audit" => Some(Topic::Audit),
         _ => None,
     }
 }

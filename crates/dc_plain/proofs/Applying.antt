@@ -11,11 +11,12 @@ use Rattle.dc_guest.specs.Guest.{Guest, guests_of}
 use Rattle.dc_model.specs.World.{World, apply, apply_answer, happened, opened, answer_for}
 use Rattle.dc_elf.specs.Loaded.{seen_image}
 use Rattle.dc_words.specs.Lists.{lists_of}
-use Rattle.dc_plain.specs.Playing.{answer_to, if_fits, local_at, local_in, Played, played, procs_of, standing_of, world_at, world_in}
+use Rattle.dc_plain.specs.Playing.{AreAmong, Happens, answer_to, if_fits, local_at, local_in, local_of, Played, played, procs_of, standing_of, world_at, world_in}
 use Rattle.dc_model.specs.Guests.{Answer, Guests}
 use Rattle.dc_model.specs.Process.{Local, begun, fits}
 use Rattle.dc_plain.proofs.Fitting.{items_are}
 use Rattle.dc_model.specs.declared.act.Act.{Act}
+use Rattle.dc_plain.specs.declared.applied.Applied.{Applied}
 use Rattle.dc_plain.specs.declared.process.Process.{Process}
 use Rattle.dc_model.specs.declared.visible.Visible.{Visible}
 
@@ -69,11 +70,40 @@ module _ (w : Played) (processes : Vec Process Global) (inputs : Vec (Vec (List 
   pub applied_before : (images : List Image) (p : ℕ) (b : Act) → apply (guests_of images w.inputs) (world_in w) p b ≡ apply (guests_of images (lists_of lists)) (world_at lent visibles) p b
   applied_before images p b = ap (λ xs. apply (guests_of images xs) (world_in w) p b) records ∙ ap (λ x. apply (guests_of images (lists_of lists)) x p b) before
 
+  -- what an act was, on the lent processes
+  pub happens_here : (images : List Image) (p : ℕ) (b : Act) (applied : Applied) → Happens (guests_of images (lists_of lists)) (world_at lent visibles) p b applied (world_at new visibles')
+      → Happens (guests_of images w.inputs) (world_in w) p b applied (world_in (played (with_items processes new).items inputs.items visibles'))
+  happens_here images p b applied is = subst (λ xs. Happens (guests_of images xs) (world_in w) p b applied (world_in (played (with_items processes new).items inputs.items visibles'))) (sym records)
+      (subst (λ old. Happens (guests_of images (lists_of lists)) old p b applied (world_in (played (with_items processes new).items inputs.items visibles'))) (sym before)
+      (subst (λ after. Happens (guests_of images (lists_of lists)) (world_at lent visibles) p b applied after) (sym later) is))
+
 -- the opened world
 pub opens : (images : List loaded.Image) (lists : List (List (List ℕ))) (processes : List Process) (inputs : List (Vec (List ℕ) Global)) (visibles : List Visible)
     → ((p : ℕ) → procs_of processes p ≡ begun (guests_of (map seen_image images) lists) p) → visibles ≡ []
     → world_in (played processes inputs visibles) ≡ opened (guests_of (map seen_image images) lists)
 opens images lists processes inputs visibles begins none = world_is processes inputs visibles ∙ (λ i. record { procs = λ p. begins p i; visibles = none i })
+
+-- a process that is read
+pub local_there : (w : Played) (processes : List Process) (inputs : List (Vec (List ℕ) Global)) (visibles : List Visible) (p : ℕ) (l : Process) → played processes inputs visibles ≡ w
+    → p < length w.processes → l ≡ slice_index_or processes p l → local_of l ≡ (world_in w).procs p
+local_there w processes inputs visibles p l view_is within at = sym (ap (local_at (length processes) p) there)
+    ∙ ap (λ (x : World Guest). x.procs p) (sym (world_is processes inputs visibles) ∙ ap world_in view_is)
+  where
+    inside : p < length processes
+    inside = subst (λ n. p < n) (ap (λ (x : Played). length x.processes) (sym view_is) ∙ length-map processes standing_of) within
+
+    there : slice_get processes p ≡ Some l
+    there = slice_get_read processes (length processes) p l refl inside at
+
+pub count_there : (w : Played) (processes : List Process) (inputs : List (Vec (List ℕ) Global)) (visibles : List Visible) (p : ℕ) (l : Process) → played processes inputs visibles ≡ w
+    → p < length w.processes → l ≡ slice_index_or processes p l → AreAmong (length processes) processes → l.guest.count ≡ length w.processes
+count_there w processes inputs visibles p l view_is within at each = ap (λ (x : Process). x.guest.count) at ∙ each p l inside ∙ sym long
+  where
+    long : length w.processes ≡ length processes
+    long = ap (λ (x : Played). length x.processes) (sym view_is) ∙ length-map processes standing_of
+
+    inside : p < length processes
+    inside = subst (λ n. p < n) long within
 
 -- how many records a process has shown
 pub visible_is : (w : Played) (processes : List Process) (inputs : List (Vec (List ℕ) Global)) (visibles : List Visible) (p : ℕ) (l : Process) → played processes inputs visibles ≡ w

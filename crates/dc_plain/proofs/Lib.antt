@@ -4,3 +4,4 @@ mod Fitting
 mod Moving
 mod Plays
 mod Applying
+mod Ending

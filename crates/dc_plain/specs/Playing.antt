@@ -1,16 +1,21 @@
 -- The code's processes as the failure-free world has them.
-use Rattle.std.specs.Prelude.{◌≡◌, ◌<◌, ◌≤◌, ◌+◌, ◌%◌, ◌^◌, ℕ, All, Bool, not, is_some, true, ◌&&◌, List, [], Option, None, Some, Vec, IfSome, if◌then◌else◌, length, map, slice_get, slice_index, unwrap_or, vec_capacity}
+use Rattle.std.specs.Prelude.{◌≡◌, ◌<◌, ◌+◌, ◌^◌, ℕ, All, Bool, not, is_some, true, ◌&&◌, List, [], Option, None, Some, Vec, IfSome, false, if◌then◌else◌, length, map, slice_get, slice_index, unwrap_or, vec_capacity}
 use Rattle.std.specs.declared.alloc.Global.{Global}
+use Rattle.dc_calls.specs.declared.call.Call as calls
+use Rattle.dc_calls.specs.declared.call.Call.TheVariants.{Send}
 use Rattle.dc_elf.specs.Images.{Image}
+use Rattle.dc_events.specs.declared.event.Next.{Next}
 use Rattle.dc_events.specs.Kinds.{kind_of}
-use Rattle.dc_guest.specs.Answers.{may_answer}
+use Rattle.dc_guest.specs.Answers.{answer_of, may_answer}
 use Rattle.dc_guest.specs.Guest.{Guest, coming, next_of, started}
-use Rattle.dc_model.specs.World.{World, answer_for}
-use Rattle.dc_model.specs.Guests.{Answer, Event, Guests}
+use Rattle.dc_isa.specs.declared.regs.Regs.{Regs}
+use Rattle.dc_model.specs.World.{World, answer_for, happened}
+use Rattle.dc_model.specs.Guests.{Answer, Event, Guests, is_send, is_visible}
 use Rattle.dc_model.specs.Process.{Local, fits}
 use Rattle.dc_model.specs.Guests.Answer.{InputEnd, InputNext, ReceiveFrom}
 use Rattle.dc_model.specs.Guests.Event.{AtSend, AtVisible}
 use Rattle.dc_model.specs.declared.act.Act.{Act}
+use Rattle.dc_plain.specs.declared.applied.Applied.{Applied}
 use Rattle.dc_plain.specs.declared.process.Process.{Process}
 use Rattle.dc_words.specs.Lists.{items_of, lists_of}
 use Rattle.dc_model.specs.declared.visible.Body.{Body}
@@ -127,3 +132,23 @@ local_in n p (Some s) = record { machine = s.guest; inputs_taken = s.inputs_take
 -- the world that they have come to
 abbrev pub world_in : Played → World Guest
 world_in w = record { procs = λ p. local_in (length w.processes) p (slice_get w.processes p); visibles = w.visibles }
+
+-- the registers of a guest
+abbrev pub regs_of : Guest → Regs
+regs_of g = record { x = g.machine.registers; pc = g.machine.pc }
+
+-- what a guest did last, where that ended it
+abbrev pub ending_of : Guest → Option Next
+ending_of g = if g.ended then Some (next_of g) else None
+
+-- whether a call sends a message
+abbrev pub sends_by : Option calls.Call → Bool
+sends_by (Some (Send to from count)) = true
+sends_by _ = false
+
+-- what an act was to a process: the answer that it gives and that fits, the world after it, and whether others see the event
+pub record Happens {Mc : Type 0} (G : Guests Mc) (old : World Mc) (p : ℕ) (act : Act) (applied : Applied) (new : World Mc) : Type 0 where
+  pub answered : answer_to G old p act ≡ Some (answer_of applied.answer)
+  pub new_is : new ≡ happened G old p (answer_of applied.answer)
+  pub shows : applied.shows ≡ is_visible (G.next (old.procs p).machine)
+  pub sends : applied.sends ≡ is_send (G.next (old.procs p).machine)

@@ -1,4 +1,5 @@
 ghost use Rattle.std.specs.Prelude.{◌≡◌, ◌≢◌, ◌≤◌, ◌<◌, ◌*◌, ◌%◌, ◌^◌, false, IfSome, Some, length};
+ghost use Rattle.dc_plain.specs.Playing.{ending_of, regs_of};
 ghost use Rattle.dc_calls.specs.Calls.{Fits};
 ghost use Rattle.dc_guest.specs.Answers.{answer_of, effect_of};
 ghost use Rattle.dc_guest.specs.Guest.{after_answer, coming, next_of, started};
@@ -10,6 +11,7 @@ use crate::memory::Memory;
 use dc_calls::Call;
 use dc_events::Next;
 use dc_guest::{Answer, Effect, Guest};
+use dc_isa::Regs;
 use dc_rv32::Bus;
 use std::marker::Model;
 
@@ -18,14 +20,19 @@ use std::marker::Model;
 pub struct HostedGuest {
     guest: Guest,
     memory: Memory,
+    /// What it did last, where that ended it.
+    last: Next,
 }
 
 impl Model for HostedGuest {
+    ghost use Rattle.std.specs.Prelude.{◌≡◌, true};
     ghost use Rattle.dc_guest.specs.Guest as model;
 
     ghost Value = { model.Guest };
 
     ghost view = { λ h. model.over h.guest h.memory.words.items };
+
+    ghost invariant = { λ h. h.guest.ended ≡ true → model.next_of (model.over h.guest h.memory.words.items) ≡ h.last };
 }
 
 impl HostedGuest {
@@ -39,7 +46,11 @@ impl HostedGuest {
     {
         let memory = Memory { words };
         let guest = Guest::new(number, count, memory.size(), entry);
-        HostedGuest { guest, memory }
+        HostedGuest {
+            guest,
+            memory,
+            last: Next::Retire,
+        }
     }
 
     /// Whether it has ended.
@@ -47,6 +58,31 @@ impl HostedGuest {
         ensures { result ≡ self.now.ended }
     {
         self.guest.has_ended()
+    }
+
+    /// What it did last, where that ended it.
+    pub fn ending(&self) -> Option<Next>
+        ensures { result ≡ ending_of self.now }
+    {
+        if self.guest.has_ended() {
+            Some(self.last)
+        } else {
+            None
+        }
+    }
+
+    /// Its registers.
+    pub fn regs(&self) -> &Regs
+        ensures { result.now ≡ regs_of self.now }
+    {
+        self.guest.regs()
+    }
+
+    /// The words of its memory.
+    pub fn words(&self) -> &[u32]
+        ensures { bytes_in result.now ≡ self.now.machine.memory }
+    {
+        &self.memory.words
     }
 
     /// The call that it makes next, if its next event is one. Nothing is run.
@@ -85,7 +121,10 @@ impl HostedGuest {
         ensures sent { IsSentBy next.now result }
     {
         match self.guest.take(&mut self.memory, next, answer) {
-            Ok(effect) => effect,
+            Ok(effect) => {
+                self.last = *next;
+                effect
+            }
             Err(never) => match never {},
         }
     }

@@ -2,18 +2,23 @@ ghost use Rattle.std.specs.Prelude.{◌≡◌, ◌↔◌, ◌<◌, ◌&&◌, ◌
 ghost use Rattle.std.specs.Option.{option_map};
 ghost use Rattle.dc_elf.specs.Images.{Image as Images};
 ghost use Rattle.dc_guest.specs.Answers.{answer_of};
-ghost use Rattle.dc_guest.specs.Guest.{guests_of};
+ghost use Rattle.dc_guest.specs.Guest.{coming, guests_of};
+ghost use Rattle.dc_model.specs.Guests.{is_send, is_visible};
 ghost use Rattle.dc_model.specs.World.{apply, happened, opened, answer_for};
 ghost use Rattle.dc_elf.specs.Loaded.{CanStart, seen_image};
 ghost use Rattle.dc_words.specs.Lists.{items_of, lists_of};
-ghost use Rattle.dc_plain.specs.Playing.{AreAmong, IsWithin, answer_to, can_be, ends_well, procs_of, world_at, world_in};
+ghost use Rattle.dc_words.specs.Words.{bytes_in};
+ghost use Rattle.dc_plain.specs.Playing.{AreAmong, Happens, IsWithin, answer_to, can_be, ending_of, ends_well, local_of, procs_of, regs_of, world_at, world_in};
 ghost use Rattle.dc_model.specs.Process.{begun};
 ghost use Rattle.dc_plain.specs.declared.process.Process.{Process as Processes};
 ghost use Rattle.dc_model.specs.declared.visible.Visible.{Visible as Records};
 
+use crate::applied::Applied;
 use crate::process::Process;
 use dc_elf::Image;
+use dc_events::Next;
 use dc_guest::Answer;
+use dc_isa::Regs;
 use dc_links::Message;
 use dc_model::{Act, Visible};
 use std::alloc::{AllocError, Global};
@@ -26,6 +31,13 @@ pub enum ApplyFault {
     Illegal,
     /// There was no memory for what it shows or sends.
     Memory,
+}
+
+/// What others see of an event.
+#[derive(Clone, Copy, Debug, PartialEq, Eq)]
+struct Outputs {
+    shows: bool,
+    sends: bool,
 }
 
 /// The input that a process takes next, if there is one.
@@ -112,13 +124,13 @@ fn fitting(processes: &[Process], inputs: &[Vec<Message>], p: u32, act: &Act) ->
     }
 }
 
-/// Takes the next event of a process with its answer. Where there is no memory for what it shows or sends nothing changes.
+/// Takes the next event of a process with its answer, and says what others see of it. Where there is no memory for that nothing changes.
 fn play(
     processes: &mut [Process],
     visibles: &mut Vec<Visible>,
     p: u32,
     answer: &Answer,
-) -> Result<(), AllocError>
+) -> Result<Outputs, AllocError>
     requires process { p < length processes.old }
     requires within { (l : Processes) → slice_get processes.old p ≡ Some l → IsWithin l (answer_of answer.now) }
     requires live { (l : Processes) → slice_get processes.old p ≡ Some l → l.guest.ended ≡ false }
@@ -127,6 +139,8 @@ fn play(
     ensures happened { OnOk result ((images : List Images) (inputs : List (List (List ℕ))) →
         world_at processes.new visibles.new.items
         ≡ happened (guests_of images inputs) (world_at processes.old visibles.old.items) p (answer_of answer.now)) }
+    ensures shows { IfOk result (λ seen. seen.shows ≡ is_visible (coming (procs_of processes.old p).machine)) }
+    ensures sends { IfOk result (λ seen. seen.sends ≡ is_send (coming (procs_of processes.old p).machine)) }
     ensures unchanged { OnErr result (world_at processes.new visibles.new.items ≡ world_at processes.old visibles.old.items) }
     ensures length { length processes.new ≡ length processes.old }
     ensures each { AreAmong (length processes.old) processes.new }
@@ -135,29 +149,35 @@ fn play(
     let process = &mut processes[p as usize];
     process.reserve()?;
     let k = process.visible;
+    let sends = process.sends();
     match process.turn(answer) {
         Some(body) => {
             let _ = visibles.push(Visible { p, k, body });
-            Ok(())
+            Ok(Outputs { shows: true, sends })
         }
-        None => Ok(()),
+        None => Ok(Outputs {
+            shows: false,
+            sends,
+        }),
     }
 }
 
-/// Lets a process take its next event with this act.
+/// Lets a process take its next event with this act, and says what the act was.
 fn apply_to(
     processes: &mut [Process],
     inputs: &[Vec<Message>],
     visibles: &mut Vec<Visible>,
     p: u32,
     act: &Act,
-) -> Result<(), ApplyFault>
+) -> Result<Applied, ApplyFault>
     requires process { p < length processes.old }
     requires few { (procs_of processes.old p).visible < 2 ^ 32 - 1 }
     requires each { AreAmong (length processes.old) processes.old }
     ensures applied { OnOk result ((images : List Images) →
         apply (guests_of images (lists_of inputs.now)) (world_at processes.old visibles.old.items) p act.now
         ≡ Some (world_at processes.new visibles.new.items)) }
+    ensures happens { IfOk result (λ applied. (images : List Images) →
+        Happens (guests_of images (lists_of inputs.now)) (world_at processes.old visibles.old.items) p act.now applied (world_at processes.new visibles.new.items)) }
     ensures illegal { (images : List Images) →
         (result ≡ Err ApplyFault.Illegal)
         ↔ (apply (guests_of images (lists_of inputs.now)) (world_at processes.old visibles.old.items) p act.now ≡ None) }
@@ -168,10 +188,14 @@ fn apply_to(
     let Some(answer) = fitting(processes, inputs, p, act) else {
         return Err(ApplyFault::Illegal);
     };
-    let Ok(()) = play(processes, visibles, p, &answer) else {
+    let Ok(seen) = play(processes, visibles, p, &answer) else {
         return Err(ApplyFault::Memory);
     };
-    Ok(())
+    Ok(Applied {
+        answer,
+        shows: seen.shows,
+        sends: seen.sends,
+    })
 }
 
 /// Each process before its first act.
@@ -241,12 +265,14 @@ impl Plain {
         })
     }
 
-    /// Lets process `p` take its next event with this act. A fault changes nothing.
-    pub fn apply(&mut self, p: u32, act: &Act) -> Result<(), ApplyFault>
+    /// Lets process `p` take its next event with this act, and says what the act was. A fault changes nothing.
+    pub fn apply(&mut self, p: u32, act: &Act) -> Result<Applied, ApplyFault>
         requires process { p < length self.old.processes }
         requires few { ((world_in self.old).procs p).visible < 2 ^ 32 - 1 }
         ensures applied { OnOk result ((images : List Images) →
             apply (guests_of images self.old.inputs) (world_in self.old) p act.now ≡ Some (world_in self.new)) }
+        ensures happens { IfOk result (λ applied. (images : List Images) →
+            Happens (guests_of images self.old.inputs) (world_in self.old) p act.now applied (world_in self.new)) }
         ensures illegal { (images : List Images) →
             (result ≡ Err ApplyFault.Illegal) ↔ (apply (guests_of images self.old.inputs) (world_in self.old) p act.now ≡ None) }
         ensures unchanged { OnErr result (world_in self.new ≡ world_in self.old) }
@@ -267,6 +293,65 @@ impl Plain {
         ensures { result ≡ length self.now.processes }
     {
         self.processes.len()
+    }
+
+    /// Process `p`.
+    fn process(&self, p: u32) -> &Process
+        requires { p < length self.now.processes }
+        ensures local { local_of result.now ≡ (world_in self.now).procs p }
+        ensures count { result.now.guest.count ≡ length self.now.processes }
+    {
+        &self.processes[p as usize]
+    }
+
+    /// The registers of process `p`.
+    pub fn regs(&self, p: u32) -> &Regs
+        requires { p < length self.now.processes }
+        ensures { result.now ≡ regs_of ((world_in self.now).procs p).machine }
+    {
+        self.process(p).guest.regs()
+    }
+
+    /// The words of its memory.
+    pub fn words(&self, p: u32) -> &[u32]
+        requires { p < length self.now.processes }
+        ensures { bytes_in result.now ≡ ((world_in self.now).procs p).machine.machine.memory }
+    {
+        self.process(p).guest.words()
+    }
+
+    /// What it did last, where that ended it.
+    pub fn ending(&self, p: u32) -> Option<Next>
+        requires { p < length self.now.processes }
+        ensures { result ≡ ending_of ((world_in self.now).procs p).machine }
+    {
+        self.process(p).guest.ending()
+    }
+
+    /// How many inputs it took.
+    pub fn inputs_taken(&self, p: u32) -> usize
+        requires { p < length self.now.processes }
+        ensures { result ≡ ((world_in self.now).procs p).inputs_taken }
+    {
+        self.process(p).inputs_taken
+    }
+
+    /// How many messages of process `q` it received.
+    pub fn received(&self, p: u32, q: u32) -> usize
+        requires process { p < length self.now.processes }
+        requires sender { q < length self.now.processes }
+        ensures { result ≡ ((world_in self.now).procs p).received q }
+    {
+        self.process(p).received[q as usize]
+    }
+
+    /// The messages that it sent to process `q`, the first one first.
+    pub fn sent(&self, p: u32, q: u32) -> &[Message]
+        requires process { p < length self.now.processes }
+        requires receiver { q < length self.now.processes }
+        ensures { result.now ≡ ((world_in self.now).procs p).sent q }
+    {
+        &self.process(p).sent[q as usize]
     }
 
     /// How many visible records process `p` has shown.

@@ -6,7 +6,8 @@ ghost use Rattle.dc_guest.specs.Answers.{answer_of};
 ghost use Rattle.dc_guest.specs.Guest.{coming, guests_of};
 ghost use Rattle.dc_elf.specs.Loaded.{CanStart, seen_image};
 ghost use Rattle.dc_words.specs.Lists.{items_of};
-ghost use Rattle.dc_plain.specs.Playing.{CanCount, CanTake, HasRoom, IsWithin, begun_at, body_of, can_be, local_of};
+ghost use Rattle.dc_plain.specs.Playing.{CanCount, CanTake, HasRoom, IsWithin, begun_at, body_of, can_be, local_of, sends_by};
+ghost use Rattle.dc_model.specs.Guests.{is_send};
 ghost use Rattle.dc_model.specs.Process.{moved, took_from, took_input};
 
 use crate::hosted::HostedGuest;
@@ -53,6 +54,13 @@ fn empty_lists(alloc: Global, count: u32) -> Result<Vec<Vec<Message>>, AllocErro
     Ok(lists)
 }
 
+/// Whether a call sends a message.
+fn sends_by(call: Option<Call>) -> bool
+    ensures { result ≡ sends_by call }
+{
+    matches!(call, Some(Call::Send(_, _, _)))
+}
+
 impl Process {
     /// Process `p` of `count` before its first act.
     pub fn new(alloc: Global, p: u32, count: u32, image: &Image) -> Result<Process, AllocError>
@@ -91,6 +99,14 @@ impl Process {
             self.sent[to as usize].reserve(1)?;
         }
         Ok(())
+    }
+
+    /// Whether its next event sends a message.
+    pub fn sends(&self) -> bool
+        requires live { self.now.guest.ended ≡ false }
+        ensures { result ≡ is_send (coming self.now.guest) }
+    {
+        sends_by(self.guest.next_call())
     }
 
     /// Takes its next event with this answer: what it shows, if anything.

@@ -17,23 +17,13 @@ use Rattle.dc_plan.proofs.Passing.{between, gave, passed}
 use Rattle.dc_plan.proofs.Sources.{source_allowed}
 use Rattle.dc_plan.proofs.Stopping.{room_for, stops_allowed, tables_have_room}
 use Rattle.dc_plan.specs.Allowed.{IsAllowed, IsRecord}
-use Rattle.dc_plan.specs.Built.{is_medium_built}
-use Rattle.dc_plan.specs.Plans.{Plan, are_inputs_few, are_inputs_right, at_key, guests_row, has_known_keys, inputs_row, inputs_said, is_input_record, medium_named, medium_row, memory_row, needed, only_if, optional, plan_from, plan_of, protocol_named, protocol_row, input_record_of, record_in, rows, schedule_row, seed_row, stops_row, tested, turns_row}
+use Rattle.dc_plan.specs.Plans.{Plan, are_inputs_few, are_inputs_right, at_key, guests_row, has_known_keys, inputs_row, inputs_said, is_input_record, medium_row, memory_row, needed, optional, plan_from, plan_of, protocol_named, protocol_row, input_record_of, record_in, rows, schedule_row, seed_row, stops_row, tested, turns_row}
 use Rattle.dc_words.specs.Results.{or_fault}
 use Rattle.dc_words.specs.Words.{AllBelow}
 use Rattle.dc_plan.specs.Values.{is_array_of, is_between, is_text, is_whole, items_in, natural_in, text_in, text_or_empty}
 use Rattle.dc_plan.specs.declared.fault.PlanFault.{PlanFault}
 use Rattle.dc_plan.specs.declared.fault.PlanFault.TheVariants.{Range, Text, Unknown}
 use Rattle.dc_plan.specs.declared.keys.Key.TheVariants as key
-use Rattle.dc_plan.specs.declared.plan.Medium.{Medium}
-
--- what passed a test of what was found
-kept : {A : Type 0} (fault : PlanFault) (test : A → Bool) (found : Option A) (x : A) → or_fault fault (only_if test found) ≡ Ok x → test x ≡ true
-kept fault test None x e = absurd (let never : ⊥ = cc in never)
-kept fault test (Some y) x e = ⊎_elim
-    (λ good. let same : Ok y ≡ Ok x = sym (ap (λ b. or_fault fault (if b then Some y else None)) good) ∙ e in let is : y ≡ x = cc in ap test (sym is) ∙ good)
-    (λ bad. let same : Err fault ≡ Ok x = sym (ap (λ b. or_fault fault (if b then Some y else None)) bad) ∙ e in absurd (let never : ⊥ = cc in never))
-    (cases_Bool (test y))
 
 -- each protocol that has a name is one of the seven
 abbrev AllSeven : Option Protocol → Type 0
@@ -75,12 +65,6 @@ protocol_allowed ms m e =
     let value = gave (needed key.Protocol ms) _ m e in
     let name = gave (tested key.Protocol (is_text value.value) true true (text_in value.value)) _ m value.after in
     named_seven name.value m name.after
-
-medium_allowed : (ms : Members) (m : Medium) → medium_row ms ≡ Ok m → is_medium_built m ≡ true
-medium_allowed ms m e =
-    let value = gave (needed key.Medium ms) _ m e in
-    let name = gave (tested key.Medium (is_text value.value) true true (text_in value.value)) _ m value.after in
-    kept _ is_medium_built (medium_named name.value) m name.after
 
 memory_allowed : (ms : Members) (n : ℕ) → memory_row ms ≡ Ok n → (65536 ≤ n) × (n ≤ 1048576) × (n % 4096 ≡ 0)
 memory_allowed ms n e =
@@ -198,7 +182,6 @@ rows_allowed ms plan e =
     let is = said_is _ plan stops.after in
     rw (← is) (record {
       seven = protocol_allowed ms protocol.value protocol.first;
-      medium = medium_allowed ms medium.value medium.first;
       memory_least = sized.0;
       memory_most = sized.1;
       memory_pages = sized.2;

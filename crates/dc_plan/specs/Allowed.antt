@@ -1,10 +1,9 @@
 -- What holds of each plan that is read.
-use Rattle.std.specs.Prelude.{◌≡◌, ◌≤◌, ◌<◌, ◌^◌, ◌%◌, ℕ, false, true, All, List, Option, None, Some, length}
+use Rattle.std.specs.Prelude.{◌≡◌, ◌≤◌, ◌<◌, ◌^◌, ◌%◌, ℕ, false, All, List, Option, None, Some, length}
 use Rattle.std.specs.List.{AllByRecursion}
 use Rattle.dc_limits.specs.declared.bounds.TheConstants.{ENTRIES, INPUT_BYTES}
 use Rattle.dc_limits.specs.declared.sizes.TheConstants.{PROCESSES}
 use Rattle.dc_media.specs.declared.planned.PlannedStop.{PlannedStop}
-use Rattle.dc_plan.specs.Built.{is_medium_built}
 use Rattle.dc_plan.specs.Plans.{Plan, Source, InFile, FromSeed}
 use Rattle.dc_plan.specs.declared.plan.Medium.{Medium}
 use Rattle.dc_protocols.specs.Rules.{is_causal}
@@ -38,7 +37,6 @@ IsRecord bytes = (length bytes ≤ INPUT_BYTES) × AllBelow (2 ^ 8) bytes
 -- a plan that is within every bound
 pub record IsAllowed (plan : Plan) : Type 0 where
   pub seven : is_causal plan.protocol ≡ false
-  pub medium : is_medium_built plan.medium ≡ true
   pub memory_least : 65536 ≤ plan.memory
   pub memory_most : plan.memory ≤ 1048576
   pub memory_pages : plan.memory % 4096 ≡ 0

@@ -15,7 +15,6 @@ use Rattle.dc_protocols.specs.declared.protocol.Protocol.{Protocol}
 use Rattle.dc_protocols.specs.declared.protocol.Protocol.TheVariants as protocol
 use Rattle.dc_plan.specs.Keys.{key_text, is_key}
 use Rattle.dc_plan.specs.Values.{is_array_of, is_between, is_text, is_whole, items_in, names_in, natural_in, text_in, text_or_empty}
-use Rattle.dc_plan.specs.Built.{is_medium_built}
 use Rattle.dc_plan.specs.Stops.{has_stop_keys, has_stop_kinds, has_stop_ranges, is_complete, stop_of}
 use Rattle.dc_plan.specs.declared.fault.PlanError.{PlanError}
 use Rattle.dc_plan.specs.declared.fault.PlanError.TheVariants as error
@@ -76,11 +75,6 @@ protocol_named name = if bytes_eq name (codes "cand") then Some protocol.Cand
 abbrev pub medium_named : List ℕ → Option Medium
 medium_named name = if bytes_eq name (codes "rio") then Some medium.Rio else (if bytes_eq name (codes "disk") then Some medium.Disk else None)
 
--- where it passes a test
-abbrev pub only_if : {A : Type 0} → (A → Bool) → Option A → Option A
-only_if test None = None
-only_if test (Some x) = if test x then Some x else None
-
 -- protocol: the name of a protocol
 abbrev pub protocol_row : Members → Result Protocol PlanFault
 protocol_row ms = needed key.Protocol ms >>= (λ d. tested key.Protocol (is_text d) true true (text_in d)
@@ -89,7 +83,7 @@ protocol_row ms = needed key.Protocol ms >>= (λ d. tested key.Protocol (is_text
 -- medium: the name of a medium
 abbrev pub medium_row : Members → Result Medium PlanFault
 medium_row ms = needed key.Medium ms >>= (λ d. tested key.Medium (is_text d) true true (text_in d)
-    >>= (λ name. or_fault (Range key.Medium) (only_if is_medium_built (medium_named name))))
+    >>= (λ name. or_fault (Range key.Medium) (medium_named name)))
 
 -- memory: 64 kibibytes to 1 mebibyte in pages of 4 kibibytes
 abbrev pub memory_row : Members → Result ℕ PlanFault

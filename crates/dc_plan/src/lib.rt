@@ -1,7 +1,6 @@
 //! Plans: what a run is to be, as a TOML document.
 #![tactic(auto)]
 
-mod built;
 mod fault;
 mod inputs;
 mod keys;

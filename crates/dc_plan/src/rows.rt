@@ -7,7 +7,6 @@ ghost use Rattle.dc_plan.specs.Plans.{guests_row, has, inputs_row, inputs_said, 
 ghost use Rattle.dc_plan.specs.Stops.{stop_of};
 ghost use Rattle.dc_words.specs.Results.{seen};
 
-use crate::built::is_medium_built;
 use crate::fault::PlanFault;
 use crate::inputs::{are_inputs_few, are_inputs_right, is_array_of_lists};
 use crate::keys::{Key, at_key};
@@ -95,8 +94,8 @@ pub fn medium_in(table: &Table) -> Result<Medium, PlanFault>
         return Err(PlanFault::Kind(Key::Medium));
     }
     match medium_named(text_in(value)) {
-        Some(medium) if is_medium_built(medium) => Ok(medium),
-        _ => Err(PlanFault::Range(Key::Medium)),
+        Some(medium) => Ok(medium),
+        None => Err(PlanFault::Range(Key::Medium)),
     }
 }
 

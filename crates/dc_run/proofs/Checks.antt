@@ -2,7 +2,7 @@
 use Rattle.std.proofs.Common.{◌≡◌, ◌∙◌, ◌<◌, inl, inr, zero, suc, ℕ, All, List, [], ◌∷◌, Option, None, Some, IfSome, IsOkAnd, IsSome, Result, Ok, Err, String, true, ap, arith, length, refl, slice_index_or, subst, sym}
 use Rattle.std.proofs.lemmas.List.{length-map}
 use Rattle.std.specs.declared.alloc.Global.{Global}
-use Rattle.dc_acts.specs.Reading.{AreActs, Report}
+use Rattle.dc_report.specs.Reading.{AreActs, Report}
 use Rattle.dc_model.specs.declared.act.Taken.{Taken}
 use Rattle.dc_elf.specs.Loaded.{seen_image}
 use Rattle.dc_plan.specs.Plans.{Plan}
@@ -23,7 +23,7 @@ use Rattle.dc_run.specs.declared.verdict.Verdict.{Verdict}
 use Rattle.dc_run.specs.declared.verdict.Verdict.TheVariants.{LibraryFault}
 use Rattle.dc_run.specs.declared.verdict.Which.{Which}
 use Rattle.dc_run.specs.declared.verdict.Which.TheVariants as which
-use Rattle.dc_run.proofs.Works.{exact_named, exact_refusal, exact_work}
+use Rattle.dc_run.proofs.Works.{exact_named, exact_refusal, exact_work, opened_ended}
 
 -- the acts of a report are of its processes
 one_more : (n : ℕ) (x : Taken) (acts : List Taken) → x.p < n → All (λ y. y.p < n) acts → (k : ℕ) (d : Taken) → k < length (x ∷ acts) → (slice_index_or (x ∷ acts) k d).p < n
@@ -46,6 +46,7 @@ asked_of_run files names which.Schedule asks = asks
 asked_of_run files names which.Report asks = absurd (nothing_there (plan_in files names.plan) asks)
 asked_of_run files names which.Out asks = absurd (nothing_there (plan_in files names.plan) asks)
 asked_of_run files names which.Source asks = absurd (nothing_there (plan_in files names.plan) asks)
+asked_of_run files names which.Journal asks = absurd (nothing_there (plan_in files names.plan) asks)
 
 -- the report, and the output
 pub asked_report : (files : Files) (names : Names) (setting : Setting) (w : Which) → opening_of files names.plan ≡ Ok setting → w ≡ which.Report → IsSome (files names.report) → AsksToCheck files names w
@@ -71,7 +72,7 @@ module _ (files : Files) (names : Names) where
   found_passes f e = ap (λ (r : Result Found Refusal). as_verdict r >>= passed_by) e
 
   by_outcome : (told : Result Checked Verdict) (o : Outcome) (before after : Option (List ℕ)) (refusal : Verdict) → is_refusal refusal ≡ true → Concluded told o before after → IsExact o.verdict refusal told
-  by_outcome (Ok checked) o before after refusal is done = exact_work o.verdict refusal (Ok checked) checked is refl (inl done.0)
+  by_outcome (Ok checked) o before after refusal is done = exact_work o.verdict refusal (Ok checked) checked is refl (inl (opened_ended o.verdict done.0))
   by_outcome (Err v) o before after refusal is done = exact_refusal o.verdict refusal (Err v) is (inr (ap (λ (u : Verdict). Err u) (sym done)))
 
   pub found_exact : (f : Found) (o : Outcome) (before after : Option (List ℕ)) (refusal : Verdict) → found_in files names ≡ Ok f → is_refusal refusal ≡ true → Concluded (passed_by f) o before after

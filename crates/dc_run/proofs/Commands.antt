@@ -1,21 +1,24 @@
 -- How what a command was answered follows from what its work was.
-use Rattle.std.proofs.Common.{◌≡◌, inl, inr, ℕ, List, Option, None, Some, IfSome, IsSome, String, refl, sym, subst}
+use Rattle.std.proofs.Common.{◌≡◌, inl, inr, ℕ, List, Option, None, Some, IfSome, IsOkAnd, IsSome, Result, Ok, Err, String, refl, sym, subst}
 use Rattle.std.specs.declared.alloc.Global.{Global}
+use Rattle.dc_audit.specs.Reading.{Journal as Said}
+use Rattle.dc_words.specs.Results.{◌>>=◌}
 use Rattle.dc_command.specs.declared.command.CommandFault.{CommandFault}
 use Rattle.dc_command.specs.declared.command.CommandFault.TheVariants as command
 use Rattle.dc_run.specs.Assembling.{program_in}
+use Rattle.dc_run.specs.Auditing.{journal_in}
 use Rattle.dc_run.specs.Checking.{checked_in}
 use Rattle.dc_command.specs.Command.{Names, asked_of}
-use Rattle.dc_command.specs.Command.Asked.{ToRun, ToCheck, ToAssemble}
-use Rattle.dc_run.specs.Commands.{Asks, IsExact, IsOpenedFor, may_end, unasked_by, work_of}
-use Rattle.dc_run.specs.Commands.Work.{Run, Check, Assembly}
+use Rattle.dc_command.specs.Command.Asked.{ToRun, ToCheck, ToAssemble, ToAudit}
+use Rattle.dc_run.specs.Commands.{Asks, IfAudit, IsExact, IsOpenedFor, may_end, unasked_by, work_of}
+use Rattle.dc_run.specs.Commands.Work.{Run, Check, Assembly, Audit}
 use Rattle.dc_run.specs.Opening.{Files, AsksToRun, opening_of}
 use Rattle.dc_run.specs.Refusals.{as_verdict}
-use Rattle.dc_run.specs.Settings.{may_have_run, was_opened}
+use Rattle.dc_run.specs.Settings.{has_ended, may_have_run, was_opened}
 use Rattle.dc_run.specs.declared.verdict.Verdict.{Verdict}
 use Rattle.dc_run.specs.declared.verdict.Verdict.TheVariants.{LibraryFault, Usage, WantOfMemory}
 use Rattle.dc_run.specs.declared.verdict.Which.{Which}
-use Rattle.dc_run.specs.declared.verdict.Which.TheVariants.{Source}
+use Rattle.dc_run.specs.declared.verdict.Which.TheVariants.{Journal, Source}
 use Rattle.dc_run.proofs.Works.{exact_named, for_known, opened_named, refused_work}
 
 pub run_exact : (known : Option Files) (words : List (String Global)) (plan : List ℕ) → asked_of words ≡ Some (ToRun plan) → (v refusal : Verdict)
@@ -28,6 +31,11 @@ pub assembly_exact : (known : Option Files) (words : List (String Global)) (sour
 assembly_exact None words source asked v refusal is = tt
 assembly_exact (Some files) words source asked v refusal is = rw asked (exact_named Assembly v refusal (program_in files source) is)
 
+pub audit_exact : (known : Option Files) (words : List (String Global)) (journal : List ℕ) → asked_of words ≡ Some (ToAudit journal) → (v refusal : Verdict)
+    → IfSome known (λ files. IsExact v refusal (journal_in files journal)) → IfSome known (λ files. IsExact v refusal (work_of files words))
+audit_exact None words journal asked v refusal is = tt
+audit_exact (Some files) words journal asked v refusal is = rw asked (exact_named Audit v refusal (journal_in files journal) is)
+
 pub run_asks : (known : Option Files) (words : List (String Global)) (plan : List ℕ) → asked_of words ≡ Some (ToRun plan) → (v : Verdict) (which : Which)
     → IfSome known (λ files. v ≡ LibraryFault which → AsksToRun files plan which) → IfSome known (λ files. v ≡ LibraryFault which → Asks files words which)
 run_asks None words plan asked v which asks = tt
@@ -37,6 +45,21 @@ pub assembly_asks : (known : Option Files) (words : List (String Global)) (sourc
     → (v ≡ LibraryFault which → which ≡ Source) → IfSome known (λ files. v ≡ LibraryFault which → IsSome (files source)) → IfSome known (λ files. v ≡ LibraryFault which → Asks files words which)
 assembly_asks None words source asked v which named there = tt
 assembly_asks (Some files) words source asked v which named there = λ is. rw asked (named is, there is)
+
+pub audit_asks : (known : Option Files) (words : List (String Global)) (journal : List ℕ) → asked_of words ≡ Some (ToAudit journal) → (v : Verdict) (which : Which)
+    → (v ≡ LibraryFault which → which ≡ Journal) → IfSome known (λ files. v ≡ LibraryFault which → IsSome (files journal)) → IfSome known (λ files. v ≡ LibraryFault which → Asks files words which)
+audit_asks None words journal asked v which named there = tt
+audit_asks (Some files) words journal asked v which named there = λ is. rw asked (named is, there is)
+
+-- what is said of a told journal is said of the words' work
+pub audit_says : (known : Option Files) (words : List (String Global)) (journal : List ℕ) (P : Said → Type 0) → asked_of words ≡ Some (ToAudit journal) → IfSome known (λ files. IsOkAnd (journal_in files journal) P)
+    → IfSome known (λ files. IsOkAnd (work_of files words) (λ work. IfAudit work P))
+audit_says None words journal P asked is = tt
+audit_says (Some files) words journal P asked is = rw asked (by (journal_in files journal) is)
+  where
+    by : (r : Result Said Verdict) → IsOkAnd r P → IsOkAnd (r >>= (λ said. Ok (Audit said))) (λ work. IfAudit work P)
+    by (Ok said) holds = holds
+    by (Err v) holds = holds
 
 -- words that ask for nothing, or no memory to read them
 pub unasked_opened : (known : Option Files) (words : List (String Global)) (fault : CommandFault) (answered : Verdict) → answered ≡ unasked_by fault → (fault ≡ command.Usage → asked_of words ≡ None)
@@ -63,3 +86,8 @@ module _ (words : List (String Global)) (v : Verdict) where
       → IfSome known (λ files. IsOpenedFor may_end v (work_of files words))
   assembly_opened None source asked is = tt
   assembly_opened (Some files) source asked is = rw asked (opened_named Assembly (λ program u. was_opened u) may_end v (λ program. refl) (program_in files source) is)
+
+  pub audit_opened : (known : Option Files) (journal : List ℕ) → asked_of words ≡ Some (ToAudit journal) → IfSome known (λ files. IsOpenedFor (λ said u. has_ended u) v (journal_in files journal))
+      → IfSome known (λ files. IsOpenedFor may_end v (work_of files words))
+  audit_opened None journal asked is = tt
+  audit_opened (Some files) journal asked is = rw asked (opened_named Audit (λ said u. has_ended u) may_end v (λ said. refl) (journal_in files journal) is)

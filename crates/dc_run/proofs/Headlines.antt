@@ -1,39 +1,37 @@
 -- A run with its report keeps the promise.
 use Rattle.std.proofs.Common.{◌≡◌, ◌∙◌, ◌⊎◌, inl, inr, true, sym, subst, All, IfSome, IsOkAnd, List, [], ◌∷◌, Option, None, Some, Ok, ap, length, refl, ℕ}
 use Rattle.std.proofs.lemmas.List.Elements.{All-cons, All-nil}
-use Rattle.dc_acts.specs.Reports.{report_text}
-use Rattle.dc_course.specs.Courses.{IsCourse, counts_of}
+use Rattle.dc_report.specs.Reports.{report_text}
 use Rattle.dc_course.specs.Courses.{account_of as run_account}
 use Rattle.dc_course.specs.Headline.{Setting}
 use Rattle.dc_course.specs.Running.{output}
-use Rattle.dc_course.specs.Lent.{TellsStores, capped_by}
-use Rattle.dc_media.specs.Devices.{of_words}
-use Rattle.dc_rio.specs.Segments.{SegmentsLeft}
 use Rattle.dc_course.specs.declared.course.Course.{Course}
 use Rattle.dc_model.specs.declared.entry.Entry.{Entry}
 use Rattle.dc_model.specs.declared.entry.Entry.TheVariants.{Turn, Stop, Power}
 use Rattle.dc_schedule.specs.Entries.{AreEntries, IsEntry, clock_after}
 use Rattle.dc_world.specs.Worlds.{IsOfProcesses}
-use Rattle.dc_media.specs.declared.keeps.Keeps as keeps
-use Rattle.dc_run.specs.Headline.{IsReported, Loan, Reports, SinkCourse, unreported, verdict_at}
-use Rattle.dc_run.specs.Opening.{Files, opening_of}
+use Rattle.dc_world.specs.declared.faults.OpenFault.{OpenFault}
+use Rattle.dc_world.specs.declared.faults.OpenFault.TheVariants as opening
+use Rattle.dc_plan.specs.declared.plan.Medium.{Medium}
+use Rattle.dc_run.specs.Headline.{IsKept, IsReported, Loan, Reports, SinkCourse, unopened_by, unreported, verdict_at}
+use Rattle.dc_run.specs.Media.{Devices}
+use Rattle.dc_run.specs.Opening.{Files, medium_at, opening_of}
 use Rattle.dc_run.specs.Outcomes.{status_of}
 use Rattle.dc_run.specs.Refusals.{as_verdict}
 use Rattle.dc_course.specs.declared.ending.Ending.{Ending}
 use Rattle.dc_course.specs.declared.ending.Ending.TheVariants as ending
-use Rattle.dc_run.specs.Settings.{is_free, may_have_run, was_opened}
+use Rattle.dc_run.specs.Settings.{has_ended, is_free, may_have_run}
 use Rattle.dc_run.specs.declared.verdict.Verdict.{Verdict}
 use Rattle.dc_run.specs.declared.outcome.Outcome.{Outcome}
 use Rattle.dc_run.specs.declared.verdict.Did.TheVariants.{Run}
 
 -- with the report of what the run came to
-pub with_report : {S : Type 0} (words : keeps.Ghosts S) (setting : Setting) (run : Course) (outcome o : Outcome) (lent : Loan S) (out report : SinkCourse)
+pub with_report : {S : Type 0} (on : Devices S) (setting : Setting) (run : Course) (outcome o : Outcome) (lent : Loan S) (out report : SinkCourse)
     → outcome ≡ record { verdict = verdict_at run.ending; did = Run; acts = run.acts; marks = run.marks; lines = run.lines; difference = None }
-    → (TellsStores (of_words words) (length setting.images) lent.before lent.after
-    → IsCourse setting (run_account run) run.ending (output out.before out.after) (counts_of words.stops (capped_by words.calls) lent.before lent.after) (λ core dev. SegmentsLeft words setting core dev))
+    → IsKept on setting (run_account run) run.ending (output out.before out.after) lent
     → Reports outcome.verdict o.verdict (report_text (status_of outcome.verdict) (length outcome.marks.items) outcome.acts.items outcome.lines) report
-    → o.acts ≡ outcome.acts → o.marks ≡ outcome.marks → o.lines ≡ outcome.lines → IsReported words setting o lent out report
-with_report words setting run outcome o lent out report is kept reports acts marks lines = rw (acts, marks, lines) (rw is (record { ending = run.ending; kept = kept; report_told = rw is at reports }))
+    → o.acts ≡ outcome.acts → o.marks ≡ outcome.marks → o.lines ≡ outcome.lines → IsReported on setting o lent out report
+with_report on setting run outcome o lent out report is kept reports acts marks lines = rw (acts, marks, lines) (rw is (record { ending = run.ending; kept = kept; report_told = rw is at reports }))
 
 -- the report of what it came to, by the run
 pub run_report : (run : Course) (outcome : Outcome) (verdict : Verdict) (sink : SinkCourse)
@@ -42,17 +40,18 @@ pub run_report : (run : Course) (outcome : Outcome) (verdict : Verdict) (sink : 
     → Reports (verdict_at run.ending) verdict (report_text (status_of (verdict_at run.ending)) (length run.marks.items) run.acts.items run.lines) sink
 run_report run outcome verdict sink is reports = rw is at reports
 
--- wherever the files open it with this setting
-pub opened_so : (known : Option Files) (plan : List ℕ) (setting : Setting) (P : Setting → Type 0) → ((files : Files) → known ≡ Some files → opening_of files plan ≡ Ok setting) → P setting
-    → IfSome known (λ files. IsOkAnd (as_verdict (opening_of files plan)) P)
-opened_so None plan setting P opened holds = tt
-opened_so (Some files) plan setting P opened holds = rw (opened files refl) holds
+-- wherever the files open it with this setting, on this medium
+pub opened_so : (known : Option Files) (plan : List ℕ) (setting : Setting) (medium : Medium) (P : Medium → Setting → Type 0) → ((files : Files) → known ≡ Some files → opening_of files plan ≡ Ok setting)
+    → ((files : Files) → known ≡ Some files → medium_at files plan ≡ medium) → P medium setting → IfSome known (λ files. IsOkAnd (as_verdict (opening_of files plan)) (P (medium_at files plan)))
+opened_so None plan setting medium P opened said holds = tt
+opened_so (Some files) plan setting medium P opened said holds = rw (opened files refl) (subst (λ m. P m setting) (sym (said files refl)) holds)
 
-pub reported_for : {S : Type 0} (words : keeps.Ghosts S) (known : Option Files) (plan : List ℕ) (setting : Setting) (o : Outcome) (lent : Loan S) (out report : SinkCourse)
+pub reported_for : {S : Type 0} (on : Medium → Devices S) (known : Option Files) (plan : List ℕ) (setting : Setting) (medium : Medium) (o : Outcome) (lent : Loan S) (out report : SinkCourse)
     → ((files : Files) → known ≡ Some files → opening_of files plan ≡ Ok setting)
-    → IsReported words setting o lent out report
-    → IfSome known (λ files. IsOkAnd (as_verdict (opening_of files plan)) (λ s. IsReported words s o lent out report))
-reported_for words known plan setting o lent out report opened kept = opened_so known plan setting (λ s. IsReported words s o lent out report) opened kept
+    → ((files : Files) → known ≡ Some files → medium_at files plan ≡ medium)
+    → IsReported (on medium) setting o lent out report
+    → IfSome known (λ files. IsOkAnd (as_verdict (opening_of files plan)) (λ s. IsReported (on (medium_at files plan)) s o lent out report))
+reported_for on known plan setting medium o lent out report opened said kept = opened_so known plan setting medium (λ m s. IsReported (on m) s o lent out report) opened said kept
 
 -- an entry of a schedule names processes that are there
 entry_named : (n last : ℕ) (entry : Entry) → IsEntry n last entry → IsOfProcesses n entry
@@ -66,7 +65,7 @@ entries_named n last [] are = All-nil (IsOfProcesses n)
 entries_named n last (entry ∷ entries) are = All-cons (IsOfProcesses n) entry entries (entry_named n last entry are.0) (entries_named n (clock_after last entry) entries are.1)
 
 -- a run that ended so comes to a verdict of a command that was carried out, or to a free one
-ended_so : (e : Ending) → (was_opened (verdict_at e) ≡ true) ⊎ (is_free (verdict_at e) ≡ true)
+ended_so : (e : Ending) → (has_ended (verdict_at e) ≡ true) ⊎ (is_free (verdict_at e) ≡ true)
 ended_so ending.Done = inl refl
 ended_so ending.Unfinished = inl refl
 ended_so (ending.Device p) = inr refl
@@ -74,7 +73,7 @@ ended_so (ending.Store p fault) = inr refl
 ended_so ending.Sink = inl refl
 
 -- also where its report was not written
-unreported_so : (e : Ending) → (was_opened (unreported (verdict_at e)) ≡ true) ⊎ (is_free (unreported (verdict_at e)) ≡ true)
+unreported_so : (e : Ending) → (has_ended (unreported (verdict_at e)) ≡ true) ⊎ (is_free (unreported (verdict_at e)) ≡ true)
 unreported_so ending.Done = inl refl
 unreported_so ending.Unfinished = inl refl
 unreported_so (ending.Device p) = inr refl
@@ -82,9 +81,14 @@ unreported_so (ending.Store p fault) = inr refl
 unreported_so ending.Sink = inl refl
 
 -- so with its report
-pub reported_so : (e : Ending) (v : Verdict) (text : List ℕ) (sink : SinkCourse) → Reports (verdict_at e) v text sink → (was_opened v ≡ true) ⊎ (is_free v ≡ true)
-reported_so e v text sink (inl whole) = subst (λ u. (was_opened u ≡ true) ⊎ (is_free u ≡ true)) (sym whole.0) (ended_so e)
-reported_so e v text sink (inr cut) = subst (λ u. (was_opened u ≡ true) ⊎ (is_free u ≡ true)) (sym cut.0) (unreported_so e)
+pub reported_so : (e : Ending) (v : Verdict) (text : List ℕ) (sink : SinkCourse) → Reports (verdict_at e) v text sink → (has_ended v ≡ true) ⊎ (is_free v ≡ true)
+reported_so e v text sink (inl whole) = subst (λ u. (has_ended u ≡ true) ⊎ (is_free u ≡ true)) (sym whole.0) (ended_so e)
+reported_so e v text sink (inr cut) = subst (λ u. (has_ended u ≡ true) ⊎ (is_free u ≡ true)) (sym cut.0) (unreported_so e)
+
+-- one that was not opened came to what no told file decides
+pub free_unopened : (fault : OpenFault) → is_free (unopened_by fault) ≡ true
+free_unopened opening.Memory = refl
+free_unopened (opening.Failed p) = refl
 
 -- and in any case to one that a run may come to
 ended_may : (e : Ending) → may_have_run (verdict_at e) ≡ true

@@ -1,9 +1,11 @@
 mod Works
 mod Commands
 mod Openings
+mod Audits
 mod Checks
 mod Headlines
 mod Ends
 mod Given
 mod Passed
 mod Leaving
+mod OnMedia

@@ -119,6 +119,7 @@ asked_guest files plan names w same (q, is, asks) = subst (AsksAtPlan files plan
 pub asked_by_name : (files : Files) (name : List ℕ) (plan : Plan) (w : Which) → plan_in files name ≡ Ok plan → AsksAtPlan files plan w → AsksToRun files name w
 asked_by_name files name plan which.Plan e asks = absurd asks
 asked_by_name files name plan which.Source e asks = absurd asks
+asked_by_name files name plan which.Journal e asks = absurd asks
 asked_by_name files name plan which.Report e asks = absurd asks
 asked_by_name files name plan which.Out e asks = absurd asks
 asked_by_name files name plan (which.Guest q) e asks = rw e asks

@@ -3,19 +3,17 @@ use Rattle.std.proofs.Common.{◌≡◌, ◌∙◌, ◌<◌, ◌≤◌, inl, inr
 use Rattle.std.proofs.lemmas.List.{append-nil, length-map, length-reverse}
 use Rattle.std.proofs.lemmas.Option.{slice_get_within}
 use Rattle.dc_acts.specs.Lines.{text_of}
-use Rattle.dc_acts.specs.Reading.{is_status, report_of}
-use Rattle.dc_acts.specs.Reports.{report_text}
+use Rattle.dc_report.specs.Reading.{is_status, report_of}
+use Rattle.dc_report.specs.Reports.{report_text}
 use Rattle.dc_check.specs.Findings.{finding_of}
 use Rattle.dc_check.specs.Findings.Finding.{Passes}
 use Rattle.dc_course.specs.Headline.{Account, IsEnding, IsHeadline, Last, Setting, Shows, marks_at, takes_part, torn_at, turn_after}
 use Rattle.dc_course.specs.Headline.Last.{Whole, Broken}
-use Rattle.dc_course.specs.Lent.{TellsStores}
-use Rattle.dc_media.specs.Devices.{of_words}
 use Rattle.dc_course.specs.declared.ending.Ending.{Ending}
 use Rattle.dc_course.specs.declared.ending.Ending.TheVariants as ending
 use Rattle.dc_media.specs.Causes.{Rose}
 use Rattle.dc_media.specs.Told.{Becomes}
-use Rattle.dc_media.specs.declared.keeps.Keeps as keeps
+use Rattle.dc_run.specs.Media.{Devices}
 use Rattle.dc_model.specs.Repeats.{Note, RepeatsAgree, noted, notes, numbers}
 use Rattle.dc_model.specs.World.{thin}
 use Rattle.dc_model.specs.declared.entry.Entry.{Entry}
@@ -142,8 +140,8 @@ reported_whole : (stood v : Verdict) (text : List ℕ) (sink : SinkCourse) → I
 reported_whole stood v text sink calm (inl whole) = whole.1
 reported_whole stood v text sink calm (inr cut) = absurd (no_rise sink.faults_before sink.faults_after calm cut.1)
 
-module _ {S : Type 0} (words : keeps.Ghosts S) (setting : Setting) (o : Outcome) (lent : Loan S) (out report : SinkCourse) (given : IsGivenRun setting.images setting.inputs setting.schedule)
-    (is : IsReported words setting o lent out report) (tells : TellsStores (of_words words) (length setting.images) lent.before lent.after) (calm : IsCalm out.faults_before out.faults_after)
+module _ {S : Type 0} (on : Devices S) (setting : Setting) (o : Outcome) (lent : Loan S) (out report : SinkCourse) (given : IsGivenRun setting.images setting.inputs setting.schedule)
+    (is : IsReported on setting o lent out report) (tells : on.tell (length setting.images) lent.before lent.after) (calm : IsCalm out.faults_before out.faults_after)
     (calm' : IsCalm report.faults_before report.faults_after) (sink : o.verdict ≡ SinkFault outlet.Out → Rose out.faults_before out.faults_after)
     (empty : out.before ≡ Some []) (empty' : report.before ≡ Some []) where
   not_sink : is.ending ≡ ending.Sink → ⊥
@@ -173,3 +171,16 @@ sink_ending (ending.Device p) v text sink (inr cut) e = absurd (let no_way : Dev
 sink_ending (ending.Store p why) v text sink (inl whole) e = absurd (let no_way : StoreRefused p why ≡ SinkFault outlet.Out = sym whole.0 ∙ e in let never : ⊥ = cc in never)
 sink_ending (ending.Store p why) v text sink (inr cut) e = absurd (let no_way : StoreRefused p why ≡ SinkFault outlet.Out = sym cut.0 ∙ e in let never : ⊥ = cc in never)
 sink_ending ending.Sink v text sink reports e = refl
+
+-- or by a device
+pub device_ending : (e : Ending) (v : Verdict) (text : List ℕ) (sink : SinkCourse) (p : ℕ) → Reports (verdict_at e) v text sink → v ≡ DeviceFault p → e ≡ ending.Device p
+device_ending ending.Done v text sink p (inl whole) e = absurd (let no_way : Done ≡ DeviceFault p = sym whole.0 ∙ e in let never : ⊥ = cc in never)
+device_ending ending.Done v text sink p (inr cut) e = absurd (let no_way : SinkFault outlet.Report ≡ DeviceFault p = sym cut.0 ∙ e in let never : ⊥ = cc in never)
+device_ending ending.Unfinished v text sink p (inl whole) e = absurd (let no_way : Unfinished ≡ DeviceFault p = sym whole.0 ∙ e in let never : ⊥ = cc in never)
+device_ending ending.Unfinished v text sink p (inr cut) e = absurd (let no_way : SinkFault outlet.Report ≡ DeviceFault p = sym cut.0 ∙ e in let never : ⊥ = cc in never)
+device_ending (ending.Device q) v text sink p (inl whole) e = let same : DeviceFault q ≡ DeviceFault p = sym whole.0 ∙ e in let is : q ≡ p = cc in ap ending.Device is
+device_ending (ending.Device q) v text sink p (inr cut) e = let same : DeviceFault q ≡ DeviceFault p = sym cut.0 ∙ e in let is : q ≡ p = cc in ap ending.Device is
+device_ending (ending.Store q why) v text sink p (inl whole) e = absurd (let no_way : StoreRefused q why ≡ DeviceFault p = sym whole.0 ∙ e in let never : ⊥ = cc in never)
+device_ending (ending.Store q why) v text sink p (inr cut) e = absurd (let no_way : StoreRefused q why ≡ DeviceFault p = sym cut.0 ∙ e in let never : ⊥ = cc in never)
+device_ending ending.Sink v text sink p (inl whole) e = absurd (let no_way : SinkFault outlet.Out ≡ DeviceFault p = sym whole.0 ∙ e in let never : ⊥ = cc in never)
+device_ending ending.Sink v text sink p (inr cut) e = absurd (let no_way : SinkFault outlet.Out ≡ DeviceFault p = sym cut.0 ∙ e in let never : ⊥ = cc in never)

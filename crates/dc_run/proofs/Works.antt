@@ -5,15 +5,36 @@ use Rattle.dc_run.specs.Commands.{IsExact, IsOpenedFor}
 use Rattle.dc_words.specs.Results.{◌>>=◌}
 use Rattle.dc_run.specs.Opening.{Files}
 use Rattle.dc_run.specs.Refusals.{as_verdict, verdict_of}
-use Rattle.dc_run.specs.Settings.{is_free, is_free_refusal, is_of_run, is_refusal, may_have_run, stands_in, was_opened}
+use Rattle.dc_run.specs.Settings.{is_free, has_ended, is_free_refusal, is_of_run, is_refusal, may_have_run, stands_in, was_opened}
 use Rattle.dc_run.specs.declared.refusal.Refusal.{Refusal}
 use Rattle.dc_run.specs.declared.refusal.Refusal.TheVariants as refusal
 use Rattle.dc_run.specs.declared.verdict.Verdict.{Verdict}
-use Rattle.dc_run.specs.declared.verdict.Verdict.TheVariants.{Done, Unfinished, Usage, PlanRefused, GuestRefused, Missing, LibraryFault, DeviceFault, SinkFault, NotARun, Differs, WantOfMemory, ScheduleRefused, StoreRefused, ReportRefused, AsmRefused}
+use Rattle.dc_run.specs.declared.verdict.Verdict.TheVariants.{Done, Unfinished, Usage, PlanRefused, GuestRefused, Missing, LibraryFault, DeviceFault, SinkFault, NotARun, Differs, WantOfMemory, ScheduleRefused, StoreRefused, ReportRefused, AsmRefused, JournalRefused, NotSaved}
 
 pub for_known : (known : Option Files) {P : Files → Type 0} → ((files : Files) → known ≡ Some files → P files) → IfSome known P
 for_known None at = tt
 for_known (Some files) at = at files refl
+
+-- what was opened has ended
+pub opened_ended : (v : Verdict) → was_opened v ≡ true → has_ended v ≡ true
+opened_ended (NotSaved event line) e = refl
+opened_ended Done e = e
+opened_ended Unfinished e = e
+opened_ended Usage e = e
+opened_ended (PlanRefused fault) e = e
+opened_ended (GuestRefused p fault) e = e
+opened_ended (Missing which) e = e
+opened_ended (LibraryFault which) e = e
+opened_ended (DeviceFault p) e = e
+opened_ended (SinkFault outlet) e = e
+opened_ended (NotARun position) e = e
+opened_ended (Differs line) e = e
+opened_ended WantOfMemory e = e
+opened_ended (ScheduleRefused fault) e = e
+opened_ended (StoreRefused p fault) e = e
+opened_ended (ReportRefused fault) e = e
+opened_ended (AsmRefused fault) e = e
+opened_ended (JournalRefused fault) e = e
 
 -- a refusal is no free verdict, and none of work that was carried out
 refusal_bound : (free opened : Bool) → (not free && not opened) ≡ true → (free ≡ false) × (opened ≡ false)
@@ -21,9 +42,9 @@ refusal_bound true opened e = absurd (true≢false (sym e))
 refusal_bound false true e = absurd (true≢false (sym e))
 refusal_bound false false e = (refl, refl)
 
-pub no_refusal : (v refusal : Verdict) → is_refusal refusal ≡ true → (was_opened v ≡ true) ⊎ (is_free v ≡ true) → v ≡ refusal → ⊥
-no_refusal v refusal is (inl opened) e = true≢false (sym opened ∙ ap was_opened e ∙ (refusal_bound (is_free refusal) (was_opened refusal) is).1)
-no_refusal v refusal is (inr free) e = true≢false (sym free ∙ ap is_free e ∙ (refusal_bound (is_free refusal) (was_opened refusal) is).0)
+pub no_refusal : (v refusal : Verdict) → is_refusal refusal ≡ true → (has_ended v ≡ true) ⊎ (is_free v ≡ true) → v ≡ refusal → ⊥
+no_refusal v refusal is (inl ended) e = true≢false (sym ended ∙ ap has_ended e ∙ (refusal_bound (is_free refusal) (has_ended refusal) is).1)
+no_refusal v refusal is (inr free) e = true≢false (sym free ∙ ap is_free e ∙ (refusal_bound (is_free refusal) (has_ended refusal) is).0)
 
 -- what may stand in is free
 pub stands_free : (v : Verdict) → stands_in v ≡ true → is_free v ≡ true
@@ -43,6 +64,8 @@ stands_free (Differs line) e = e
 stands_free (ScheduleRefused fault) e = e
 stands_free (ReportRefused fault) e = e
 stands_free (AsmRefused fault) e = e
+stands_free (JournalRefused fault) e = e
+stands_free (NotSaved event line) e = e
 
 -- a refusal of the opening or of a check is no verdict of a run
 pub closed_refusal : (r : Refusal) → may_have_run (verdict_of r) ≡ false
@@ -74,7 +97,7 @@ refused_work ends v (Ok x) closed (inr e) = absurd (let never : ⊥ = cc in neve
 refused_work ends v (Err refusal) closed agrees = closed
 
 -- work that is there was carried out, but for a free verdict
-pub exact_work : {A : Type 0} (v refusal : Verdict) (told : Result A Verdict) (x : A) → is_refusal refusal ≡ true → told ≡ Ok x → (was_opened v ≡ true) ⊎ (is_free v ≡ true) → IsExact v refusal told
+pub exact_work : {A : Type 0} (v refusal : Verdict) (told : Result A Verdict) (x : A) → is_refusal refusal ≡ true → told ≡ Ok x → (has_ended v ≡ true) ⊎ (is_free v ≡ true) → IsExact v refusal told
 exact_work v refusal told x is there done = record { only = λ e. absurd (no_refusal v refusal is done e); where_told = λ e. absurd (let never : ⊥ = cc in never) }
 
 pub opened_work : {A : Type 0} (ends : A → Verdict → Bool) (v : Verdict) (told : Result A Verdict) (x : A) → told ≡ Ok x → (ends x v ≡ true) ⊎ (stands_in v ≡ true) → IsOpenedFor ends v told

@@ -1,7 +1,7 @@
 -- What checking an output comes to, by the told files.
 use Rattle.std.specs.Prelude.{◌≡◌, ℕ, List, [], ◌∷◌, ◌++◌, Option, Some, None, true, IsOkAnd, IsSome, Result, Ok, Err, codes, decimal, length, option_map}
-use Rattle.dc_acts.specs.Reading.{Report, report_of}
-use Rattle.dc_acts.specs.declared.fault.ReportFault.{ReportFault}
+use Rattle.dc_report.specs.Reading.{Report, report_of}
+use Rattle.dc_report.specs.declared.fault.ReportFault.{ReportFault}
 use Rattle.dc_check.specs.Findings.{Finding, finding_of, seen_difference, seen_finding}
 use Rattle.dc_check.specs.Findings.{Finding as found}
 use Rattle.dc_check.specs.declared.finding.Difference.{Difference}
@@ -107,4 +107,5 @@ abbrev pub AsksToCheck : Files → Names → Which → Type 0
 AsksToCheck files names which.Report = IsOkAnd (opening_of files names.plan) (λ setting. IsSome (files names.report))
 AsksToCheck files names which.Out = IsOkAnd (opening_of files names.plan) (λ setting. IsOkAnd (report_for files setting names.report) (λ report. IsSome (files names.out)))
 AsksToCheck files names which.Source = ⊥
+AsksToCheck files names which.Journal = ⊥
 AsksToCheck files names which = AsksToRun files names.plan which

@@ -1,32 +1,35 @@
 -- What a command comes to, by the words and the told files.
-use Rattle.std.specs.Prelude.{◌≡◌, ◌⊎◌, ℕ, Bool, false, true, List, Some, length, IsOkAnd, IsSome, IsSomeAnd, Result, Ok, Err, String}
+use Rattle.std.specs.Prelude.{◌≡◌, ◌⊎◌, ℕ, Bool, false, true, List, Option, Some, length, IsOkAnd, IsSome, IsSomeAnd, Result, Ok, Err, String}
 use Rattle.std.specs.declared.alloc.Global.{Global}
 use Rattle.dc_asm.specs.declared.forms.Meant.{Meant}
+use Rattle.dc_audit.specs.Reading.{Journal}
 use Rattle.dc_run.specs.Assembling.{program_in}
+use Rattle.dc_run.specs.Auditing.{journal_in}
 use Rattle.dc_run.specs.Checking.{AsksToCheck, Checked, Found, checked_in, found_in}
 use Rattle.dc_command.specs.Command.{Asked, asked_of}
-use Rattle.dc_command.specs.Command.Asked.{ToRun, ToCheck, ToAssemble}
+use Rattle.dc_command.specs.Command.Asked.{ToRun, ToCheck, ToAssemble, ToAudit}
 use Rattle.dc_command.specs.declared.command.CommandFault.{CommandFault}
 use Rattle.dc_command.specs.declared.command.CommandFault.TheVariants as command
 use Rattle.dc_words.specs.Results.{◌>>=◌, or_fault}
 use Rattle.dc_course.specs.Headline.{Setting}
-use Rattle.dc_course.specs.Lent.{TellsStores}
-use Rattle.dc_media.specs.Devices.{of_words}
-use Rattle.dc_media.specs.declared.keeps.Keeps as keeps
+use Rattle.dc_plan.specs.declared.plan.Medium.{Medium}
+use Rattle.dc_plan.specs.declared.plan.Medium.TheVariants as medium
 use Rattle.dc_run.specs.Headline.{SinkCourse}
-use Rattle.dc_run.specs.Opening.{Files, AsksToRun, opening_of}
+use Rattle.dc_run.specs.Media.{Devices}
+use Rattle.dc_run.specs.Opening.{Files, AsksToRun, medium_at, opening_of}
 use Rattle.dc_run.specs.Refusals.{as_verdict}
-use Rattle.dc_run.specs.Settings.{IsCalm, may_have_run, stands_in, was_opened}
+use Rattle.dc_run.specs.Settings.{IsCalm, has_ended, may_have_run, stands_in, was_opened}
 use Rattle.dc_run.specs.declared.verdict.Verdict.{Verdict}
-use Rattle.dc_run.specs.declared.verdict.Verdict.TheVariants.{Done, Unfinished, Usage, WantOfMemory}
+use Rattle.dc_run.specs.declared.verdict.Verdict.TheVariants.{Done, NotSaved, Unfinished, Usage, WantOfMemory}
 use Rattle.dc_run.specs.declared.verdict.Which.{Which}
-use Rattle.dc_run.specs.declared.verdict.Which.TheVariants.{Source}
+use Rattle.dc_run.specs.declared.verdict.Which.TheVariants.{Journal as OfJournal, Source}
 
--- what there is to carry out: a run that is opened, an output that passes, or a source's program
+-- what there is to carry out: a run that is opened, an output that passes, a source's program, or a journal that is audited
 pub data Work : Type 0 where
   Run : (setting : Setting) → Work
   Check : (checked : Checked) → Work
   Assembly : (program : List Meant) → Work
+  Audit : (journal : Journal) → Work
 
 -- the verdict of words that are no command's
 abbrev pub unasked_by : CommandFault → Verdict
@@ -38,6 +41,7 @@ abbrev pub work_by : Files → Asked → Result Work Verdict
 work_by files (ToRun plan) = as_verdict (opening_of files plan) >>= (λ setting. Ok (Run setting))
 work_by files (ToCheck names) = checked_in files names >>= (λ checked. Ok (Check checked))
 work_by files (ToAssemble source) = program_in files source >>= (λ program. Ok (Assembly program))
+work_by files (ToAudit journal) = journal_in files journal >>= (λ said. Ok (Audit said))
 
 -- the words, then what their command wants: the first that is refused decides
 abbrev pub work_of : Files → List (String Global) → Result Work Verdict
@@ -58,11 +62,17 @@ abbrev pub IfAssembly : Work → (List Meant → Type 0) → Type 0
 IfAssembly (Assembly program) P = P program
 IfAssembly _ P = Unit {0}
 
+-- the work is the audit of a journal of which this holds
+abbrev pub IfAudit : Work → (Journal → Type 0) → Type 0
+IfAudit (Audit journal) P = P journal
+IfAudit _ P = Unit {0}
+
 -- which files a command asks for and finds
 abbrev pub AsksFor : Files → Asked → Which → Type 0
 AsksFor files (ToRun plan) which = AsksToRun files plan which
 AsksFor files (ToCheck names) which = AsksToCheck files names which
 AsksFor files (ToAssemble source) which = (which ≡ Source) × IsSome (files source)
+AsksFor files (ToAudit journal) which = (which ≡ OfJournal) × IsSome (files journal)
 
 -- by its words
 abbrev pub Asks : Files → List (String Global) → Which → Type 0
@@ -87,14 +97,17 @@ IsOpenedFor ends verdict (Err refusal) = may_have_run verdict ≡ false
 abbrev pub AsksToRunPlan : List (String Global) → Type 0
 AsksToRunPlan words = (plan : List ℕ) × (asked_of words ≡ Some (ToRun plan))
 
--- how work may end: a run by its schedule or by a fault of a device, a store or a sink, a check or an assembly by what it writes
+-- how work may end: a run by its schedule or by a fault of a device, a store or a sink, a check or an assembly by what it writes, an audit also by
+-- what it finds
 abbrev pub may_end : Work → Verdict → Bool
 may_end (Run setting) verdict = may_have_run verdict
+may_end (Audit journal) verdict = has_ended verdict
 may_end _ verdict = was_opened verdict
 
--- work was carried out: a run to the end of its schedule, else what was asked for was written
+-- work was carried out: a run to the end of its schedule, else what was asked for was written, or a journal was found to have no Save-work
 abbrev pub IsCarriedOut : Work → Verdict → Type 0
 IsCarriedOut (Run setting) verdict = (verdict ≡ Done) ⊎ (verdict ≡ Unfinished)
+IsCarriedOut (Audit journal) verdict = (verdict ≡ Done) ⊎ ((event : ℕ) × (line : ℕ) × (verdict ≡ NotSaved event line))
 IsCarriedOut _ verdict = verdict ≡ Done
 
 -- how many stores work uses: a run one for each guest, and all else none
@@ -102,14 +115,23 @@ abbrev pub stores_used : Result Work Verdict → ℕ
 stores_used (Ok (Run setting)) = length setting.images
 stores_used _ = 0
 
--- the stores that a run was lent told what they held
-abbrev pub TellsFor : {S : Type 0} → keeps.Ghosts S → S → S → Work → Type 0
-TellsFor words before after (Run setting) = TellsStores (of_words words) (length setting.images) before after
-TellsFor words before after _ = Unit {0}
+-- the medium of the run that is asked for; where none is, the first one, whose devices stay then
+abbrev pub medium_by : Files → Option Asked → Medium
+medium_by files (Some (ToRun plan)) = medium_at files plan
+medium_by files _ = medium.Rio
+
+-- by its words
+abbrev pub medium_of : Files → List (String Global) → Medium
+medium_of files words = medium_by files (asked_of words)
+
+-- the devices that a run was lent told what they held
+abbrev pub TellsFor : {S : Type 0} → Devices S → S → S → Work → Type 0
+TellsFor on before after (Run setting) = on.tell (length setting.images) before after
+TellsFor on before after _ = Unit {0}
 
 -- the counts of faults of what a call was lent stay: of the library, of each process's device, of the output and of the report
-pub record AreCalm {S : Type 0} (words : keeps.Ghosts S) (before after : S) (lib_before lib_after : ℕ) (out report : SinkCourse) : Type 0 where
+pub record AreCalm {S : Type 0} (on : Devices S) (before after : S) (lib_before lib_after : ℕ) (out report : SinkCourse) : Type 0 where
   pub library : IsCalm lib_before lib_after
-  pub devices : (p : ℕ) → IsCalm (words.faults before p) (words.faults after p)
+  pub devices : (p : ℕ) → IsCalm (on.faults before p) (on.faults after p)
   pub output : IsCalm out.faults_before out.faults_after
   pub reports : IsCalm report.faults_before report.faults_after

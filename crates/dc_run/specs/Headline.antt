@@ -1,19 +1,16 @@
 -- What a call of the program promises of a run that was opened.
 use Rattle.std.specs.Prelude.{◌≡◌, ◌⊎◌, ◌<◌, ℕ, List, ◌++◌, length, take, Option}
-use Rattle.dc_acts.specs.Reports.{report_text}
+use Rattle.dc_report.specs.Reports.{report_text}
 use Rattle.dc_course.specs.Courses.{IsCourse, counts_of}
 use Rattle.dc_course.specs.Headline.{Account, Setting}
-use Rattle.dc_course.specs.Running.{output}
-use Rattle.dc_course.specs.Lent.{TellsStores, capped_by}
-use Rattle.dc_media.specs.Devices.{of_words}
-use Rattle.dc_rio.specs.Segments.{SegmentsLeft}
+use Rattle.dc_course.specs.Running.{Output, output}
 use Rattle.dc_course.specs.declared.ending.Ending.{Ending}
 use Rattle.dc_course.specs.declared.ending.Ending.TheVariants as ending
 use Rattle.dc_media.specs.Causes.{Rose}
 use Rattle.dc_media.specs.Told.{Becomes}
-use Rattle.dc_media.specs.declared.keeps.Keeps as keeps
 use Rattle.dc_world.specs.declared.faults.OpenFault.{OpenFault}
 use Rattle.dc_world.specs.declared.faults.OpenFault.TheVariants as opening
+use Rattle.dc_run.specs.Media.{Devices}
 use Rattle.dc_run.specs.Outcomes.{status_of}
 use Rattle.dc_run.specs.declared.outcome.Outcome.{Outcome}
 use Rattle.dc_run.specs.declared.verdict.Outlet.TheVariants.{Out, Report}
@@ -35,7 +32,7 @@ pub record SinkCourse : Type 0 where
 abbrev pub course : Option (List ℕ) → Option (List ℕ) → ℕ → ℕ → SinkCourse
 course before after faults_before faults_after = record { before = before; after = after; faults_before = faults_before; faults_after = faults_after }
 
--- the stores that were lent, before and after a call
+-- what was lent, before and after a call
 pub record Loan (S : Type 0) : Type 0 where
   pub before : S
   pub after : S
@@ -69,11 +66,15 @@ Reports stood verdict text sink =
     ((verdict ≡ stood) × Becomes sink.before sink.after (λ x y. y ≡ x ++ text))
     ⊎ ((verdict ≡ unreported stood) × Rose sink.faults_before sink.faults_after × ((n : ℕ) × (n < length text) × Becomes sink.before sink.after (λ x y. y ≡ x ++ take n text)))
 
--- a run that kept the promise, where the stores tell what they hold, with its report: the status is that of the verdict before the report
-pub record IsReported {S : Type 0} (words : keeps.Ghosts S) (setting : Setting) (o : Outcome) (lent : Loan S) (out report : SinkCourse) : Type 0 where
+-- a run that kept the promise, where the devices tell what they hold
+abbrev pub IsKept : {S : Type 0} → Devices S → Setting → Account → Ending → Output → Loan S → Type 0
+IsKept on setting run ending out lent = on.tell (length setting.images) lent.before lent.after
+    → IsCourse setting run ending out (counts_of on.stops on.calls lent.before lent.after) (λ core x. on.left setting core x)
+
+-- with its report: the status is that of the verdict before the report
+pub record IsReported {S : Type 0} (on : Devices S) (setting : Setting) (o : Outcome) (lent : Loan S) (out report : SinkCourse) : Type 0 where
   pub ending : Ending
-  pub kept : TellsStores (of_words words) (length setting.images) lent.before lent.after
-      → IsCourse setting (account_of o) ending (output out.before out.after) (counts_of words.stops (capped_by words.calls) lent.before lent.after) (λ core dev. SegmentsLeft words setting core dev)
+  pub kept : IsKept on setting (account_of o) ending (output out.before out.after) lent
   pub report_told : Reports (verdict_at ending) o.verdict (report_text (status_of (verdict_at ending)) (length o.marks.items) o.acts.items o.lines) report
 
 -- the line of an outcome was written whole, or its sink failed and a part of its front was

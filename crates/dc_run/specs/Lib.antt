@@ -1,3 +1,4 @@
+pub mod Media
 pub mod Headline
 pub mod Outcomes
 pub mod Refusals
@@ -5,6 +6,7 @@ pub mod Single
 pub mod Opening
 pub mod Settings
 pub mod Assembling
+pub mod Auditing
 pub mod Checking
 pub mod Commands
 pub mod Passing

@@ -9,6 +9,8 @@ use Rattle.dc_model.specs.Guests.{Guests}
 use Rattle.dc_model.specs.declared.entry.Entry.{Entry}
 use Rattle.dc_plan.specs.Plans.{Plan, Source, InFile, FromSeed, plan_of}
 use Rattle.dc_plan.specs.declared.fault.PlanFault.{PlanFault}
+use Rattle.dc_plan.specs.declared.plan.Medium.{Medium}
+use Rattle.dc_plan.specs.declared.plan.Medium.TheVariants as medium
 use Rattle.dc_schedule.specs.Generated.{generated}
 use Rattle.dc_schedule.specs.Schedules.{schedule_of}
 use Rattle.dc_schedule.specs.declared.fault.ScheduleFault.{ScheduleFault}
@@ -38,6 +40,15 @@ plan_or_fault (Err fault) = Err (refusal.Plan fault)
 -- the plan of this name
 abbrev pub plan_in : Files → List ℕ → Result Plan Refusal
 plan_in files name = file_in files which.Plan name >>= (λ text. plan_or_fault (plan_of text))
+
+-- the medium of a plan that is read; of one that is refused nothing runs, and any would do
+abbrev pub medium_in : Result Plan Refusal → Medium
+medium_in (Ok plan) = plan.medium
+medium_in (Err refusal) = medium.Rio
+
+-- by the plan's name
+abbrev pub medium_at : Files → List ℕ → Medium
+medium_at files name = medium_in (plan_in files name)
 
 -- the image, or the fault of the file of guest p
 abbrev pub image_or_fault : ℕ → Option ElfFault → Image → Result Image Refusal

@@ -1,20 +1,24 @@
 -- The status of a verdict, and the line that says it.
-use Rattle.std.specs.Prelude.{◌≡◌, ℕ, List, ◌++◌, ◌∷◌, [], codes, decimal, length}
+use Rattle.std.specs.Prelude.{◌≡◌, ℕ, List, ◌++◌, ◌∷◌, [], Option, None, Some, String, codes, decimal, length}
+use Rattle.std.specs.declared.alloc.Global.{Global}
+use Rattle.dc_command.specs.Meant.{meant_of, name_text}
+use Rattle.dc_command.specs.declared.meaning.CommandName.{CommandName}
 use Rattle.dc_run.specs.declared.outcome.Outcome.{Outcome}
 use Rattle.dc_asm.specs.Faults.{kind_text as asm_kind_text}
+use Rattle.dc_audit.specs.Reading.{kind_text as journal_kind_text}
 use Rattle.dc_elf.specs.Faults.{fault_text as elf_fault_text}
 use Rattle.dc_elf.specs.declared.faults.ElfFault.{ElfFault}
 use Rattle.dc_checkpoint.specs.StoreFaults.{store_fault_text}
 use Rattle.dc_checkpoint.specs.declared.faults.StoreFault.{StoreFault}
 use Rattle.dc_run.specs.declared.verdict.Did.{Did}
-use Rattle.dc_run.specs.declared.verdict.Did.TheVariants.{Nothing, Run, Checked, Assembled}
+use Rattle.dc_run.specs.declared.verdict.Did.TheVariants.{Nothing, Run, Checked, Assembled, Audited}
 use Rattle.dc_run.specs.declared.verdict.Outlet.{Outlet}
 use Rattle.dc_run.specs.declared.verdict.Outlet.TheVariants.{Out, Report}
 use Rattle.dc_plan.specs.Faults.{fault_text as plan_fault_text}
-use Rattle.dc_acts.specs.Reading.{kind_text as report_kind_text}
+use Rattle.dc_report.specs.Reading.{kind_text as report_kind_text}
 use Rattle.dc_schedule.specs.Schedules.{kind_text as schedule_kind_text}
 use Rattle.dc_run.specs.declared.verdict.Verdict.{Verdict}
-use Rattle.dc_run.specs.declared.verdict.Verdict.TheVariants.{Done, Unfinished, Usage, PlanRefused, GuestRefused, Missing, LibraryFault, DeviceFault, SinkFault, NotARun, Differs, WantOfMemory, ScheduleRefused, StoreRefused, ReportRefused, AsmRefused}
+use Rattle.dc_run.specs.declared.verdict.Verdict.TheVariants.{Done, Unfinished, Usage, PlanRefused, GuestRefused, Missing, LibraryFault, DeviceFault, SinkFault, NotARun, Differs, WantOfMemory, ScheduleRefused, StoreRefused, ReportRefused, AsmRefused, JournalRefused, NotSaved}
 use Rattle.dc_run.specs.declared.verdict.Which.{Which}
 use Rattle.dc_run.specs.declared.verdict.Which.TheVariants as which
 
@@ -36,6 +40,8 @@ status_of (ScheduleRefused fault) = 11
 status_of (StoreRefused p fault) = 12
 status_of (ReportRefused fault) = 13
 status_of (AsmRefused fault) = 14
+status_of (JournalRefused fault) = 18
+status_of (NotSaved event line) = 19
 
 -- the name of a file of a command
 abbrev pub which_text : Which → List ℕ
@@ -45,6 +51,7 @@ which_text which.Schedule = codes "schedule"
 which_text which.Report = codes "report"
 which_text which.Out = codes "out"
 which_text which.Source = codes "source"
+which_text which.Journal = codes "journal"
 
 -- a refused guest
 abbrev pub refused_guest_text : ℕ → ElfFault → List ℕ
@@ -62,6 +69,10 @@ refused_store_text p fault = codes "store of " ++ decimal p ++ codes " refused: 
 abbrev pub refused_text : List ℕ → ℕ → List ℕ → List ℕ
 refused_text what number kind = what ++ codes " line " ++ decimal number ++ codes " refused: " ++ kind
 
+-- where a journal has no Save-work: the line of the event, and the line at which it was unsaved
+abbrev pub not_saved_text : ℕ → ℕ → List ℕ
+not_saved_text event line = codes "not saved: line " ++ decimal event ++ codes " before line " ++ decimal line
+
 -- the name of a sink
 abbrev pub outlet_text : Outlet → List ℕ
 outlet_text Out = codes "out"
@@ -77,12 +88,13 @@ done_text Nothing acts lines = counts_text (codes "done ") acts lines
 done_text Run acts lines = counts_text (codes "done ") acts lines
 done_text (Checked visibles) acts lines = counts_text (codes "done ") acts visibles
 done_text (Assembled bytes) acts lines = codes "done " ++ decimal bytes ++ codes " bytes"
+done_text (Audited events) acts lines = codes "saved " ++ decimal events ++ codes " events"
 
 -- the verdict in words
 abbrev pub verdict_text : Verdict → Did → ℕ → ℕ → List ℕ
 verdict_text Done did acts lines = done_text did acts lines
 verdict_text Unfinished did acts lines = counts_text (codes "unfinished ") acts lines
-verdict_text Usage did acts lines = codes "usage: dc run PLAN | dc check PLAN REPORT OUT | dc asm SOURCE"
+verdict_text Usage did acts lines = codes "usage: dc run PLAN | dc check PLAN REPORT OUT | dc asm SOURCE | dc audit JOURNAL"
 verdict_text (PlanRefused fault) did acts lines = codes "plan refused: " ++ plan_fault_text fault
 verdict_text (GuestRefused p fault) did acts lines = refused_guest_text p fault
 verdict_text (Missing which) did acts lines = codes "missing: " ++ which_text which
@@ -96,10 +108,22 @@ verdict_text (ScheduleRefused fault) did acts lines = refused_text (codes "sched
 verdict_text (StoreRefused p fault) did acts lines = refused_store_text p fault
 verdict_text (ReportRefused fault) did acts lines = refused_text (codes "report") fault.line (report_kind_text fault.kind)
 verdict_text (AsmRefused fault) did acts lines = refused_text (codes "source") fault.line (asm_kind_text fault.kind)
+verdict_text (JournalRefused fault) did acts lines = refused_text (codes "journal") fault.line (journal_kind_text fault.kind)
+verdict_text (NotSaved event line) did acts lines = not_saved_text event line
+
+-- what is said of the command that was probably meant
+abbrev pub meant_text : Option CommandName → List ℕ
+meant_text None = []
+meant_text (Some name) = codes "; is " ++ name_text name ++ codes " meant?"
+
+-- the command that was probably meant, by words that are no command's
+abbrev pub meant_for : Verdict → List (String Global) → Option CommandName
+meant_for Usage words = meant_of words
+meant_for _ words = None
 
 -- the line on standard error
-abbrev pub outcome_line : Outcome → List ℕ
-outcome_line o = codes "dc: " ++ verdict_text o.verdict o.did (length o.acts.items) o.lines ++ 10 ∷ []
+abbrev pub outcome_line : Outcome → Option CommandName → List ℕ
+outcome_line o meant = codes "dc: " ++ verdict_text o.verdict o.did (length o.acts.items) o.lines ++ meant_text meant ++ 10 ∷ []
 
 -- it came to no work
 pub record IsNothing (o : Outcome) : Type 0 where

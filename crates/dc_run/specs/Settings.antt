@@ -10,7 +10,7 @@ use Rattle.dc_run.specs.declared.refusal.Refusal.{Refusal}
 use Rattle.dc_run.specs.declared.setting.Setting as code
 use Rattle.dc_run.specs.declared.verdict.Outlet.TheVariants.{Report}
 use Rattle.dc_run.specs.declared.verdict.Verdict.{Verdict}
-use Rattle.dc_run.specs.declared.verdict.Verdict.TheVariants.{Done, Unfinished, LibraryFault, DeviceFault, SinkFault, Differs, WantOfMemory, StoreRefused}
+use Rattle.dc_run.specs.declared.verdict.Verdict.TheVariants.{Done, Unfinished, LibraryFault, DeviceFault, SinkFault, Differs, NotSaved, WantOfMemory, StoreRefused}
 
 -- a verdict that may stand in for a refusal: no told file decides it, and it may come before the refusal is found
 abbrev pub stands_in : Verdict → Bool
@@ -30,6 +30,11 @@ was_opened Done = true
 was_opened Unfinished = true
 was_opened (SinkFault outlet) = true
 was_opened _ = false
+
+-- the same of a command that also ends by what it finds
+abbrev pub has_ended : Verdict → Bool
+has_ended (NotSaved event line) = true
+has_ended verdict = was_opened verdict
 
 -- the verdict of a call that may have run a plan
 abbrev pub may_have_run : Verdict → Bool
@@ -71,7 +76,7 @@ IsEarly v = (was_opened v ≡ false) × (differing_line v ≡ None)
 
 -- a verdict that stands in the words or the told files
 abbrev pub is_refusal : Verdict → Bool
-is_refusal v = not (is_free v) && not (was_opened v)
+is_refusal v = not (is_free v) && not (has_ended v)
 
 -- what became of a library: its files stay, they are told on, and its count of faults did not fall
 pub record LibraryKept (old new : Option Files) (faults_before faults_after : ℕ) : Type 0 where

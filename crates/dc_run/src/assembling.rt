@@ -29,6 +29,7 @@ fn file_of<L: Library>(alloc: Global, source: &str, lib: &mut L) -> Result<Vec<u
     ensures there { (files : Files) (w : Whose) → L.files lib.old ≡ Some files → IsErrOf result (Verdict.LibraryFault w) → IsSome (files source.now) }
     ensures fault { (w : Whose) → IsErrOf result (Verdict.LibraryFault w) → Rose (L.faults lib.old) (L.faults lib.new) }
     ensures asked { ¬ (result ≡ Err Verdict.Usage) }
+    ensures unsaved { (event line : ℕ) → ¬ (result ≡ Err (Verdict.NotSaved event line)) }
     ensures device { (p : ℕ) → ¬ (result ≡ Err (Verdict.DeviceFault p)) }
     ensures library { LibraryKept (L.files lib.old) (L.files lib.new) (L.faults lib.old) (L.faults lib.new) }
 {
@@ -79,6 +80,7 @@ pub fn assemble_source<L: Library, O: Sink>(
         IsAssembled program result (O.held out.old) (O.held out.new))) }
     ensures some { was_opened result.verdict ≡ true → (program : List Meant) × IsAssembled program result (O.held out.old) (O.held out.new) }
     ensures asked { ¬ (result.verdict ≡ Verdict.Usage) }
+    ensures unsaved { (event line : ℕ) → ¬ (result.verdict ≡ Verdict.NotSaved event line) }
     ensures which { (w : Whose) → result.verdict ≡ Verdict.LibraryFault w → w ≡ Which.Source }
     ensures there { (w : Whose) → IfSome (L.files lib.old) (λ files. result.verdict ≡ Verdict.LibraryFault w → IsSome (files source.now)) }
     ensures library_fault { (w : Whose) → result.verdict ≡ Verdict.LibraryFault w → Rose (L.faults lib.old) (L.faults lib.new) }

@@ -1,5 +1,5 @@
 ghost use Rattle.std.specs.Prelude.{◌≡◌, ◌≤◌, ◌<◌, ℕ, All, Ok, Some, false, true, IfOk, IfSome, IsErrOf, IsSome, IsOkAnd, OnOk, length};
-ghost use Rattle.dc_acts.specs.Reads.{seen};
+ghost use Rattle.dc_report.specs.Reads.{seen};
 ghost use Rattle.dc_media.specs.Causes.{Rose};
 ghost use Rattle.dc_media.specs.Told.{TellsOn};
 ghost use Rattle.dc_run.specs.Checking.{AsksToCheck, Checked as Passed, Concluded, IsChecked, TellsDifference, TellsLine, checked_in, found_at_end, found_in, found_view, passed_by, passed_text, report_in};
@@ -15,11 +15,12 @@ use crate::opening::{fetch, open};
 use crate::refusal::{Refusal, verdict_of};
 use crate::setting::Setting;
 use crate::{Did, Outcome, Outlet, Verdict, Which};
-use dc_acts::{Acts, Line, ReadError, Report, read_report};
+use dc_acts::{Acts, Line};
 use dc_check::{Finding, check};
 use dc_command::Names;
 use dc_limits::{ENTRIES, PROCESSES};
 use dc_media::{Library, Sink, write_whole};
+use dc_report::{ReadError, Report, read_report};
 use std::alloc::{AllocError, Global};
 
 /// The acts of a report, and what comes of checking an output against them.
@@ -129,6 +130,7 @@ fn write_passed<O: Sink>(alloc: Global, acts: Acts, visibles: u32, out: &mut O) 
 fn conclude_check<O: Sink>(alloc: Global, found: Found, out: &mut O) -> Outcome
     ensures exact { Concluded (passed_by (found_view found)) result (O.held out.old) (O.held out.new) }
     ensures difference { (line : ℕ) → result.verdict ≡ Verdict.Differs line → TellsDifference result.difference (found_view found) }
+    ensures unsaved { (event line : ℕ) → ¬ (result.verdict ≡ Verdict.NotSaved event line) }
     ensures line { TellsLine result }
     ensures own { ¬ (result.verdict ≡ Verdict.SinkFault Outlet.Report) }
     ensures runs { is_of_run result.verdict ≡ false }
@@ -168,6 +170,7 @@ pub fn check_output<L: Library, O: Sink>(
         IsOkAnd (found_in files (names_view names.now)) (TellsDifference result.difference)) }
     ensures line { TellsLine result }
     ensures asked { ¬ (result.verdict ≡ Verdict.Usage) }
+    ensures unsaved { (event line : ℕ) → ¬ (result.verdict ≡ Verdict.NotSaved event line) }
     ensures library_asked { (which : Whose) → IfSome (L.files lib.old) (λ files. result.verdict ≡ Verdict.LibraryFault which → AsksToCheck files (names_view names.now) which) }
     ensures library_fault { (which : Whose) → result.verdict ≡ Verdict.LibraryFault which → Rose (L.faults lib.old) (L.faults lib.new) }
     ensures output_fault { result.verdict ≡ Verdict.SinkFault Outlet.Out → Rose (O.faults out.old) (O.faults out.new) }

@@ -9,7 +9,7 @@ ghost use Rattle.dc_shows.specs.Typed.{IsGivenRun, IsImage};
 ghost use Rattle.dc_words.specs.Lists.{lists_of};
 ghost use Rattle.dc_words.specs.Words.{AllBelow};
 ghost use Rattle.dc_world.specs.Opened.{CanOpen};
-ghost use Rattle.dc_run.specs.Opening.{AsksAtPlan, AsksForGuest, AsksToRun, Files, IsSourceThere, file_in, guest_in, images_in, opening_at_plan, opening_of, plan_in, schedule_in};
+ghost use Rattle.dc_run.specs.Opening.{AsksAtPlan, AsksForGuest, AsksToRun, Files, IsSourceThere, file_in, guest_in, images_in, medium_at, opening_at_plan, opening_of, plan_in, schedule_in};
 ghost use Rattle.dc_run.specs.Settings.{Agrees, LibraryKept, setting_of};
 ghost use Rattle.dc_run.specs.declared.verdict.Which.{Which as Whose};
 
@@ -191,6 +191,7 @@ fn schedule_from<L: Library>(
 fn open_plan<L: Library>(alloc: Global, lib: &mut L, plan: Plan) -> Result<Setting, Refusal>
     requires { IsAllowed (plan_view plan) }
     ensures told { (files : Files) → L.files lib.old ≡ Some files → Agrees setting_of result (opening_at_plan files (plan_view plan)) }
+    ensures medium { IfOk result (λ s. s.medium ≡ plan.medium) }
     ensures given { IfOk result (λ s. IsGivenRun (map seen_image s.images.items) (lists_of s.inputs.items) s.schedule.items) }
     ensures reached { (files : Files) (w : Whose) → L.files lib.old ≡ Some files → IsErrOf result (Refusal.Library w) → AsksAtPlan files (plan_view plan) w }
     ensures files { OnOk result (L.files lib.new ≡ L.files lib.old) }
@@ -202,6 +203,7 @@ fn open_plan<L: Library>(alloc: Global, lib: &mut L, plan: Plan) -> Result<Setti
     let schedule = schedule_from(alloc, lib, n, &plan.schedule)?;
     Ok(Setting {
         protocol: plan.protocol,
+        medium: plan.medium,
         images,
         inputs: plan.inputs,
         schedule,
@@ -212,6 +214,7 @@ fn open_plan<L: Library>(alloc: Global, lib: &mut L, plan: Plan) -> Result<Setti
 /// What the files open the run of that plan with, or the first refusal.
 pub fn open<L: Library>(alloc: Global, plan: &str, lib: &mut L) -> Result<Setting, Refusal>
     ensures told { (files : Files) → L.files lib.old ≡ Some files → Agrees setting_of result (opening_of files plan.now) }
+    ensures medium { (files : Files) → L.files lib.old ≡ Some files → IfOk result (λ s. medium_at files plan.now ≡ s.medium) }
     ensures given { IfOk result (λ s. IsGivenRun (map seen_image s.images.items) (lists_of s.inputs.items) s.schedule.items) }
     ensures reached { (files : Files) (w : Whose) → L.files lib.old ≡ Some files → IsErrOf result (Refusal.Library w) → AsksToRun files plan.now w }
     ensures files { OnOk result (L.files lib.new ≡ L.files lib.old) }

@@ -1,6 +1,8 @@
-ghost use Rattle.std.specs.Prelude.{◌≡◌, ◌≤◌, ◌+◌, ◌++◌, None, length, codes, decimal};
-ghost use Rattle.dc_acts.specs.Reading.{kind_text as report_kind_text};
+ghost use Rattle.std.specs.Prelude.{◌≡◌, ◌≤◌, ◌⊎◌, ◌+◌, ◌++◌, Option, None, length, codes, decimal};
+ghost use Rattle.dc_report.specs.Reading.{kind_text as report_kind_text};
 ghost use Rattle.dc_asm.specs.Faults.{kind_text as asm_kind_text};
+ghost use Rattle.dc_command.specs.declared.meaning.CommandName.{CommandName as CommandNames};
+ghost use Rattle.dc_audit.specs.Reading.{kind_text as journal_kind_text};
 ghost use Rattle.dc_elf.specs.Faults.{fault_text as elf_fault_text};
 ghost use Rattle.dc_checkpoint.specs.StoreFaults.{store_fault_text};
 ghost use Rattle.dc_media.specs.Causes.{HasCause};
@@ -9,14 +11,15 @@ ghost use Rattle.dc_media.specs.Told.{TellsOn};
 ghost use Rattle.dc_plan.specs.Faults.{fault_text as plan_fault_text};
 ghost use Rattle.dc_schedule.specs.Schedules.{kind_text as schedule_kind_text};
 ghost use Rattle.dc_run.specs.Headline.{Concludes, course};
-ghost use Rattle.dc_run.specs.Outcomes.{IsNothing, counts_text, device_fault_text, done_text, outcome_line, outlet_text, refused_guest_text, refused_store_text, refused_text, status_of, verdict_text, which_text};
+ghost use Rattle.dc_run.specs.Outcomes.{IsNothing, counts_text, device_fault_text, done_text, meant_for, meant_text, not_saved_text, outcome_line, outlet_text, refused_guest_text, refused_store_text, refused_text, status_of, verdict_text, which_text};
 
 use crate::{
-    AsmFault, Did, ElfFault, Outlet, PlanFault, ReportFault, ScheduleFault, StoreFault, Verdict,
-    Which,
+    AsmFault, AuditFault, Did, ElfFault, Outlet, PlanFault, ReportFault, ScheduleFault, StoreFault,
+    Verdict, Which,
 };
 use dc_acts::{Acts, Line, Reserved};
 use dc_check::Difference;
+use dc_command::{CommandName, meant};
 use dc_media::{Sink, SinkFailed, write_whole};
 use dc_model::Mark;
 use std::alloc::Global;
@@ -74,24 +77,27 @@ impl Outcome {
             Verdict::StoreRefused(_, _) => 12,
             Verdict::ReportRefused(_) => 13,
             Verdict::AsmRefused(_) => 14,
+            Verdict::JournalRefused(_) => 18,
+            Verdict::NotSaved(_, _) => 19,
         }
     }
 
-    /// Writes the line that says the outcome: `dc: `, the verdict in words, and a line feed.
-    pub fn write_line<R: Sink>(&self, to: &mut R) -> Result<(), SinkFailed>
-        ensures held { TakesWhole (outcome_line self.now) result (R.held to.old) (R.held to.new) }
+    /// Writes the line that says the outcome: `dc: `, the verdict in words, the command that was probably meant, and a line feed.
+    fn write_line<R: Sink>(&self, meant: Option<CommandName>, to: &mut R) -> Result<(), SinkFailed>
+        ensures held { TakesWhole (outcome_line self.now meant) result (R.held to.old) (R.held to.new) }
         ensures tells { TellsOn 0 (R.faults to.new) (R.held to.old) (R.held to.new) }
         ensures cause { HasCause (R.faults to.old) (R.faults to.new) result }
     {
-        write_whole(to, self.line().as_slice())
+        write_whole(to, self.line(meant).as_slice())
     }
 
-    fn line(&self) -> Line
-        ensures { result ≡ outcome_line self.now }
+    fn line(&self, meant: Option<CommandName>) -> Line
+        ensures { result ≡ outcome_line self.now meant }
     {
         let mut line = Line::new();
         line.push(b"dc: ");
         self.push_verdict(&mut line);
+        push_meant(&mut line, meant);
         line.push(b"\n");
         line
     }
@@ -106,7 +112,9 @@ impl Outcome {
             Verdict::Done => self.push_done(line),
             Verdict::Unfinished => self.push_counts(line, b"unfinished ", self.lines),
             Verdict::Usage => {
-                line.push(b"usage: dc run PLAN | dc check PLAN REPORT OUT | dc asm SOURCE");
+                line.push(
+                    b"usage: dc run PLAN | dc check PLAN REPORT OUT | dc asm SOURCE | dc audit JOURNAL",
+                );
             }
             Verdict::PlanRefused(fault) => push_plan_fault(line, fault),
             Verdict::GuestRefused(p, fault) => push_guest_fault(line, p, fault),
@@ -121,6 +129,8 @@ impl Outcome {
             Verdict::StoreRefused(p, fault) => push_store_fault(line, p, fault),
             Verdict::ReportRefused(fault) => push_report_fault(line, fault),
             Verdict::AsmRefused(fault) => push_asm_fault(line, fault),
+            Verdict::JournalRefused(fault) => push_journal_fault(line, fault),
+            Verdict::NotSaved(event, at) => push_not_saved(line, u64::from(event), u64::from(at)),
         }
     }
 
@@ -139,6 +149,11 @@ impl Outcome {
                 line.push_number(bytes);
                 line.push(b" bytes");
             }
+            Did::Audited(events) => {
+                line.push(b"saved ");
+                line.push_number(u64::from(events));
+                line.push(b" events");
+            }
         }
     }
 
@@ -154,6 +169,19 @@ impl Outcome {
         line.push(b" acts ");
         line.push_number(u64::from(lines));
         line.push(b" lines");
+    }
+}
+
+/// What is said of the command that was probably meant.
+fn push_meant(line: &mut Line, meant: Option<CommandName>)
+    requires { length line.old ≤ 94 }
+    ensures text { line.new ≡ line.old ++ meant_text meant }
+    ensures length { length line.new ≤ length line.old + 30 }
+{
+    if let Some(name) = meant {
+        line.push(b"; is ");
+        line.push(name.text().as_bytes());
+        line.push(b" meant?");
     }
 }
 
@@ -222,6 +250,26 @@ fn push_asm_fault(line: &mut Line, fault: AsmFault)
     push_refused(line, b"source", fault.line, kind);
 }
 
+fn push_journal_fault(line: &mut Line, fault: AuditFault)
+    requires { length line.old ≤ 4 }
+    ensures text { line.new ≡ line.old ++ refused_text (codes "journal") fault.line (journal_kind_text fault.kind) }
+    ensures length { length line.new ≤ length line.old + 90 }
+{
+    let kind = fault.kind.text().as_bytes();
+    push_refused(line, b"journal", u64::from(fault.line), kind);
+}
+
+fn push_not_saved(line: &mut Line, event: u64, at: u64)
+    requires { length line.old ≤ 4 }
+    ensures text { line.new ≡ line.old ++ not_saved_text event at }
+    ensures length { length line.new ≤ length line.old + 90 }
+{
+    line.push(b"not saved: line ");
+    line.push_number(event);
+    line.push(b" before line ");
+    line.push_number(at);
+}
+
 /// A file's name in the command, after what befell it.
 fn push_which(line: &mut Line, what: &[u8], which: Which)
     requires line { length line.old ≤ 4 }
@@ -240,6 +288,7 @@ fn push_which(line: &mut Line, what: &[u8], which: Which)
         Which::Report => line.push(b"report"),
         Which::Out => line.push(b"out"),
         Which::Source => line.push(b"source"),
+        Which::Journal => line.push(b"journal"),
     }
 }
 
@@ -327,13 +376,26 @@ fn outlet_name(outlet: Outlet) -> &'static [u8]
     }
 }
 
-/// The end of a call: writes the line of its outcome to standard error, and gives the status.
-pub fn conclude<E: Sink>(outcome: &Outcome, error: &mut E) -> u8
+/// The command that was probably meant, where the words are no command's; none for want of memory.
+fn meant_by(alloc: Global, verdict: Verdict, words: &[String]) -> Option<CommandName>
+    ensures { (result ≡ meant_for verdict words.now) ⊎ (result ≡ None) }
+{
+    match verdict {
+        Verdict::Usage => meant(alloc, words).unwrap_or(None),
+        _ => None,
+    }
+}
+
+/// The end of a call for these words: writes the line of its outcome to standard error, and gives the status. Of words that are no command's
+/// the line ends with the command that was probably meant, where there is memory to find it.
+pub fn conclude<E: Sink>(alloc: Global, words: &[String], outcome: &Outcome, error: &mut E) -> u8
     ensures status { result ≡ status_of outcome.now.verdict }
-    ensures line { Concludes (outcome_line outcome.now) (course (E.held error.old) (E.held error.new) (E.faults error.old) (E.faults error.new)) }
+    ensures line { (meant : Option CommandNames) × ((meant ≡ meant_for outcome.now.verdict words.now) ⊎ (meant ≡ None)) ×
+        Concludes (outcome_line outcome.now meant) (course (E.held error.old) (E.held error.new) (E.faults error.old) (E.faults error.new)) }
     ensures tells { TellsOn 0 (E.faults error.new) (E.held error.old) (E.held error.new) }
     ensures later { E.faults error.old ≤ E.faults error.new }
 {
-    let _ = outcome.write_line(error);
+    let meant = meant_by(alloc, outcome.verdict, words);
+    let _ = outcome.write_line(meant, error);
     outcome.status()
 }

@@ -1,43 +1,50 @@
 ghost use Rattle.std.specs.Prelude.{◌≡◌, ◌⊎◌, ◌≤◌, ◌<◌, ◌^◌, ℕ, Err, None, Some, false, true, IfOk, IfSome, IsOkAnd, IsSomeAnd, List, OnErr, length};
-ghost use Rattle.dc_acts.specs.Reports.{report_text};
+ghost use Rattle.dc_report.specs.Reports.{report_text};
 ghost use Rattle.dc_asm.specs.declared.forms.Meant.{Meant};
-ghost use Rattle.dc_course.specs.Courses.{IsCourse, account_of, counts_of};
+ghost use Rattle.dc_audit.specs.Reading.{IsVerdict, Journal};
+ghost use Rattle.dc_audit.specs.declared.verdict.Verdict.TheVariants as found;
+ghost use Rattle.dc_course.specs.Courses.{account_of};
 ghost use Rattle.dc_course.specs.Headline.{Setting as Settings};
 ghost use Rattle.dc_course.specs.Running.{output};
-ghost use Rattle.dc_course.specs.Lent.{AreLeftFrom, KeepsTold, TellsStores, capped_by};
-ghost use Rattle.dc_rio.specs.Segments.{SegmentsLeft};
+ghost use Rattle.dc_course.specs.Lent.{AreLeftFrom, KeepsTold};
 ghost use Rattle.dc_course.specs.declared.ending.Ending.TheVariants as endings;
 ghost use Rattle.dc_world.specs.Opened.{IsCalmUnlessStopped};
 ghost use Rattle.dc_world.specs.declared.faults.OpenFault.TheVariants as opening;
 ghost use Rattle.dc_limits.specs.declared.sizes.TheConstants.{PROCESSES};
 ghost use Rattle.dc_media.specs.Causes.{Rose};
-ghost use Rattle.dc_media.specs.Devices.{of_words};
+ghost use Rattle.dc_media.specs.Devices.{of_disks, of_words};
 ghost use Rattle.dc_media.specs.Told.{TellsOn};
 ghost use Rattle.dc_run.specs.Assembling.{IsAssembled};
+ghost use Rattle.dc_run.specs.Auditing.{IsAudited};
 ghost use Rattle.dc_run.specs.Checking.{Checked, IsChecked, TellsDifference, TellsLine};
 ghost use Rattle.dc_command.specs.Command.{Names, asked_of};
-ghost use Rattle.dc_command.specs.Command.Asked.{ToAssemble, ToCheck, ToRun};
-ghost use Rattle.dc_run.specs.Commands.{AreCalm, Asks, AsksToRunPlan, IfAssembly, IfCheck, IfFound, IfRun, IsCarriedOut, IsExact, IsOpenedFor, TellsFor, may_end, stores_used, unasked_by, work_by, work_of};
-ghost use Rattle.dc_run.specs.Headline.{IsReported, Reports, course, loan, unopened_by, unreported, verdict_at};
-ghost use Rattle.dc_run.specs.Opening.{AsksToRun, opening_of};
+ghost use Rattle.dc_command.specs.Command.Asked.{ToAssemble, ToAudit, ToCheck, ToRun};
+ghost use Rattle.dc_run.specs.Commands.{AreCalm, Asks, AsksToRunPlan, IfAssembly, IfAudit, IfCheck, IfFound, IfRun, IsCarriedOut, IsExact, IsOpenedFor, TellsFor, may_end, medium_of, stores_used, unasked_by, work_by, work_of};
+ghost use Rattle.dc_run.specs.Headline.{IsKept, IsReported, Reports, course, loan, unopened_by, unreported, verdict_at};
+ghost use Rattle.dc_run.specs.Media.{HasFailed, IsOtherSame, devices_of, lent};
+ghost use Rattle.dc_run.specs.Opening.{AsksToRun, medium_at, opening_of};
 ghost use Rattle.dc_run.specs.Outcomes.{IsNothing, status_of};
 ghost use Rattle.dc_run.specs.Passing.{WritesPassing};
 ghost use Rattle.dc_run.specs.Refusals.{as_verdict};
 ghost use Rattle.dc_run.specs.Settings.{LibraryKept, has_run, is_of_run, is_refusal, may_have_run, setting_of, was_opened};
+ghost use Rattle.dc_plan.specs.declared.plan.Medium.{Medium as Media};
 ghost use Rattle.dc_run.specs.declared.verdict.Verdict.{Verdict as Verdicts};
 ghost use Rattle.dc_run.specs.declared.verdict.Which.{Which as Whose};
 
 use crate::assembling::assemble_source;
+use crate::auditing::audit_journal;
 use crate::checking::check_output;
 use crate::opening::open;
 use crate::outcome::Outcome;
 use crate::refusal::verdict_of;
 use crate::setting::Setting;
 use crate::{Did, Outlet, Verdict};
-use dc_acts::write_report;
 use dc_command::{Asked, CommandFault, command_in};
 use dc_course::{Course, Ending};
+use dc_disk::run_on_disks;
 use dc_media::{Disks, Keeps, Library, Sink};
+use dc_plan::Medium;
+use dc_report::write_report;
 use dc_rio::run_on_memory;
 use dc_world::{OpenFault, Setup};
 use std::alloc::Global;
@@ -45,11 +52,12 @@ use std::alloc::Global;
 /// Carries out the command that the words give; the first word is the program's name.
 ///
 /// `run PLAN` fetches the plan, its guests and its schedule from the library, or draws the schedule from a seed, makes a store for each
-/// guest in `keeps`, runs the entries in order, lets processes stop where the plan or the schedule says so and recover, writes the lines
+/// guest in `keeps` or on `disks`, as the plan's medium says, runs the entries in order, lets processes stop where the plan or the schedule says so and recover, writes the lines
 /// of their visible records to `out`, and last the report of the run to `report`. `check PLAN REPORT OUT` fetches what a run is opened
 /// with, then a report and an output, plays the report's acts in the failure-free world, compares the output's lines with those that they
 /// show, and writes `ok`, the counts of acts and of visible records to `out` where both belong together. `asm SOURCE` fetches the source,
-/// assembles it and writes the ELF file to `out`. The disks stay untouched: no plan asks for them yet.
+/// assembles it and writes the ELF file to `out`. `audit JOURNAL` fetches the journal, and writes `ok` and the count of its events to `out` where it
+/// has Save-work.
 pub fn dc<L: Library, K: Keeps, D: Disks, O: Sink, R: Sink>(
     alloc: Global,
     words: &[String],
@@ -68,32 +76,33 @@ pub fn dc<L: Library, K: Keeps, D: Disks, O: Sink, R: Sink>(
 
     // What is not refused is carried out, where its stores are told and no count of faults rose, but for want of memory.
     ensures complete { IfSome (L.files lib.old) (λ files. IfOk (work_of files words.now) (λ work.
-        AreCalm K.Keeps keeps.old keeps.new (L.faults lib.old) (L.faults lib.new) (course (O.held out.old) (O.held out.new) (O.faults out.old) (O.faults out.new))
+        AreCalm (devices_of K.Keeps D.Disks (medium_of files words.now)) (lent keeps.old disks.old) (lent keeps.new disks.new) (L.faults lib.old) (L.faults lib.new) (course (O.held out.old) (O.held out.new) (O.faults out.old) (O.faults out.new))
         (course (R.held report.old) (R.held report.new) (R.faults report.old) (R.faults report.new)) →
-        TellsFor K.Keeps keeps.old keeps.new work → IsCarriedOut work result.verdict ⊎ (result.verdict ≡ Verdict.WantOfMemory))) }
+        TellsFor (devices_of K.Keeps D.Disks (medium_of files words.now)) (lent keeps.old disks.old) (lent keeps.new disks.new) work → IsCarriedOut work result.verdict ⊎ (result.verdict ≡ Verdict.WantOfMemory))) }
 
     // Faults, only where the count of the object that was handed in rose, and at a file only where the command asks for it.
     ensures library_fault { (which : Whose) → result.verdict ≡ Verdict.LibraryFault which → Rose (L.faults lib.old) (L.faults lib.new) }
     ensures library_asked { (which : Whose) → IfSome (L.files lib.old) (λ files. result.verdict ≡ Verdict.LibraryFault which → Asks files words.now which) }
-    ensures device_fault { (p : ℕ) → result.verdict ≡ Verdict.DeviceFault p → Rose (K.faults keeps.old p) (K.faults keeps.new p) }
-    ensures wanting { result.verdict ≡ Verdict.WantOfMemory → (p : ℕ) → IsCalmUnlessStopped K.stops K.faults p keeps.old keeps.new }
+    ensures device_fault { (p : ℕ) → result.verdict ≡ Verdict.DeviceFault p → Rose (K.faults keeps.old p) (K.faults keeps.new p) ⊎ Rose (D.faults disks.old p) (D.faults disks.new p) }
+    ensures medium_fault { IfSome (L.files lib.old) (λ files. (p : ℕ) → result.verdict ≡ Verdict.DeviceFault p → HasFailed (devices_of K.Keeps D.Disks (medium_of files words.now)) (lent keeps.old disks.old) (lent keeps.new disks.new) p) }
+    ensures wanting { result.verdict ≡ Verdict.WantOfMemory → (p : ℕ) → IsCalmUnlessStopped K.stops K.faults p keeps.old keeps.new × IsCalmUnlessStopped D.stops D.faults p disks.old disks.new }
     ensures output_fault { result.verdict ≡ Verdict.SinkFault Outlet.Out → Rose (O.faults out.old) (O.faults out.new) }
     ensures report_fault { result.verdict ≡ Verdict.SinkFault Outlet.Report → Rose (R.faults report.old) (R.faults report.new) }
 
     // What users see of a run that was opened, and its report.
     ensures headline { result.did ≡ Did.Run → IfSome (L.files lib.old) (λ files. IsOkAnd (work_of files words.now) (λ work. IfRun work (λ setting.
-        IsReported K.Keeps setting result (loan keeps.old keeps.new) (course (O.held out.old) (O.held out.new) (O.faults out.old) (O.faults out.new))
+        IsReported (devices_of K.Keeps D.Disks (medium_of files words.now)) setting result (loan (lent keeps.old disks.old) (lent keeps.new disks.new)) (course (O.held out.old) (O.held out.new) (O.faults out.old) (O.faults out.new))
         (course (R.held report.old) (R.held report.new) (R.faults report.old) (R.faults report.new))))) }
 
     // What a run wrote on sinks that held nothing and did not fail passes the check of it, wherever files hold it.
     ensures passes { result.did ≡ Did.Run → IfSome (L.files lib.old) (λ files. IsOkAnd (work_of files words.now) (λ work. IfRun work (λ setting.
-        TellsStores (of_words K.Keeps) (length setting.images) keeps.old keeps.new → WritesPassing setting (course (O.held out.old) (O.held out.new) (O.faults out.old) (O.faults out.new))
+        (devices_of K.Keeps D.Disks (medium_of files words.now)).tell (length setting.images) (lent keeps.old disks.old) (lent keeps.new disks.new) → WritesPassing setting (course (O.held out.old) (O.held out.new) (O.faults out.old) (O.faults out.new))
         (course (R.held report.old) (R.held report.new) (R.faults report.old) (R.faults report.new)) result.acts.items))) }
 
-    // The same where the files are not told: there is a setting of which it holds. Words that ask to run a plan do a run or nothing: a
+    // The same where the files are not told: there is a medium and a setting of which it holds. Words that ask to run a plan do a run or nothing: a
     // run wherever the verdict is one of a run and no fault of a device. No other words come to a run, or to a verdict that only runs have.
-    ensures ran { result.did ≡ Did.Run → (setting : Settings) ×
-        IsReported K.Keeps setting result (loan keeps.old keeps.new) (course (O.held out.old) (O.held out.new) (O.faults out.old) (O.faults out.new))
+    ensures ran { result.did ≡ Did.Run → (medium : Media) × (setting : Settings) ×
+        IsReported (devices_of K.Keeps D.Disks medium) setting result (loan (lent keeps.old disks.old) (lent keeps.new disks.new)) (course (O.held out.old) (O.held out.new) (O.faults out.old) (O.faults out.new))
         (course (R.held report.old) (R.held report.new) (R.faults report.old) (R.faults report.new)) }
     ensures did { (plan : List ℕ) → asked_of words.now ≡ Some (ToRun plan) → has_run result.verdict ≡ true → result.did ≡ Did.Run }
     ensures did_run { AsksToRunPlan words.now → (result.did ≡ Did.Run) ⊎ (result.did ≡ Did.Nothing) }
@@ -116,6 +125,17 @@ pub fn dc<L: Library, K: Keeps, D: Disks, O: Sink, R: Sink>(
     ensures assembly { (source : List ℕ) → asked_of words.now ≡ Some (ToAssemble source) → was_opened result.verdict ≡ true →
         (program : List Meant) × IsAssembled program result (O.held out.old) (O.held out.new) × (report.new ≡ report.old) }
 
+    // A journal that has Save-work: `ok` and the count of its events; its report stays. One that has not: where it fails first, which no other
+    // command answers. The same where the files are not told: of some journal.
+    ensures audited { was_opened result.verdict ≡ true → IfSome (L.files lib.old) (λ files. IsOkAnd (work_of files words.now) (λ work. IfAudit work (λ said.
+        IsAudited said result (O.held out.old) (O.held out.new) × (report.new ≡ report.old)))) }
+    ensures audit { (journal : List ℕ) → asked_of words.now ≡ Some (ToAudit journal) → was_opened result.verdict ≡ true →
+        (said : Journal) × IsAudited said result (O.held out.old) (O.held out.new) × (report.new ≡ report.old) }
+    ensures unsaved { (event line : ℕ) → result.verdict ≡ Verdict.NotSaved event line → IfSome (L.files lib.old) (λ files. IsOkAnd (work_of files words.now) (λ work. IfAudit work (λ said.
+        IsVerdict said (found.NotSaved event line)))) }
+    ensures unsaved_alone { (event line : ℕ) → result.verdict ≡ Verdict.NotSaved event line → (journal : List ℕ) × (asked_of words.now ≡ Some (ToAudit journal)) ×
+        ((said : Journal) × IsVerdict said (found.NotSaved event line)) }
+
     // What stays.
     ensures unopened { result.did ≡ Did.Nothing → IsNothing result × (out.new ≡ out.old) × (report.new ≡ report.old) }
     ensures library { LibraryKept (L.files lib.old) (L.files lib.new) (L.faults lib.old) (L.faults lib.new) }
@@ -123,18 +143,27 @@ pub fn dc<L: Library, K: Keeps, D: Disks, O: Sink, R: Sink>(
     ensures report_tells { TellsOn 0 (R.faults report.new) (R.held report.old) (R.held report.new) }
     ensures output_later { O.faults out.old ≤ O.faults out.new }
     ensures report_later { R.faults report.old ≤ R.faults report.new }
+    // Of the stores of words and the disks those of one medium alone are called.
+    ensures other { IfSome (L.files lib.old) (λ files. IsOtherSame (medium_of files words.now) (lent keeps.old disks.old) (lent keeps.new disks.new)) }
+    ensures either { (keeps.new ≡ keeps.old) ⊎ (disks.new ≡ disks.old) }
     ensures keeps { ((plan : List ℕ) → asked_of words.now ≡ Some (ToRun plan) → ⊥) → keeps.new ≡ keeps.old }
     ensures keeps_refused { may_have_run result.verdict ≡ false → (result.verdict ≡ Verdict.WantOfMemory → ⊥) → keeps.new ≡ keeps.old }
     ensures keeps_later { (p : ℕ) → (K.stops keeps.old p ≤ K.stops keeps.new p) × (K.faults keeps.old p ≤ K.faults keeps.new p) }
     ensures keeps_tells { (p : ℕ) → KeepsTold (of_words K.Keeps) keeps.old keeps.new p }
     ensures keeps_others { IfSome (L.files lib.old) (λ files. AreLeftFrom (stores_used (work_of files words.now)) (of_words K.Keeps) keeps.old keeps.new) }
     ensures keeps_beyond { AreLeftFrom PROCESSES (of_words K.Keeps) keeps.old keeps.new }
-    ensures disks { disks.new ≡ disks.old }
+    ensures disks { ((plan : List ℕ) → asked_of words.now ≡ Some (ToRun plan) → ⊥) → disks.new ≡ disks.old }
+    ensures disks_refused { may_have_run result.verdict ≡ false → (result.verdict ≡ Verdict.WantOfMemory → ⊥) → disks.new ≡ disks.old }
+    ensures disks_later { (p : ℕ) → (D.stops disks.old p ≤ D.stops disks.new p) × (D.faults disks.old p ≤ D.faults disks.new p) }
+    ensures disks_tells { (p : ℕ) → KeepsTold (of_disks D.Disks) disks.old disks.new p }
+    ensures disks_others { IfSome (L.files lib.old) (λ files. AreLeftFrom (stores_used (work_of files words.now)) (of_disks D.Disks) disks.old disks.new) }
+    ensures disks_beyond { AreLeftFrom PROCESSES (of_disks D.Disks) disks.old disks.new }
 {
     match command_in(alloc, words) {
-        Ok(Asked::Run(plan)) => run_plan(alloc, plan, lib, keeps, out, report),
+        Ok(Asked::Run(plan)) => run_plan(alloc, plan, lib, keeps, disks, out, report),
         Ok(Asked::Check(names)) => check_output(alloc, &names, lib, out),
         Ok(Asked::Assemble(source)) => assemble_source(alloc, source, lib, out),
+        Ok(Asked::Audit(journal)) => audit_journal(alloc, journal, lib, out),
         Err(fault) => Outcome::idle(alloc, unasked(fault)),
     }
 }
@@ -194,31 +223,36 @@ fn unopened(fault: OpenFault) -> Verdict
     }
 }
 
-/// Runs an opened plan.
-fn run_setting<K: Keeps, O: Sink>(
+/// Runs an opened plan on its medium.
+fn run_setting<K: Keeps, D: Disks, O: Sink>(
     alloc: Global,
     setting: Setting,
     keeps: &mut K,
+    disks: &mut D,
     out: &mut O,
 ) -> Result<Course, OpenFault>
-    ensures headline { IfOk result (λ run. TellsStores (of_words K.Keeps) (length (setting_of setting).images) keeps.old keeps.new →
-        IsCourse (setting_of setting) (account_of run) run.ending (output (O.held out.old) (O.held out.new)) (counts_of K.stops (capped_by K.calls) keeps.old keeps.new)
-        (λ core lent. SegmentsLeft K.Keeps (setting_of setting) core lent)) }
-    ensures device { IfOk result (λ run. (p : ℕ) → run.ending ≡ endings.Device p → Rose (K.faults keeps.old p) (K.faults keeps.new p)) }
+    ensures headline { IfOk result (λ run. IsKept (devices_of K.Keeps D.Disks setting.medium) (setting_of setting) (account_of run) run.ending (output (O.held out.old) (O.held out.new)) (loan (lent keeps.old disks.old) (lent keeps.new disks.new))) }
+    ensures device { IfOk result (λ run. (p : ℕ) → run.ending ≡ endings.Device p → HasFailed (devices_of K.Keeps D.Disks setting.medium) (lent keeps.old disks.old) (lent keeps.new disks.new) p) }
     ensures sink { IfOk result (λ run. run.ending ≡ endings.Sink → Rose (O.faults out.old) (O.faults out.new)) }
     ensures few { IfOk result (λ run. length run.marks.items < 2 ^ 32) }
-    ensures failed { (p : ℕ) → result ≡ Err (opening.Failed p) → Rose (K.faults keeps.old p) (K.faults keeps.new p) }
-    ensures wanting { result ≡ Err opening.Memory → (p : ℕ) → IsCalmUnlessStopped K.stops K.faults p keeps.old keeps.new }
+    ensures failed { (p : ℕ) → result ≡ Err (opening.Failed p) → HasFailed (devices_of K.Keeps D.Disks setting.medium) (lent keeps.old disks.old) (lent keeps.new disks.new) p }
+    ensures wanting { result ≡ Err opening.Memory → (p : ℕ) → IsCalmUnlessStopped K.stops K.faults p keeps.old keeps.new × IsCalmUnlessStopped D.stops D.faults p disks.old disks.new }
     ensures unopened { OnErr result (out.new ≡ out.old) }
     ensures keeps_later { (p : ℕ) → (K.stops keeps.old p ≤ K.stops keeps.new p) × (K.faults keeps.old p ≤ K.faults keeps.new p) }
+    ensures disks_later { (p : ℕ) → (D.stops disks.old p ≤ D.stops disks.new p) × (D.faults disks.old p ≤ D.faults disks.new p) }
     ensures later { O.faults out.old ≤ O.faults out.new }
     ensures tells { TellsOn 0 (O.faults out.new) (O.held out.old) (O.held out.new) }
     ensures keeps_tells { (p : ℕ) → KeepsTold (of_words K.Keeps) keeps.old keeps.new p }
     ensures keeps_others { AreLeftFrom (length (setting_of setting).images) (of_words K.Keeps) keeps.old keeps.new }
     ensures keeps_beyond { AreLeftFrom PROCESSES (of_words K.Keeps) keeps.old keeps.new }
+    ensures disks_tells { (p : ℕ) → KeepsTold (of_disks D.Disks) disks.old disks.new p }
+    ensures disks_others { AreLeftFrom (length (setting_of setting).images) (of_disks D.Disks) disks.old disks.new }
+    ensures disks_beyond { AreLeftFrom PROCESSES (of_disks D.Disks) disks.old disks.new }
+    ensures other { IsOtherSame setting.medium (lent keeps.old disks.old) (lent keeps.new disks.new) }
 {
     let Setting {
         protocol,
+        medium,
         images,
         inputs,
         schedule,
@@ -229,35 +263,41 @@ fn run_setting<K: Keeps, O: Sink>(
         images,
         inputs,
     };
-    run_on_memory(alloc, setup, &schedule, stops, keeps, out)
+    match medium {
+        Medium::Rio => run_on_memory(alloc, setup, &schedule, stops, keeps, out),
+        Medium::Disk => run_on_disks(alloc, setup, &schedule, stops, disks, out),
+    }
 }
 
 /// Runs that plan.
-fn run_plan<L: Library, K: Keeps, O: Sink, R: Sink>(
+fn run_plan<L: Library, K: Keeps, D: Disks, O: Sink, R: Sink>(
     alloc: Global,
     plan: &str,
     lib: &mut L,
     keeps: &mut K,
+    disks: &mut D,
     out: &mut O,
     report: &mut R,
 ) -> Outcome
     ensures refused { (refusal : Verdicts) → is_refusal refusal ≡ true → IfSome (L.files lib.old) (λ files. IsExact result.verdict refusal (as_verdict (opening_of files plan.now))) }
     ensures opened { IfSome (L.files lib.old) (λ files. IsOpenedFor (λ setting v. may_have_run v) result.verdict (as_verdict (opening_of files plan.now))) }
     ensures asked { ¬ (result.verdict ≡ Verdict.Usage) }
+    ensures unsaved { (event line : ℕ) → ¬ (result.verdict ≡ Verdict.NotSaved event line) }
     ensures library_fault { (which : Whose) → result.verdict ≡ Verdict.LibraryFault which → Rose (L.faults lib.old) (L.faults lib.new) }
     ensures library_asked { (which : Whose) → IfSome (L.files lib.old) (λ files. result.verdict ≡ Verdict.LibraryFault which → AsksToRun files plan.now which) }
-    ensures device_fault { (p : ℕ) → result.verdict ≡ Verdict.DeviceFault p → Rose (K.faults keeps.old p) (K.faults keeps.new p) }
-    ensures wanting { result.verdict ≡ Verdict.WantOfMemory → (p : ℕ) → IsCalmUnlessStopped K.stops K.faults p keeps.old keeps.new }
+    ensures device_fault { (p : ℕ) → result.verdict ≡ Verdict.DeviceFault p → Rose (K.faults keeps.old p) (K.faults keeps.new p) ⊎ Rose (D.faults disks.old p) (D.faults disks.new p) }
+    ensures medium_fault { IfSome (L.files lib.old) (λ files. (p : ℕ) → result.verdict ≡ Verdict.DeviceFault p → HasFailed (devices_of K.Keeps D.Disks (medium_at files plan.now)) (lent keeps.old disks.old) (lent keeps.new disks.new) p) }
+    ensures wanting { result.verdict ≡ Verdict.WantOfMemory → (p : ℕ) → IsCalmUnlessStopped K.stops K.faults p keeps.old keeps.new × IsCalmUnlessStopped D.stops D.faults p disks.old disks.new }
     ensures output_fault { result.verdict ≡ Verdict.SinkFault Outlet.Out → Rose (O.faults out.old) (O.faults out.new) }
     ensures report_fault { result.verdict ≡ Verdict.SinkFault Outlet.Report → Rose (R.faults report.old) (R.faults report.new) }
     ensures headline { result.did ≡ Did.Run → IfSome (L.files lib.old) (λ files. IsOkAnd (as_verdict (opening_of files plan.now)) (λ setting.
-        IsReported K.Keeps setting result (loan keeps.old keeps.new) (course (O.held out.old) (O.held out.new) (O.faults out.old) (O.faults out.new))
+        IsReported (devices_of K.Keeps D.Disks (medium_at files plan.now)) setting result (loan (lent keeps.old disks.old) (lent keeps.new disks.new)) (course (O.held out.old) (O.held out.new) (O.faults out.old) (O.faults out.new))
         (course (R.held report.old) (R.held report.new) (R.faults report.old) (R.faults report.new)))) }
     ensures passes { result.did ≡ Did.Run → IfSome (L.files lib.old) (λ files. IsOkAnd (as_verdict (opening_of files plan.now)) (λ setting.
-        TellsStores (of_words K.Keeps) (length setting.images) keeps.old keeps.new → WritesPassing setting (course (O.held out.old) (O.held out.new) (O.faults out.old) (O.faults out.new))
+        (devices_of K.Keeps D.Disks (medium_at files plan.now)).tell (length setting.images) (lent keeps.old disks.old) (lent keeps.new disks.new) → WritesPassing setting (course (O.held out.old) (O.held out.new) (O.faults out.old) (O.faults out.new))
         (course (R.held report.old) (R.held report.new) (R.faults report.old) (R.faults report.new)) result.acts.items)) }
-    ensures ran { result.did ≡ Did.Run → (setting : Settings) ×
-        IsReported K.Keeps setting result (loan keeps.old keeps.new) (course (O.held out.old) (O.held out.new) (O.faults out.old) (O.faults out.new))
+    ensures ran { result.did ≡ Did.Run → (medium : Media) × (setting : Settings) ×
+        IsReported (devices_of K.Keeps D.Disks medium) setting result (loan (lent keeps.old disks.old) (lent keeps.new disks.new)) (course (O.held out.old) (O.held out.new) (O.faults out.old) (O.faults out.new))
         (course (R.held report.old) (R.held report.new) (R.faults report.old) (R.faults report.new)) }
     ensures did { has_run result.verdict ≡ true → result.did ≡ Did.Run }
     ensures did_run { (result.did ≡ Did.Run) ⊎ (result.did ≡ Did.Nothing) }
@@ -269,17 +309,24 @@ fn run_plan<L: Library, K: Keeps, O: Sink, R: Sink>(
     ensures report_tells { TellsOn 0 (R.faults report.new) (R.held report.old) (R.held report.new) }
     ensures output_later { O.faults out.old ≤ O.faults out.new }
     ensures report_later { R.faults report.old ≤ R.faults report.new }
+    ensures other { IfSome (L.files lib.old) (λ files. IsOtherSame (medium_at files plan.now) (lent keeps.old disks.old) (lent keeps.new disks.new)) }
+    ensures either { (keeps.new ≡ keeps.old) ⊎ (disks.new ≡ disks.old) }
     ensures keeps_refused { may_have_run result.verdict ≡ false → (result.verdict ≡ Verdict.WantOfMemory → ⊥) → keeps.new ≡ keeps.old }
     ensures keeps_later { (p : ℕ) → (K.stops keeps.old p ≤ K.stops keeps.new p) × (K.faults keeps.old p ≤ K.faults keeps.new p) }
     ensures keeps_tells { (p : ℕ) → KeepsTold (of_words K.Keeps) keeps.old keeps.new p }
     ensures keeps_others { IfSome (L.files lib.old) (λ files. AreLeftFrom (stores_used (work_by files (ToRun plan.now))) (of_words K.Keeps) keeps.old keeps.new) }
     ensures keeps_beyond { AreLeftFrom PROCESSES (of_words K.Keeps) keeps.old keeps.new }
+    ensures disks_refused { may_have_run result.verdict ≡ false → (result.verdict ≡ Verdict.WantOfMemory → ⊥) → disks.new ≡ disks.old }
+    ensures disks_later { (p : ℕ) → (D.stops disks.old p ≤ D.stops disks.new p) × (D.faults disks.old p ≤ D.faults disks.new p) }
+    ensures disks_tells { (p : ℕ) → KeepsTold (of_disks D.Disks) disks.old disks.new p }
+    ensures disks_others { IfSome (L.files lib.old) (λ files. AreLeftFrom (stores_used (work_by files (ToRun plan.now))) (of_disks D.Disks) disks.old disks.new) }
+    ensures disks_beyond { AreLeftFrom PROCESSES (of_disks D.Disks) disks.old disks.new }
 {
     let setting = match open(alloc, plan, lib) {
         Ok(setting) => setting,
         Err(refusal) => return Outcome::idle(alloc, verdict_of(refusal)),
     };
-    match run_setting(alloc, setting, keeps, out) {
+    match run_setting(alloc, setting, keeps, disks, out) {
         Ok(course) => reported(outcome_of(course), report),
         Err(fault) => Outcome::idle(alloc, unopened(fault)),
     }

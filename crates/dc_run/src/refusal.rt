@@ -2,9 +2,9 @@ ghost use Rattle.std.specs.Prelude.{◌≡◌};
 ghost use Rattle.dc_run.specs.Refusals.{verdict_of};
 
 use crate::{Verdict, Which};
-use dc_acts::ReportFault;
 use dc_elf::ElfFault;
 use dc_plan::PlanFault;
+use dc_report::ReportFault;
 use dc_schedule::ScheduleFault;
 
 /// Why a run was not opened, or an output not compared: the first that stood in the way.

@@ -9,13 +9,15 @@ use dc_elf::Image;
 use dc_links::Message;
 use dc_media::PlannedStop;
 use dc_model::Entry;
+use dc_plan::Medium;
 use dc_protocols::Protocol;
 
-/// What a run is opened with: its protocol, the image of each guest, the records of each one's input, its schedule, and the stops
+/// What a run is opened with: its protocol, the medium of its stores, the image of each guest, the records of each one's input, its schedule, and the stops
 /// that are planned.
 #[derive(Drop)]
 pub struct Setting {
     pub protocol: Protocol,
+    pub medium: Medium,
     pub images: Vec<Image>,
     pub inputs: Vec<Vec<Message>>,
     pub schedule: Vec<Entry>,

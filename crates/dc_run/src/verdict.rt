@@ -1,8 +1,9 @@
-use dc_acts::ReportFault;
 use dc_asm::AsmFault;
+use dc_audit::AuditFault;
 use dc_checkpoint::StoreFault;
 use dc_elf::ElfFault;
 use dc_plan::PlanFault;
+use dc_report::ReportFault;
 use dc_schedule::ScheduleFault;
 
 /// A file of a command.
@@ -20,6 +21,8 @@ pub enum Which {
     Out,
     /// The source of a guest.
     Source,
+    /// The journal of a run, by whatever system.
+    Journal,
 }
 
 /// A sink of a command.
@@ -42,13 +45,15 @@ pub enum Did {
     Checked(u32),
     /// It assembled a source to a file of so many bytes.
     Assembled(u64),
+    /// It audited a journal of so many events, which has Save-work.
+    Audited(u32),
 }
 
 /// What a call of the program came to.
 #[derive(Clone, Copy, Debug, PartialEq, Eq)]
 pub enum Verdict {
-    /// A run's schedule is used up and every guest has ended; an output passed the check; or a source was assembled and its file
-    /// written.
+    /// A run's schedule is used up and every guest has ended; an output passed the check; a source was assembled and its file
+    /// written; or a journal has Save-work.
     Done,
     /// The schedule is used up and some guest has not ended.
     Unfinished,
@@ -70,7 +75,7 @@ pub enum Verdict {
     NotARun(u32),
     /// That line of the output is the first that differs; `Outcome::difference` has what stands there and what would.
     Differs(u64),
-    /// There was no memory to open the run, to check the output, or to assemble the source.
+    /// There was no memory to open the run, to check the output, to assemble the source, or to audit the journal.
     WantOfMemory,
     /// The schedule's first faulty line.
     ScheduleRefused(ScheduleFault),
@@ -80,4 +85,9 @@ pub enum Verdict {
     ReportRefused(ReportFault),
     /// The source's first faulty line.
     AsmRefused(AsmFault),
+    /// The journal's first faulty line.
+    JournalRefused(AuditFault),
+    /// The journal has no Save-work: the event of the first line was unsaved at the second line. No earlier line has such an event, and of those
+    /// that this one has it is the earliest. Lines are numbered from 1.
+    NotSaved(u32, u32),
 }

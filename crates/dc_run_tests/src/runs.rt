@@ -1,12 +1,15 @@
 //! Calls of the program over files, devices and sinks in memory: each case of text comes to what it says.
 //!
-//! Of the call a case may say the words; the protocol, the planned stops, and in what else the plan differs; the guests by the names of
+//! Of the call a case may say the words; the protocol, the planned stops, and in what else the plan differs, as its medium; the guests by the names of
 //! their sources, or one guest by its source, by the words of its code, by a count of zero words, or as the file of `hi` with another byte
-//! or cut off, and the name of that file; how often a source to assemble is repeated; the schedule; the report and the output of a check;
+//! or cut off, and the name of that file; how often a source to assemble is repeated; a journal; the schedule; the report and the output of a check;
 //! which fetch, which write and which store call fail; the room of the output and the report.
 //!
 //! Of what comes of it: the line on standard error and the status; the output as text or as the file of code; the report by its close line,
 //! the turns of its acts and those that are not plain; the marks.
+//!
+//! A case of a table says with which statuses it may end, and is tried with each of the words that `each` and `first` offer in place of
+//! EACH and FIRST, at each call of a span.
 
 mod cases;
 mod devices;
@@ -15,23 +18,24 @@ mod guest_files;
 mod planned;
 
 use cases::{
-    ANSWERS, CALLS, CHECKS, COMMANDS, COMMITTED_TOGETHER, DECIDED_TOGETHER, GUESTS, LONG, PLANS,
-    RECOVERED_TOGETHER, RUNS, SCHEDULES, SOURCES, STOPS, TOGETHER, TOO_LONG,
+    ANSWERS, CALLS, CHECKS, COMMANDS, COMMITTED_TOGETHER, DECIDED_TOGETHER, DISKS, FAILING, GUESTS,
+    JOURNALS, LONG, PLANS, RECOVERED_TOGETHER, RUNS, SCHEDULES, SOURCES, STOPPED, STOPS, TOGETHER,
+    TOO_LONG,
 };
 use dc_cases::{
     coded, holds, is_read, number, numbers, passing, says, text, value, wanted_report, words,
 };
-use dc_memmedia::{MemKeeps, MemLibrary, MemSink};
+use dc_memmedia::{MemDisks, MemKeeps, MemLibrary, MemSink};
 use dc_model::{Idle, Mark};
 use dc_run::{Did, Outcome, conclude};
-use devices::{called, called_aside};
-use planned::{library, refused, stopped_calls};
+use devices::{Devices, called, called_aside};
+use planned::{library, refused, tried_calls};
 use std::alloc::Global;
 use std::test::Fail;
 
 const KEYS: &str =
-    "words plan protocol stops old new guests source copies code zeros place byte cut name schedule report output fetch write \
-device room report_room said status out elf close acts act marks";
+    "words plan protocol stops old new guests source copies journal code zeros place byte cut name schedule report output fetch write \
+device room report_room said status out elf close acts act marks each first ends";
 
 /// What a call left: its outcome and its two sinks.
 #[derive(Drop)]
@@ -95,7 +99,8 @@ fn output_is(alloc: Global, case: &str, out: &MemSink) -> Result<(), Fail> {
 /// The program ends with the status and the line that the case says.
 fn ends_so(alloc: Global, case: &str, outcome: &Outcome) -> Result<(), Fail> {
     let mut error = MemSink::new(alloc, 200, Vec::new(alloc))?;
-    let status = conclude(outcome, &mut error);
+    let words = words(alloc, value(case, "words", "dc run plan"))?;
+    let status = conclude(alloc, &words, outcome, &mut error);
     holds(
         number(case, "status", "0")? == usize::from(status),
         case,
@@ -126,12 +131,15 @@ fn output(alloc: Global, case: &str) -> Result<MemSink, Fail> {
 
 /// The call of a case over its files.
 fn left_by(alloc: Global, case: &str, library: &mut MemLibrary) -> Result<Left, Fail> {
-    let mut keeps = MemKeeps::new(alloc, refused(alloc, case)?)?;
+    let mut on = Devices {
+        keeps: MemKeeps::new(alloc, refused(alloc, case)?)?,
+        disks: MemDisks::new(alloc, refused(alloc, case)?)?,
+    };
     let mut out = output(alloc, case)?;
     let room = number(case, "report_room", "100000")?;
     let mut report = MemSink::new(alloc, room, Vec::new(alloc))?;
     let words = words(alloc, value(case, "words", "dc run plan"))?;
-    let outcome = called(alloc, &words, library, &mut keeps, &mut out, &mut report)?;
+    let outcome = called(alloc, &words, library, &mut on, &mut out, &mut report);
     Ok(Left {
         outcome,
         out,
@@ -144,6 +152,9 @@ fn tried(alloc: Global, case: &str) -> Result<(), Fail> {
     is_read(case, KEYS)?;
     let mut library = library(alloc, case)?;
     let left = left_by(alloc, case, &mut library)?;
+    if says(case, "ends") {
+        return ends_well(alloc, case, &mut library, &left);
+    }
     ends_so(alloc, case, &left.outcome)?;
     comes_to(alloc, case, &left)?;
     if says(case, "close") && !fails(case) {
@@ -165,8 +176,13 @@ fn check_words(alloc: Global) -> Result<Vec<String>, Fail> {
     Ok(words)
 }
 
-/// What a run wrote passes the check.
-fn passes(alloc: Global, case: &str, library: &mut MemLibrary, left: &Left) -> Result<(), Fail> {
+/// What the check of what a run wrote prints, which passes.
+fn checked(
+    alloc: Global,
+    case: &str,
+    library: &mut MemLibrary,
+    left: &Left,
+) -> Result<MemSink, Fail> {
     let name = String::from_str(alloc, "written report")?;
     library.add(name, left.report.bytes().to_vec(alloc)?)?;
     let name = String::from_str(alloc, "written")?;
@@ -175,14 +191,44 @@ fn passes(alloc: Global, case: &str, library: &mut MemLibrary, left: &Left) -> R
     let words = check_words(alloc)?;
     let outcome = called_aside(alloc, &words, library, &mut out)?;
     holds(outcome.status() == 0, case, "the check passes")?;
+    Ok(out)
+}
+
+/// What a run wrote passes the check, which counts what the case says.
+fn passes(alloc: Global, case: &str, library: &mut MemLibrary, left: &Left) -> Result<(), Fail> {
+    let out = checked(alloc, case, library, left)?;
     let line = passing(alloc, case)?;
     let is_same = out.bytes() == line.as_bytes();
     holds(is_same, case, "the line of the check")
 }
 
-/// So it does with its last stop at each of the calls that it names, if it names several.
+/// The status is one of those that the case says.
+fn status_is(alloc: Global, case: &str, outcome: &Outcome) -> Result<(), Fail> {
+    let status = u64::from(outcome.status());
+    let ends = numbers(alloc, value(case, "ends", ""))?;
+    holds(ends.contains(&status), case, "the status")
+}
+
+/// A call of a table ends as its case says; what a run wrote passes the check, or is a front of the case's output where that could not be
+/// written; and a call that is no run writes nothing.
+fn ends_well(alloc: Global, case: &str, library: &mut MemLibrary, left: &Left) -> Result<(), Fail> {
+    status_is(alloc, case, &left.outcome)?;
+    let shown = left.out.bytes();
+    if says(case, "write") {
+        let whole = text(alloc, case, "out", "")?;
+        return holds(whole.as_bytes().starts_with(shown), case, "a front");
+    }
+    if left.outcome.did == Did::Run {
+        let line = checked(alloc, case, library, left)?;
+        return holds(line.bytes().starts_with(b"ok "), case, "the line");
+    }
+    holds(shown.is_empty(), case, "no output")?;
+    holds(left.report.bytes().is_empty(), case, "no report")
+}
+
+/// So it does at each of the calls that it names, if it names several.
 fn tried_at_each(alloc: Global, case: &str) -> Result<(), Fail> {
-    let Some(calls) = stopped_calls(alloc, case)? else {
+    let Some(calls) = tried_calls(alloc, case)? else {
         return tried(alloc, case);
     };
     holds(calls.from <= calls.to, case, "no call to stop at")?;
@@ -193,11 +239,27 @@ fn tried_at_each(alloc: Global, case: &str) -> Result<(), Fail> {
     Ok(())
 }
 
+/// And with each of the words that it offers for FIRST.
+fn tried_for_first(alloc: Global, case: &str) -> Result<(), Fail> {
+    for word in value(case, "first", "").split("|") {
+        tried_at_each(alloc, &case.replace(alloc, "FIRST", word)?)?;
+    }
+    Ok(())
+}
+
+/// And with each that it offers for EACH.
+fn tried_for_each(alloc: Global, case: &str) -> Result<(), Fail> {
+    for word in value(case, "each", "").split("|") {
+        tried_for_first(alloc, &case.replace(alloc, "EACH", word)?)?;
+    }
+    Ok(())
+}
+
 /// Each of some cases does, of which each begins with `* `.
 fn all(alloc: Global, cases: &str) -> Result<(), Fail> {
     for case in cases.split("* ") {
         if !case.is_empty() {
-            tried_at_each(alloc, case)?;
+            tried_for_each(alloc, case)?;
         }
     }
     Ok(())
@@ -279,8 +341,55 @@ fn recovered_together(rt: HostRuntime) -> Result<(), Fail> {
 }
 
 #[test]
+fn runs_on_disks(rt: HostRuntime) -> Result<(), Fail> {
+    all(rt.alloc(), DISKS)
+}
+
+#[test]
 fn sources(rt: HostRuntime) -> Result<(), Fail> {
     all(rt.alloc(), SOURCES)
+}
+
+#[test]
+fn journals(rt: HostRuntime) -> Result<(), Fail> {
+    all(rt.alloc(), JOURNALS)
+}
+
+#[test]
+fn calls_stopped(rt: HostRuntime) -> Result<(), Fail> {
+    all(rt.alloc(), STOPPED)
+}
+
+#[test]
+fn calls_failing(rt: HostRuntime) -> Result<(), Fail> {
+    all(rt.alloc(), FAILING)
+}
+
+/// Each front of a text is tried as one of a case's, by a key.
+fn fronts(alloc: Global, key: &str, whole: &str, ends: &str) -> Result<(), Fail> {
+    for cut in 0..whole.len() {
+        let Some(front) = whole.get(..cut) else {
+            return Err(Fail::new("a front"));
+        };
+        let case = format!(in alloc; "cut\n{key}={front}\nends={ends}\n")?;
+        tried(alloc, &case)?;
+    }
+    Ok(())
+}
+
+/// A plan that is cut off is refused; the last line feed may be missing.
+#[test]
+fn plans_cut_off(rt: HostRuntime) -> Result<(), Fail> {
+    let plan =
+        "protocol = \"cpvs\"~medium = \"rio\"~memory = 65536~guests = [\"hi.elf\"]~schedule = \"schedule\"";
+    fronts(rt.alloc(), "plan", plan, "3")
+}
+
+/// A schedule that is cut off is one of fewer entries, or its last line is refused.
+#[test]
+fn schedules_cut_off(rt: HostRuntime) -> Result<(), Fail> {
+    let schedule = "0 0 0~0 12 345~stop 0~power~0 0 0~";
+    fronts(rt.alloc(), "schedule", schedule, "0 1 11")
 }
 
 /// A file cut off at each place is refused for the first thing that is missing.

@@ -100,8 +100,8 @@ pub fn put<B: Bus>(bus: &mut B, a: u32, w: u32, width: u32) -> Result<(), B::Sto
     ensures made { OnOk result (B.made bus.old (a / 4) bus.new) }
     ensures refused { IfErr result (λ why. B.refused bus.old (a / 4) bus.new why) }
 {
-    let place = 8 * (a % 4);
-    bus.store(a / 4, w << place, mask_of(width) << place)
+    let shift = 8 * (a % 4);
+    bus.store(a / 4, w << shift, mask_of(width) << shift)
 }
 
 /// Whether an access goes past the memory.

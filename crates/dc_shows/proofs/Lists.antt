@@ -1,7 +1,7 @@
 -- Lists of which something holds, and numbers below a bound.
 use Rattle.std.proofs.Common.{◌≡◌, ◌<◌, ◌≤◌, ◌+◌, ℕ, zero, suc, List, [], ◌∷◌, ◌++◌, Bool, true, false, Some, arith, if◌then◌else◌, length, slice_get, slice_index, slice_set, subst}
 use Rattle.std.specs.List.{AllByRecursion}
-use Rattle.dc_acts.specs.Reading.{AreActs}
+use Rattle.dc_report.specs.Reading.{AreActs}
 use Rattle.dc_limits.specs.declared.bounds.TheConstants.{ENTRIES}
 use Rattle.dc_model.specs.declared.act.Taken.{Taken}
 use Rattle.dc_words.specs.Words.{AllBelow}

@@ -2,7 +2,7 @@
 use Rattle.std.proofs.Common.{◌≡◌, ◌<◌, ◌≤◌, ◌^◌, ℕ, true, List, [], ◌∷◌, Ok, Some, arith, length, reverse}
 use Rattle.std.specs.List.{AllByRecursion}
 use Rattle.dc_acts.specs.Lines.{text_of}
-use Rattle.dc_acts.specs.Reading.{Report, is_status, report_of, text_of_report}
+use Rattle.dc_report.specs.Reading.{Report, is_status, report_of, text_of_report}
 use Rattle.dc_check.proofs.Passing.{records_pass}
 use Rattle.dc_check.specs.Findings.{finding_of}
 use Rattle.dc_check.specs.Findings.Finding.{Passes}
@@ -19,7 +19,7 @@ use Rattle.dc_model.specs.declared.entry.Entry.{Entry}
 use Rattle.dc_model.specs.declared.visible.Visible.{Visible}
 use Rattle.dc_shows.specs.Typed.{CanWrite, IsGivenRun}
 use Rattle.dc_shows.proofs.Lists.{acts_few}
-use Rattle.dc_shows.proofs.Reports.{report_again}
+use Rattle.dc_report.proofs.ReportTexts.{report_again}
 use Rattle.dc_shows.proofs.Worlds.{run_written}
 
 written_all : (n most : ℕ) (records : List Visible) → n ≤ PROCESSES → most ≤ ENTRIES → AllByRecursion (CanWrite n most) records → AllByRecursion IsWritten records

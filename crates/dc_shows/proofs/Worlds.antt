@@ -3,7 +3,7 @@ use Rattle.std.proofs.Common.{◌≡◌, ◌∙◌, ◌<◌, ◌≤◌, ◌+◌,
 use Rattle.std.specs.List.{AllByRecursion}
 use Rattle.std.proofs.lemmas.Bool.{and_parts, cases_Bool, eqb-true}
 use Rattle.std.proofs.lemmas.Option.{slice_get_within}
-use Rattle.dc_acts.specs.Reading.{AreActs, IsAct}
+use Rattle.dc_report.specs.Reading.{AreActs, IsAct}
 use Rattle.dc_check.proofs.Applied.{one_event}
 use Rattle.dc_elf.specs.Images.{Image}
 use Rattle.dc_guest.specs.Guest.{Guest, coming, guests_of, started}

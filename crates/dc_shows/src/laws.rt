@@ -1,6 +1,6 @@
 ghost use Rattle.std.specs.Prelude.{◌≡◌, ◌≤◌, ◌<◌, ◌^◌, Ok, Some, true, List, ℕ, length, reverse};
 ghost use Rattle.std.specs.List.{AllByRecursion};
-ghost use Rattle.dc_acts.specs.Reading.{AreActs, Report, is_status, report_of, text_of_report};
+ghost use Rattle.dc_report.specs.Reading.{AreActs, Report, is_status, report_of, text_of_report};
 ghost use Rattle.dc_acts.specs.Lines.{text_of};
 ghost use Rattle.dc_check.specs.Findings.{finding_of};
 ghost use Rattle.dc_check.specs.Findings.Finding.{Passes};

@@ -1,7 +1,8 @@
 use crate::holding::holds;
-use dc_acts::{Acts, Report, cuts_are_of_one_process, read_report, write_report};
+use dc_acts::{Acts, cuts_are_of_one_process};
 use dc_memmedia::MemSink;
 use dc_model::{Act, Taken};
+use dc_report::{Report, read_report, write_report};
 use std::alloc::Global;
 use std::test::Fail;
 

@@ -107,6 +107,7 @@ schedule|schedule = \"\\u0073\"|
 |inputs = [[]]~stop = []|
 guests memory|memory = 131072~guests = ['a']|
 protocol|protocol = '''~cand'''|
+medium|medium = 'disk'|
 ";
 
 #[test]
@@ -147,8 +148,7 @@ protocol medium|protocol = 'cpv'|range protocol
 medium||missing medium
 medium|medium = true|kind medium
 medium|medium = 'tape'|range medium
-medium|medium = 'disk'|range medium
-medium memory|medium = 'disk'|range medium
+medium memory|medium = 'tape'|range medium
 ";
 
 #[test]
@@ -265,6 +265,8 @@ const STOPS: &str = "\
 |stop = [{turn = 0, process = 0, call = 0, keep = 0}]|range stop
 |stop = [{turn = 0, process = 0, call = 1, keep = 4000000001}]|range stop
 |stop = [{turn = 0, process = 0, call = 1, keep = 0, fill = 0}]|range stop
+medium|medium = 'disk'~stop = [{turn = 0, process = 0, call = 1, keep = 0, fill = 256}]|range stop
+medium|medium = 'disk'~stop = [{turn = 0, process = 0, call = 1, keep = 0, fill = -1}]|range stop
 |[[stop]]~turn = 0~process = 0~call = 4000000001~keep = 0|range stop
 |[[stop]]~turn = 0~process = 0~call = 1~keep = -1|range stop
 guests|guests = ['1', '2', '3', '4', '5', '6', '7', '8']~stop = [{turn = 0, process = 8, call = 1, keep = 0}]|range stop
@@ -411,6 +413,7 @@ schedule|turns = 3~seed = 7|seed 7 3
 schedule|seed = 9223372036854775807~turns = 1000000|seed 9223372036854775807 1000000
 |stop = []|file=s
 |[[stop]]~turn = 0~process = 0~call = 1~keep = 0|file=s; 0 0 1 0
+medium|medium = 'disk'~stop = [{turn = 1, process = 0, call = 2, keep = 3, fill = 255}, {turn = 1, process = 0, call = 2, keep = 3}]|file=s; 1 0 2 3 255; 1 0 2 3
 guests schedule|guests = ['1', '2', '3', '4', '5', '6', '7', '8']~seed = 7~turns = 3~stop = [{turn = 999999, process = 7, call = 4000000000, keep = 4000000000}, {keep = 4, call = 3, process = 2, turn = 1}]|seed 7 3; 999999 7 4000000000 4000000000; 1 2 3 4
 ";
 

@@ -2,11 +2,12 @@
 
 use crate::runs::lists::at;
 use crate::runs::runs::Ran;
-use dc_acts::{Acts, write_report};
+use dc_acts::Acts;
 use dc_cases::{as_usize, holds, numbers, text, value};
 use dc_course::{Course, Ending};
 use dc_memmedia::MemSink;
 use dc_model::{Idle, Mark, Taken};
+use dc_report::write_report;
 use std::alloc::Global;
 use std::test::Fail;
 

@@ -19,6 +19,14 @@ fn add(
     library.add(String::from_str(alloc, name)?, text.into_bytes())
 }
 
+/// The files of a case that audits its journal.
+pub fn journal(alloc: Global, case: &str) -> Result<MemLibrary, Fail> {
+    let mut library = MemLibrary::new(alloc, numbers(alloc, value(case, "fetch", ""))?);
+    let journal = text(alloc, case, "journal", "none")?;
+    add(alloc, &mut library, "journal", journal)?;
+    Ok(library)
+}
+
 /// The files of a case that assembles its source.
 pub fn source(alloc: Global, case: &str) -> Result<MemLibrary, Fail> {
     let mut library = MemLibrary::new(alloc, numbers(alloc, value(case, "fetch", ""))?);

@@ -1,11 +1,10 @@
 //! The stops of a case: planned ones, and calls that the device itself refuses.
 
-use crate::runs::devices::called;
-use crate::runs::files::{files, source};
-use dc_cases::{as_u32, as_u64, as_usize, front, holds, plan, schedule, value, words};
+use crate::runs::devices::calls_of;
+use crate::runs::files::{files, journal, source};
+use dc_cases::{as_u32, as_u64, as_usize, front, plan, schedule, value, words};
 use dc_media::{DeviceFault, Tear};
-use dc_memmedia::{ListedCall, MemKeeps, MemLibrary, MemSink};
-use dc_run::Did;
+use dc_memmedia::{ListedCall, MemLibrary};
 use std::alloc::{AllocError, Global};
 use std::test::Fail;
 
@@ -14,35 +13,38 @@ fn made(alloc: Global, case: &str, plan: &str, entries: usize, process: u32) -> 
     let schedule = front(alloc, &schedule(alloc, case)?, entries)?;
     let plan = String::from_str(alloc, plan)?;
     let mut library = files(alloc, case, plan, schedule)?;
-    let mut keeps = MemKeeps::new(alloc, Vec::new(alloc))?;
-    let mut out = MemSink::new(alloc, 100_000, Vec::new(alloc))?;
-    let mut report = MemSink::new(alloc, 100_000, Vec::new(alloc))?;
     let words = words(alloc, "dc run plan")?;
-    let outcome = called(
-        alloc,
-        &words,
-        &mut library,
-        &mut keeps,
-        &mut out,
-        &mut report,
-    )?;
-    holds(outcome.did == Did::Run, case, "a run by this plan")?;
-    Ok(keeps.calls(process))
-}
-
-/// How many calls before the last one: those behind `-`, none where that is missing.
-fn places_back(back: &str) -> Result<u64, Fail> {
-    match back.strip_prefix("-") {
-        Some(count) => as_u64(count),
-        None => Ok(0),
+    match calls_of(alloc, &words, &mut library, process)? {
+        Some(calls) => Ok(calls),
+        None => Err(Fail::new(case)),
     }
 }
 
-/// The number of a call of a stop's turn: `last` is the last one that its process makes in a run by this plan, `last-1` the one before.
+/// That number, or so many more as stand behind `+`, or fewer as behind `-`.
+fn moved(number: u64, by: &str) -> Result<u64, Fail> {
+    if let Some(more) = by.strip_prefix("+") {
+        return Ok(number.saturating_add(as_u64(more)?));
+    }
+    match by.strip_prefix("-") {
+        Some(fewer) => Ok(number.saturating_sub(as_u64(fewer)?)),
+        None => Ok(number),
+    }
+}
+
+/// The number of a call among so many: `middle`, or from the last one on.
+fn call_among(calls: u64, call: &str) -> Result<u64, Fail> {
+    match call.strip_prefix("last") {
+        Some(back) => moved(calls, back),
+        None => Ok(calls.saturating_add(1) / 2),
+    }
+}
+
+/// The number of a call of a stop's turn: `last` is the last one that its process makes in a run by this plan, `last-1` the one before, and
+/// `middle` lies half way.
 fn call_of(alloc: Global, case: &str, plan: &str, stop: &str, call: &str) -> Result<u64, Fail> {
-    let Some(back) = call.strip_prefix("last") else {
+    if !call.starts_with("last") && call != "middle" {
         return as_u64(call);
-    };
+    }
     let mut words = stop.split_whitespace();
     let (Some(turn), Some(process)) = (words.next(), words.next()) else {
         return Err(Fail::new(stop));
@@ -51,14 +53,13 @@ fn call_of(alloc: Global, case: &str, plan: &str, stop: &str, call: &str) -> Res
     let process = as_u32(process)?;
     let before = made(alloc, case, plan, turn, process)?;
     let after = made(alloc, case, plan, turn.saturating_add(1), process)?;
-    let back = places_back(back)?;
-    Ok(after.saturating_sub(before).saturating_sub(back))
+    call_among(after.saturating_sub(before), call)
 }
 
-/// Adds a planned stop to a plan, as a table: turn, process, call and what it keeps.
+/// Adds a planned stop to a plan, as a table: turn, process, call, what it keeps, and on a disk the byte that fills the rest.
 fn add_stop(alloc: Global, case: &str, stop: &str, plan: &mut String) -> Result<(), Fail> {
     let mut table = String::from_str(alloc, "[[stop]]\n")?;
-    for (key, word) in ["turn", "process", "call", "keep"]
+    for (key, word) in ["turn", "process", "call", "keep", "fill"]
         .iter()
         .zip(stop.split_whitespace())
     {
@@ -80,7 +81,7 @@ fn planned(alloc: Global, case: &str, stops: &str) -> Result<String, Fail> {
     Ok(plan)
 }
 
-/// The calls of a turn that the last stop of a case is tried at: the word `FROM..TO` that names them, and its two numbers.
+/// The calls that a case is tried at: the word `FROM..TO` that names them, and its two numbers.
 #[derive(Clone, Copy, Drop)]
 pub struct Calls<'a> {
     pub word: &'a str,
@@ -89,7 +90,7 @@ pub struct Calls<'a> {
 }
 
 /// These calls, if the case says a span of them.
-pub fn stopped_calls<'a>(alloc: Global, case: &'a str) -> Result<Option<Calls<'a>>, Fail> {
+fn stopped_calls<'a>(alloc: Global, case: &'a str) -> Result<Option<Calls<'a>>, Fail> {
     let stops = value(case, "stops", "");
     let (before, stop) = stops.rsplit_once(", ").unwrap_or(("", stops));
     let Some(word) = stop.split_whitespace().nth(2) else {
@@ -108,6 +109,9 @@ pub fn stopped_calls<'a>(alloc: Global, case: &'a str) -> Result<Option<Calls<'a
 pub fn library(alloc: Global, case: &str) -> Result<MemLibrary, Fail> {
     if value(case, "words", "").starts_with("dc asm") {
         return source(alloc, case);
+    }
+    if value(case, "words", "").starts_with("dc audit") {
+        return journal(alloc, case);
     }
     let plan = planned(alloc, case, value(case, "stops", ""))?;
     let schedule = schedule(alloc, case)?;
@@ -130,15 +134,42 @@ fn listed(alloc: Global, call: u64, fault: DeviceFault) -> Result<Vec<ListedCall
     Ok(list)
 }
 
-/// The number of a call: it, or `after` and the count of the entries before it.
+/// The number of a call of process 0's device in the run of a case: it; `opened` is the last one before the first entry, and `last` the last
+/// one of all.
 fn call_in(alloc: Global, case: &str, call: &str) -> Result<u64, Fail> {
-    let Some(entries) = call.strip_prefix("after ") else {
-        return as_u64(call);
-    };
-    let entries = as_usize(entries)?;
     let plan = plan(alloc, case)?;
-    let made = made(alloc, case, &plan, entries, 0)?;
-    Ok(made.saturating_add(1))
+    if let Some(by) = call.strip_prefix("opened") {
+        return moved(made(alloc, case, &plan, 0, 0)?, by);
+    }
+    if let Some(by) = call.strip_prefix("last") {
+        return moved(made(alloc, case, &plan, 1_000_000, 0)?, by);
+    }
+    if let Some(entries) = call.strip_prefix("after ") {
+        let made = made(alloc, case, &plan, as_usize(entries)?, 0)?;
+        return Ok(made.saturating_add(1));
+    }
+    as_u64(call)
+}
+
+/// The calls that a case has refused one after the other, if it says a span of them.
+fn failed_calls<'a>(alloc: Global, case: &'a str) -> Result<Option<Calls<'a>>, Fail> {
+    let Some((_, word)) = value(case, "device", "").split_once(' ') else {
+        return Ok(None);
+    };
+    let Some((from, to)) = word.split_once("..") else {
+        return Ok(None);
+    };
+    let from = call_in(alloc, case, from)?;
+    let to = call_in(alloc, case, to)?;
+    Ok(Some(Calls { word, from, to }))
+}
+
+/// The calls that a case is tried at, stopped or refused, if it says a span of them.
+pub fn tried_calls<'a>(alloc: Global, case: &'a str) -> Result<Option<Calls<'a>>, Fail> {
+    match stopped_calls(alloc, case)? {
+        Some(calls) => Ok(Some(calls)),
+        None => failed_calls(alloc, case),
+    }
 }
 
 /// What a refused call answers.

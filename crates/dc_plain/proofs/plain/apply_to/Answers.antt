@@ -31,3 +31,11 @@ returns-clause-illegal c = λ images.
     let some = applies (guests_of images (lists_of c.args.inputs.now)) (world_at c.args.processes.now c.args.visibles.now.items) c.args.p c.args.act.now (answer_of c.in-Some.answer)
     (sym (ap (option_map answer_of) c.in-Some.is) ∙ c.fitting.ensures.exact images c.args.visibles.now.items) in
     (λ e. absurd cc, λ none. let never = sym some ∙ none in absurd cc)
+
+pub returns-clause-happens : goal.returns-clause-happens
+returns-clause-happens c = λ images. record {
+  answered = sym (sym (ap (option_map answer_of) c.in-Some.is) ∙ c.fitting.ensures.exact images c.args.visibles.now.items);
+  new_is = c.in-Ok.ensures.happened images (lists_of c.args.inputs.now);
+  shows = c.in-Ok.ensures.shows;
+  sends = c.in-Ok.ensures.sends;
+}

@@ -1,6 +1,6 @@
 use Rattle.std.proofs.Common.{◌∙◌, ap, rules, sym}
 use Rattle.std.proofs.lemmas.Result.{err_from_is_err_and}
-use Rattle.dc_acts.specs.Reads.{seen}
+use Rattle.dc_report.specs.Reads.{seen}
 use Rattle.dc_words.specs.Results.{◌>>=◌}
 use Rattle.dc_run.specs.Checking.{found_at_end}
 use Rattle.dc_command.specs.Command.{names_view}

@@ -1,18 +1,22 @@
-use Rattle.std.proofs.Common.{◌≡◌, ◌∙◌, Err, Some, ap, inl, length, refl, rules}
+use Rattle.std.proofs.Common.{◌≡◌, ◌∙◌, ℕ, Err, Some, ap, inl, length, refl, rules}
+use Rattle.dc_audit.specs.Reading.{IsVerdict}
+use Rattle.dc_audit.specs.declared.verdict.Verdict.TheVariants as found
 use Rattle.dc_command.specs.Command.{asked_of}
 use Rattle.dc_command.specs.Command.{names_view}
-use Rattle.dc_command.specs.Command.Asked.{ToRun, ToCheck, ToAssemble}
+use Rattle.dc_command.specs.Command.Asked.{ToRun, ToCheck, ToAssemble, ToAudit}
 use Rattle.dc_run.specs.Checking.{Checked, IsChecked}
 use Rattle.dc_run.proofs.Checks.{check_asks, check_exact, check_passes}
-use Rattle.dc_run.proofs.Commands.{assembly_asks, assembly_exact, assembly_opened, check_opened, run_exact, run_asks, run_opened, unasked_opened}
+use Rattle.dc_run.proofs.Commands.{assembly_asks, assembly_exact, assembly_opened, audit_asks, audit_exact, audit_opened, audit_says, check_opened, run_exact, run_asks, run_opened, unasked_opened}
 use Rattle.dc_run.proofs.Ends.{never_refused, opened_with, other_complete, run_complete, run_of_words}
-use Rattle.dc_course.specs.Lent.{TellsStores}
-use Rattle.dc_media.specs.Devices.{of_words}
+use Rattle.dc_media.specs.Devices.{of_disks, of_words}
+use Rattle.dc_run.proofs.OnMedia.{each_so, medium_asked, other_same}
+use Rattle.dc_run.specs.Media.{HasFailed, IsOtherSame, devices_of, lent}
 use Rattle.dc_run.specs.Headline.{IsReported, course, loan}
 use Rattle.dc_run.specs.Passing.{WritesPassing}
 use Rattle.dc_run.specs.Settings.{has_run}
+use Rattle.dc_run.specs.declared.verdict.Verdict.TheVariants.{DeviceFault}
 use Rattle.dc_run.proofs.Leaving.{asked_left, left_same}
-use Rattle.dc_run.specs.Commands.{stores_used, work_of}
+use Rattle.dc_run.specs.Commands.{medium_of, stores_used, work_of}
 use Rattle.dc_run.proofs.program.dc.Goals as goal
 
 pub returns-in-Ok-Run-clause-refused : goal.returns-in-Ok-Run-clause-refused
@@ -63,38 +67,39 @@ pub returns-in-Ok-Run-clause-complete : goal.returns-in-Ok-Run-clause-complete
 returns-in-Ok-Run-clause-complete g c = let asked : asked_of c.args.words.now ≡ Some (ToRun c.in-Ok-Run.plan.now) = search rules in
     let out = course (g.O.Sink.held c.args.out.now) (g.O.Sink.held c.run_plan.new.out) (g.O.Sink.faults c.args.out.now) (g.O.Sink.faults c.run_plan.new.out) in
     let report = course (g.R.Sink.held c.args.report.now) (g.R.Sink.held c.run_plan.new.report) (g.R.Sink.faults c.args.report.now) (g.R.Sink.faults c.run_plan.new.report) in
-    let lent = loan c.args.keeps.now c.run_plan.new.keeps in
+    let before = lent c.args.keeps.now c.args.disks.now in
+    let after = lent c.run_plan.new.keeps c.run_plan.new.disks in
     let known = g.L.Library.files c.args.lib.now in
-    run_complete g.K.Keeps c.args.words.now c.run_plan.result.verdict c.args.keeps.now c.run_plan.new.keeps (g.L.Library.faults c.args.lib.now) (g.L.Library.faults c.run_plan.new.lib) out report
-    c.run_plan.ensures.library_fault c.run_plan.ensures.device_fault c.run_plan.ensures.output_fault c.run_plan.ensures.report_fault known c.in-Ok-Run.plan.now asked c.run_plan.ensures.opened
-    (λ p fault e. opened_with known c.in-Ok-Run.plan.now (λ setting. IsReported g.K.Keeps setting c.run_plan.result lent out report)
-    (λ setting. TellsStores (of_words g.K.Keeps) (length setting.images) c.args.keeps.now c.run_plan.new.keeps → ⊥)
-    (λ setting is. never_refused g.K.Keeps setting c.run_plan.result lent out report p fault e is) (c.run_plan.ensures.headline (c.run_plan.ensures.did (ap has_run e))))
+    run_complete c.args.words.now c.run_plan.result.verdict before after (g.L.Library.faults c.args.lib.now) (g.L.Library.faults c.run_plan.new.lib) out report
+    c.run_plan.ensures.library_fault c.run_plan.ensures.output_fault c.run_plan.ensures.report_fault (devices_of g.K.Keeps g.D.Disks) known c.in-Ok-Run.plan.now asked c.run_plan.ensures.medium_fault c.run_plan.ensures.opened
+    (λ p fault e. opened_with known c.in-Ok-Run.plan.now (λ m setting. IsReported (devices_of g.K.Keeps g.D.Disks m) setting c.run_plan.result (loan before after) out report)
+    (λ m setting. (devices_of g.K.Keeps g.D.Disks m).tell (length setting.images) before after → ⊥)
+    (λ m setting is. never_refused (devices_of g.K.Keeps g.D.Disks m) setting c.run_plan.result (loan before after) out report p fault e is) (c.run_plan.ensures.headline (c.run_plan.ensures.did (ap has_run e))))
 
 pub returns-in-Ok-Check-clause-complete : goal.returns-in-Ok-Check-clause-complete
 returns-in-Ok-Check-clause-complete g c = let asked : asked_of c.args.words.now ≡ Some (ToCheck (names_view c.in-Ok-Check.names)) = search rules in
     let known = g.L.Library.files c.args.lib.now in
-    other_complete g.K.Keeps c.args.words.now c.check_output.result.verdict c.args.keeps.now c.args.keeps.now (g.L.Library.faults c.args.lib.now) (g.L.Library.faults c.check_output.new.lib)
+    other_complete c.args.words.now c.check_output.result.verdict (lent c.args.keeps.now c.args.disks.now) (lent c.args.keeps.now c.args.disks.now) (g.L.Library.faults c.args.lib.now) (g.L.Library.faults c.check_output.new.lib)
     (course (g.O.Sink.held c.args.out.now) (g.O.Sink.held c.check_output.new.out) (g.O.Sink.faults c.args.out.now) (g.O.Sink.faults c.check_output.new.out))
     (course (g.R.Sink.held c.args.report.now) (g.R.Sink.held c.args.report.now) (g.R.Sink.faults c.args.report.now) (g.R.Sink.faults c.args.report.now))
-    c.check_output.ensures.library_fault (λ p e. absurd (c.check_output.ensures.device p e)) c.check_output.ensures.output_fault (λ e. absurd (c.check_output.ensures.own e))
-    known (check_opened c.args.words.now c.check_output.result.verdict known (names_view c.in-Ok-Check.names) asked c.check_output.ensures.opened) c.check_output.ensures.runs
+    c.check_output.ensures.library_fault c.check_output.ensures.output_fault (λ e. absurd (c.check_output.ensures.own e))
+    (devices_of g.K.Keeps g.D.Disks) (λ m p e. absurd (c.check_output.ensures.device p e)) known (check_opened c.args.words.now c.check_output.result.verdict known (names_view c.in-Ok-Check.names) asked c.check_output.ensures.opened) c.check_output.ensures.runs
 
 pub returns-in-Ok-Assemble-clause-complete : goal.returns-in-Ok-Assemble-clause-complete
 returns-in-Ok-Assemble-clause-complete g c = let asked : asked_of c.args.words.now ≡ Some (ToAssemble c.in-Ok-Assemble.source.now) = search rules in
     let known = g.L.Library.files c.args.lib.now in
-    other_complete g.K.Keeps c.args.words.now c.assemble_source.result.verdict c.args.keeps.now c.args.keeps.now (g.L.Library.faults c.args.lib.now) (g.L.Library.faults c.assemble_source.new.lib)
+    other_complete c.args.words.now c.assemble_source.result.verdict (lent c.args.keeps.now c.args.disks.now) (lent c.args.keeps.now c.args.disks.now) (g.L.Library.faults c.args.lib.now) (g.L.Library.faults c.assemble_source.new.lib)
     (course (g.O.Sink.held c.args.out.now) (g.O.Sink.held c.assemble_source.new.out) (g.O.Sink.faults c.args.out.now) (g.O.Sink.faults c.assemble_source.new.out))
     (course (g.R.Sink.held c.args.report.now) (g.R.Sink.held c.args.report.now) (g.R.Sink.faults c.args.report.now) (g.R.Sink.faults c.args.report.now))
-    c.assemble_source.ensures.library_fault (λ p e. absurd (c.assemble_source.ensures.device p e)) c.assemble_source.ensures.output_fault (λ e. absurd (c.assemble_source.ensures.own e))
-    known (assembly_opened c.args.words.now c.assemble_source.result.verdict known c.in-Ok-Assemble.source.now asked c.assemble_source.ensures.opened) c.assemble_source.ensures.runs
+    c.assemble_source.ensures.library_fault c.assemble_source.ensures.output_fault (λ e. absurd (c.assemble_source.ensures.own e))
+    (devices_of g.K.Keeps g.D.Disks) (λ m p e. absurd (c.assemble_source.ensures.device p e)) known (assembly_opened c.args.words.now c.assemble_source.result.verdict known c.in-Ok-Assemble.source.now asked c.assemble_source.ensures.opened) c.assemble_source.ensures.runs
 
 pub returns-in-Ok-Run-clause-passes : goal.returns-in-Ok-Run-clause-passes
 returns-in-Ok-Run-clause-passes g c ran = let asked : asked_of c.args.words.now ≡ Some (ToRun c.in-Ok-Run.plan.now) = search rules in
     let out = course (g.O.Sink.held c.args.out.now) (g.O.Sink.held c.run_plan.new.out) (g.O.Sink.faults c.args.out.now) (g.O.Sink.faults c.run_plan.new.out) in
     let report = course (g.R.Sink.held c.args.report.now) (g.R.Sink.held c.run_plan.new.report) (g.R.Sink.faults c.args.report.now) (g.R.Sink.faults c.run_plan.new.report) in
     run_of_words (g.L.Library.files c.args.lib.now) c.args.words.now c.in-Ok-Run.plan.now
-    (λ setting. TellsStores (of_words g.K.Keeps) (length setting.images) c.args.keeps.now c.run_plan.new.keeps → WritesPassing setting out report c.run_plan.result.acts.items) asked (c.run_plan.ensures.passes ran)
+    (λ m setting. (devices_of g.K.Keeps g.D.Disks m).tell (length setting.images) (lent c.args.keeps.now c.args.disks.now) (lent c.run_plan.new.keeps c.run_plan.new.disks) → WritesPassing setting out report c.run_plan.result.acts.items) asked (c.run_plan.ensures.passes ran)
 
 pub returns-in-Ok-Run-clause-keeps_others : goal.returns-in-Ok-Run-clause-keeps_others
 returns-in-Ok-Run-clause-keeps_others g c = let asked : asked_of c.args.words.now ≡ Some (ToRun c.in-Ok-Run.plan.now) = search rules in
@@ -110,10 +115,90 @@ pub returns-in-Err-clause-keeps_others : goal.returns-in-Err-clause-keeps_others
 returns-in-Err-clause-keeps_others g c = left_same (of_words g.K.Keeps) (g.L.Library.files c.args.lib.now) (λ files. stores_used (work_of files c.args.words.now)) c.args.keeps.now
 
 pub returns-in-Ok-Check-clause-wanting : goal.returns-in-Ok-Check-clause-wanting
-returns-in-Ok-Check-clause-wanting g c e p = inl (refl, refl)
+returns-in-Ok-Check-clause-wanting g c e p = (inl (refl, refl), inl (refl, refl))
 
 pub returns-in-Ok-Assemble-clause-wanting : goal.returns-in-Ok-Assemble-clause-wanting
-returns-in-Ok-Assemble-clause-wanting g c e p = inl (refl, refl)
+returns-in-Ok-Assemble-clause-wanting g c e p = (inl (refl, refl), inl (refl, refl))
 
 pub returns-in-Err-clause-wanting : goal.returns-in-Err-clause-wanting
-returns-in-Err-clause-wanting g c e p = inl (refl, refl)
+returns-in-Err-clause-wanting g c e p = (inl (refl, refl), inl (refl, refl))
+
+pub returns-in-Ok-Run-clause-disks_others : goal.returns-in-Ok-Run-clause-disks_others
+returns-in-Ok-Run-clause-disks_others g c = let asked : asked_of c.args.words.now ≡ Some (ToRun c.in-Ok-Run.plan.now) = search rules in
+    asked_left (of_disks g.D.Disks) (g.L.Library.files c.args.lib.now) c.args.words.now c.in-Ok-Run.plan.now c.args.disks.now c.run_plan.new.disks asked c.run_plan.ensures.disks_others
+
+pub returns-in-Ok-Check-clause-disks_others : goal.returns-in-Ok-Check-clause-disks_others
+returns-in-Ok-Check-clause-disks_others g c = left_same (of_disks g.D.Disks) (g.L.Library.files c.args.lib.now) (λ files. stores_used (work_of files c.args.words.now)) c.args.disks.now
+
+pub returns-in-Ok-Check-clause-other : goal.returns-in-Ok-Check-clause-other
+returns-in-Ok-Check-clause-other g c = each_so (g.L.Library.files c.args.lib.now) (λ files. medium_of files c.args.words.now) (λ m. IsOtherSame m (lent c.args.keeps.now c.args.disks.now) (lent c.args.keeps.now c.args.disks.now)) (λ m. other_same m (lent c.args.keeps.now c.args.disks.now))
+
+pub returns-in-Ok-Assemble-clause-disks_others : goal.returns-in-Ok-Assemble-clause-disks_others
+returns-in-Ok-Assemble-clause-disks_others g c = left_same (of_disks g.D.Disks) (g.L.Library.files c.args.lib.now) (λ files. stores_used (work_of files c.args.words.now)) c.args.disks.now
+
+pub returns-in-Ok-Assemble-clause-other : goal.returns-in-Ok-Assemble-clause-other
+returns-in-Ok-Assemble-clause-other g c = each_so (g.L.Library.files c.args.lib.now) (λ files. medium_of files c.args.words.now) (λ m. IsOtherSame m (lent c.args.keeps.now c.args.disks.now) (lent c.args.keeps.now c.args.disks.now)) (λ m. other_same m (lent c.args.keeps.now c.args.disks.now))
+
+pub returns-in-Err-clause-disks_others : goal.returns-in-Err-clause-disks_others
+returns-in-Err-clause-disks_others g c = left_same (of_disks g.D.Disks) (g.L.Library.files c.args.lib.now) (λ files. stores_used (work_of files c.args.words.now)) c.args.disks.now
+
+pub returns-in-Err-clause-other : goal.returns-in-Err-clause-other
+returns-in-Err-clause-other g c = each_so (g.L.Library.files c.args.lib.now) (λ files. medium_of files c.args.words.now) (λ m. IsOtherSame m (lent c.args.keeps.now c.args.disks.now) (lent c.args.keeps.now c.args.disks.now)) (λ m. other_same m (lent c.args.keeps.now c.args.disks.now))
+
+pub returns-in-Ok-Check-clause-medium_fault : goal.returns-in-Ok-Check-clause-medium_fault
+returns-in-Ok-Check-clause-medium_fault g c = each_so (g.L.Library.files c.args.lib.now) (λ files. medium_of files c.args.words.now)
+    (λ m. (p : ℕ) → c.check_output.result.verdict ≡ DeviceFault p → HasFailed (devices_of g.K.Keeps g.D.Disks m) (lent c.args.keeps.now c.args.disks.now) (lent c.args.keeps.now c.args.disks.now) p) (λ m p e. absurd (c.check_output.ensures.device p e))
+
+pub returns-in-Ok-Assemble-clause-medium_fault : goal.returns-in-Ok-Assemble-clause-medium_fault
+returns-in-Ok-Assemble-clause-medium_fault g c = each_so (g.L.Library.files c.args.lib.now) (λ files. medium_of files c.args.words.now)
+    (λ m. (p : ℕ) → c.assemble_source.result.verdict ≡ DeviceFault p → HasFailed (devices_of g.K.Keeps g.D.Disks m) (lent c.args.keeps.now c.args.disks.now) (lent c.args.keeps.now c.args.disks.now) p) (λ m p e. absurd (c.assemble_source.ensures.device p e))
+
+pub returns-in-Ok-Run-clause-medium_fault : goal.returns-in-Ok-Run-clause-medium_fault
+returns-in-Ok-Run-clause-medium_fault g c = let asked : asked_of c.args.words.now ≡ Some (ToRun c.in-Ok-Run.plan.now) = search rules in
+    medium_asked (g.L.Library.files c.args.lib.now) c.args.words.now c.in-Ok-Run.plan.now
+    (λ m. (p : ℕ) → c.run_plan.result.verdict ≡ DeviceFault p → HasFailed (devices_of g.K.Keeps g.D.Disks m) (lent c.args.keeps.now c.args.disks.now) (lent c.run_plan.new.keeps c.run_plan.new.disks) p) asked c.run_plan.ensures.medium_fault
+
+pub returns-in-Ok-Run-clause-other : goal.returns-in-Ok-Run-clause-other
+returns-in-Ok-Run-clause-other g c = let asked : asked_of c.args.words.now ≡ Some (ToRun c.in-Ok-Run.plan.now) = search rules in
+    medium_asked (g.L.Library.files c.args.lib.now) c.args.words.now c.in-Ok-Run.plan.now (λ m. IsOtherSame m (lent c.args.keeps.now c.args.disks.now) (lent c.run_plan.new.keeps c.run_plan.new.disks)) asked c.run_plan.ensures.other
+
+pub returns-in-Ok-Audit-clause-refused : goal.returns-in-Ok-Audit-clause-refused
+returns-in-Ok-Audit-clause-refused g c refusal is = let asked : asked_of c.args.words.now ≡ Some (ToAudit c.in-Ok-Audit.journal.now) = search rules in
+    audit_exact _ c.args.words.now _ asked _ refusal (c.audit_journal.ensures.refused refusal is)
+
+pub returns-in-Ok-Audit-clause-library_asked : goal.returns-in-Ok-Audit-clause-library_asked
+returns-in-Ok-Audit-clause-library_asked g c which = let asked : asked_of c.args.words.now ≡ Some (ToAudit c.in-Ok-Audit.journal.now) = search rules in
+    audit_asks _ c.args.words.now _ asked _ which (c.audit_journal.ensures.which which) (c.audit_journal.ensures.there which)
+
+pub returns-in-Ok-Audit-clause-opened : goal.returns-in-Ok-Audit-clause-opened
+returns-in-Ok-Audit-clause-opened g c = let asked : asked_of c.args.words.now ≡ Some (ToAudit c.in-Ok-Audit.journal.now) = search rules in
+    audit_opened c.args.words.now c.audit_journal.result.verdict _ _ asked c.audit_journal.ensures.opened
+
+pub returns-in-Ok-Audit-clause-complete : goal.returns-in-Ok-Audit-clause-complete
+returns-in-Ok-Audit-clause-complete g c = let asked : asked_of c.args.words.now ≡ Some (ToAudit c.in-Ok-Audit.journal.now) = search rules in
+    let known = g.L.Library.files c.args.lib.now in
+    other_complete c.args.words.now c.audit_journal.result.verdict (lent c.args.keeps.now c.args.disks.now) (lent c.args.keeps.now c.args.disks.now) (g.L.Library.faults c.args.lib.now) (g.L.Library.faults c.audit_journal.new.lib)
+    (course (g.O.Sink.held c.args.out.now) (g.O.Sink.held c.audit_journal.new.out) (g.O.Sink.faults c.args.out.now) (g.O.Sink.faults c.audit_journal.new.out))
+    (course (g.R.Sink.held c.args.report.now) (g.R.Sink.held c.args.report.now) (g.R.Sink.faults c.args.report.now) (g.R.Sink.faults c.args.report.now))
+    c.audit_journal.ensures.library_fault c.audit_journal.ensures.output_fault (λ e. absurd (c.audit_journal.ensures.own e))
+    (devices_of g.K.Keeps g.D.Disks) (λ m p e. absurd (c.audit_journal.ensures.device p e)) known (audit_opened c.args.words.now c.audit_journal.result.verdict known c.in-Ok-Audit.journal.now asked c.audit_journal.ensures.opened) c.audit_journal.ensures.runs
+
+pub returns-in-Ok-Audit-clause-keeps_others : goal.returns-in-Ok-Audit-clause-keeps_others
+returns-in-Ok-Audit-clause-keeps_others g c = left_same (of_words g.K.Keeps) (g.L.Library.files c.args.lib.now) (λ files. stores_used (work_of files c.args.words.now)) c.args.keeps.now
+
+pub returns-in-Ok-Audit-clause-wanting : goal.returns-in-Ok-Audit-clause-wanting
+returns-in-Ok-Audit-clause-wanting g c e p = (inl (refl, refl), inl (refl, refl))
+
+pub returns-in-Ok-Audit-clause-disks_others : goal.returns-in-Ok-Audit-clause-disks_others
+returns-in-Ok-Audit-clause-disks_others g c = left_same (of_disks g.D.Disks) (g.L.Library.files c.args.lib.now) (λ files. stores_used (work_of files c.args.words.now)) c.args.disks.now
+
+pub returns-in-Ok-Audit-clause-other : goal.returns-in-Ok-Audit-clause-other
+returns-in-Ok-Audit-clause-other g c = each_so (g.L.Library.files c.args.lib.now) (λ files. medium_of files c.args.words.now) (λ m. IsOtherSame m (lent c.args.keeps.now c.args.disks.now) (lent c.args.keeps.now c.args.disks.now)) (λ m. other_same m (lent c.args.keeps.now c.args.disks.now))
+
+pub returns-in-Ok-Audit-clause-medium_fault : goal.returns-in-Ok-Audit-clause-medium_fault
+returns-in-Ok-Audit-clause-medium_fault g c = each_so (g.L.Library.files c.args.lib.now) (λ files. medium_of files c.args.words.now)
+    (λ m. (p : ℕ) → c.audit_journal.result.verdict ≡ DeviceFault p → HasFailed (devices_of g.K.Keeps g.D.Disks m) (lent c.args.keeps.now c.args.disks.now) (lent c.args.keeps.now c.args.disks.now) p) (λ m p e. absurd (c.audit_journal.ensures.device p e))
+
+pub returns-in-Ok-Audit-clause-unsaved : goal.returns-in-Ok-Audit-clause-unsaved
+returns-in-Ok-Audit-clause-unsaved g c event line e = let asked : asked_of c.args.words.now ≡ Some (ToAudit c.in-Ok-Audit.journal.now) = search rules in
+    audit_says (g.L.Library.files c.args.lib.now) c.args.words.now c.in-Ok-Audit.journal.now (λ said. IsVerdict said (found.NotSaved event line)) asked (c.audit_journal.ensures.unsaved event line e)

@@ -38,9 +38,9 @@ said=dc: plan refused: range inputs~
 protocol=cpv-2cp
 status=3
 said=dc: plan refused: range protocol~
-* a medium that is not built
+* a medium that is none
 old=rio
-new=disk
+new=tape
 status=3
 said=dc: plan refused: range medium~
 * the inputs of one guest for two

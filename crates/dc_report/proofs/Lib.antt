@@ -1,0 +1,5 @@
+mod Gathering
+mod LineTexts
+pub mod ReportTexts
+mod Sent
+mod Weighing

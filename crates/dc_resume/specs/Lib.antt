@@ -1,0 +1,3 @@
+pub mod Suited
+pub mod Parts
+pub mod Deciding
