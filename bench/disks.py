@@ -4,7 +4,8 @@
     bench/disks.py [TURNS]      200,000 turns where none are given
 
 Runs examples/ring under CBNDVS-LOG, whose commits and records are many, on both media, and prints the least time of a processor of six
-runs of each and their ratio, with the peak memory by what the stores take: a segment of memory, and of a disk a log of two halves. Then,
+runs of each and their ratio, with the peak memory by what the stores take: a segment of memory, and of a disk a log of two halves; and what the
+program takes beside disks in memory, which stand for disks that are none, against what it takes with segments and twice a half a guest. Then,
 where valgrind is installed, the processor's instructions a turn of a tenth of the turns, of all, and of five times as many, so that a run that
 is not linear in its turns is seen. A benchmark, and no test: it measures the program as it was built."""
 import os
@@ -24,6 +25,8 @@ GUESTS = 8
 # has beside two whole states.
 KERNEL, OF_EACH = 41, 139
 LINE, HEADER, LOG, BESIDE = 16, 16, 1408, 12368
+# What a disk in memory holds for each of its bytes: it, what the last sync made sure of, and whether it was written since.
+HELD = 3
 
 
 def lay_out_on(folder, medium, turns):
@@ -76,11 +79,14 @@ def main():
     turns = int(sys.argv[1]) if len(sys.argv) > 1 else 200_000
     # A first call builds what is missing.
     subprocess.run([os.path.join(TOP, "dc")], capture_output=True, check=False)
-    seconds = {}
+    seconds, peaks, stores = {}, {}, {}
     for medium in MEDIA:
-        seconds[medium], said, peak = measured(medium, turns)
-        print(f"{medium}: {said}, {seconds[medium]:.3f} s of a processor, peak {peak / 2**20:.1f} MiB, stores {GUESTS * store_bytes(medium, turns) / 2**20:.1f} MiB")
+        seconds[medium], said, peaks[medium] = measured(medium, turns)
+        stores[medium] = GUESTS * store_bytes(medium, turns)
+        print(f"{medium}: {said}, {seconds[medium]:.3f} s of a processor, peak {peaks[medium] / 2**20:.1f} MiB, stores {stores[medium] / 2**20:.1f} MiB")
     print(f"disk: {seconds['disk'] / seconds['rio']:.2f} times the time of rio")
+    beside, most = peaks["disk"] - HELD * stores["disk"], peaks["rio"] + stores["disk"]
+    print(f"disk: peak {beside / 2**20:.1f} MiB beside the disks, at most {most / 2**20:.1f} wanted")
     if not shutil.which("valgrind"):
         print("valgrind is not installed: instructions are not counted")
         return

@@ -29,6 +29,11 @@ CanFollow n done (x ∷ lines) = IsNext n done x × CanFollow n (done ++ x ∷ [
 abbrev pub IsJournal : ℕ → List Line → Type 0
 IsJournal n lines = CanFollow n [] lines
 
+-- a commit is of somebody
+abbrev pub HasMembers : Line → Type 0
+HasMembers (Commits members) = (p : ℕ) × (marked members p ≡ true)
+HasMembers _ = Unit {0}
+
 -- what is kept over a journal: its clocks stand over it, the messages on their way are those that it sent and did not receive, and where it fails first is known
 pub record Keeps (causal : Bool) (journal : List Line) (clocks : List (List Known)) (links : List Way) (last : List Known) (failure : Option Failure) : Type 0 where
   pub stands : Stands causal journal clocks links last

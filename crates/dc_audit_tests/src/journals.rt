@@ -5,7 +5,7 @@ use std::alloc::Global;
 use std::test::Fail;
 
 /// What an audit answers, in words.
-fn told(alloc: Global, text: &[u8]) -> Result<String, Fail> {
+pub fn told(alloc: Global, text: &[u8]) -> Result<String, Fail> {
     match audit(alloc, text) {
         Ok(Verdict::Saved(events)) => Ok(format!(in alloc; "saved {events}")?),
         Ok(Verdict::NotSaved(e, x)) => Ok(format!(in alloc; "not saved {e} {x}")?),
@@ -14,7 +14,7 @@ fn told(alloc: Global, text: &[u8]) -> Result<String, Fail> {
 }
 
 /// The text of a case.
-fn text_of(alloc: Global, case: &str) -> Result<Vec<u8>, Fail> {
+pub fn text_of(alloc: Global, case: &str) -> Result<Vec<u8>, Fail> {
     let mut text = Vec::new(alloc);
     for c in case.as_bytes() {
         text.push(if *c == b'~' { b'\n' } else { *c })?;

@@ -1,5 +1,5 @@
-//! Tests of `dc_audit`: journals as text, each with what comes of it; and journals drawn at random, judged by a relation of all pairs of
-//! lines that is written out.
+//! Tests of `dc_audit` and `dc_journal`: journals as text, each with what comes of it, and written again from their lines; and journals
+//! drawn at random, judged by a relation of all pairs of lines that is written out.
 #![tactic(auto)]
 
 #[cfg(test)]
@@ -14,3 +14,5 @@ mod journals;
 mod pairs;
 #[cfg(test)]
 mod random;
+#[cfg(test)]
+mod written;

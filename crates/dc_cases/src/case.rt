@@ -45,7 +45,7 @@ pub fn as_u64(word: &str) -> Result<u64, Fail> {
     Ok(word.parse::<u64>()?)
 }
 
-/// A word as a count or a place.
+/// A word as a count or an index.
 pub fn as_usize(word: &str) -> Result<usize, Fail> {
     Ok(word.parse::<usize>()?)
 }

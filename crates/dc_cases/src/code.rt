@@ -54,13 +54,13 @@ pub fn coded(alloc: Global, case: &str, key: &str) -> Result<Vec<u8>, Fail> {
 
 /// The file of the guest that shows `hi`, with another byte or cut off where the case says so.
 pub fn hi(alloc: Global, case: &str) -> Result<Vec<u8>, Fail> {
-    let place = number(case, "place", "0")?;
+    let offset = number(case, "offset", "0")?;
     let Ok(changed) = u8::try_from(number(case, "byte", "127")?) else {
         return Err(Fail::new(case));
     };
     let cut = number(case, "cut", "116")?;
     let mut file = HI.to_vec(alloc)?;
-    if let Some(byte) = file.get_mut(place) {
+    if let Some(byte) = file.get_mut(offset) {
         *byte = changed;
     }
     file.truncate(cut);

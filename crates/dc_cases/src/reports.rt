@@ -38,8 +38,8 @@ pub fn reported(alloc: Global, case: &str) -> Result<String, AllocError> {
 /// How many lines of a text are not as one before.
 fn count_of_new(text: &str) -> usize {
     let mut count = 0usize;
-    for (place, line) in text.lines().enumerate() {
-        if !text.lines().take(place).any(|before| before == line) {
+    for (index, line) in text.lines().enumerate() {
+        if !text.lines().take(index).any(|before| before == line) {
             count = count.saturating_add(1);
         }
     }

@@ -5,7 +5,10 @@ use Rattle.clap.specs.Words.{App, Row, Rule, new_app, new_rule, with_rule, with_
 use Rattle.clap.specs.Walk.{is_empty}
 use Rattle.dc_command.specs.declared.command.Asked.{Asked as asked'}
 use Rattle.dc_command.specs.declared.command.Asked.TheVariants as word
+use Rattle.dc_command.specs.declared.command.Ledger.{Ledger}
+use Rattle.dc_command.specs.declared.command.Ledger.TheVariants as ledger
 use Rattle.dc_command.specs.declared.command.Names.{Names as names'}
+use Rattle.dc_command.specs.declared.command.Order.{Order as order'}
 
 -- the names of a plan, of a report and of an output
 pub record Names : Type 0 where
@@ -13,9 +16,14 @@ pub record Names : Type 0 where
   pub report : List ℕ
   pub out : List ℕ
 
+-- the name of a plan, and what its run writes at its end
+pub record Order : Type 0 where
+  pub plan : List ℕ
+  pub ledger : Ledger
+
 -- what the words ask for, by the names of files: to run a plan, to check an output against a report, to assemble a source, or to audit a journal
 pub data Asked : Type 0 where
-  ToRun : (plan : List ℕ) → Asked
+  ToRun : (order : Order) → Asked
   ToCheck : (names : Names) → Asked
   ToAssemble : (source : List ℕ) → Asked
   ToAudit : (journal : List ℕ) → Asked
@@ -44,25 +52,34 @@ check_command = with_word (with_word (with_word (new_app (codes "check")) (codes
 abbrev pub asm_command : App
 asm_command = with_word (new_app (codes "asm")) (codes "source")
 
+-- `journal` and the name of a plan
+abbrev pub journal_command : App
+journal_command = with_word (new_app (codes "journal")) (codes "plan")
+
 -- `audit` and the name of a journal
 abbrev pub audit_command : App
 audit_command = with_word (new_app (codes "audit")) (codes "journal")
 
 -- the program's commands
 abbrev pub command_line : App
-command_line = with_subcommand (with_subcommand (with_subcommand (with_subcommand bare_line run_command.top) check_command.top) asm_command.top) audit_command.top
+command_line = with_subcommand (with_subcommand (with_subcommand (with_subcommand (with_subcommand bare_line run_command.top) check_command.top) asm_command.top) journal_command.top) audit_command.top
 
 -- the names of a check, where all three are there
 abbrev pub names_by : Option (List ℕ) → Option (List ℕ) → Option (List ℕ) → Option Asked
 names_by (Some plan) (Some report) (Some out) = Some (ToCheck (record { plan = plan; report = report; out = out }))
 names_by _ _ _ = None
 
+-- to run the plan of this name, and write that at its end
+abbrev pub to_run : Ledger → List ℕ → Asked
+to_run ledger plan = ToRun (record { plan = plan; ledger = ledger })
+
 -- what the rows of a command of this name ask for
 abbrev pub met_by : List ℕ → List Row → Option Asked
 met_by name rows = if bytes_eq name (codes "asm") then option_map ToAssemble (first_of (codes "source") rows)
     else (if bytes_eq name (codes "check") then names_by (first_of (codes "plan") rows) (first_of (codes "report") rows) (first_of (codes "out") rows)
+    else (if bytes_eq name (codes "journal") then option_map (to_run ledger.Journal) (first_of (codes "plan") rows)
     else (if bytes_eq name (codes "audit") then option_map ToAudit (first_of (codes "journal") rows)
-    else option_map ToRun (first_of (codes "plan") rows)))
+    else option_map (to_run ledger.Report) (first_of (codes "plan") rows))))
 
 -- what the rows of a command ask for
 abbrev pub met : Option (List ℕ × List Row) → Option Asked
@@ -80,9 +97,13 @@ asked_of words = asked_by (map string_bytes words)
 abbrev pub names_view : names' → Names
 names_view names = record { plan = names.plan.now; report = names.report.now; out = names.out.now }
 
+-- an order as the code holds it
+abbrev pub order_view : order' → Order
+order_view order = record { plan = order.plan.now; ledger = order.ledger }
+
 -- as the code holds it
 abbrev pub asked_view : asked' → Asked
-asked_view (word.Run plan) = ToRun plan.now
+asked_view (word.Run order) = ToRun (order_view order)
 asked_view (word.Check names) = ToCheck (names_view names)
 asked_view (word.Assemble source) = ToAssemble source.now
 asked_view (word.Audit journal) = ToAudit journal.now

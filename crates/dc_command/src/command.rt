@@ -1,10 +1,26 @@
 ghost use Rattle.std.specs.Prelude.{◌≡◌, Err, IfOk, None, Some, codes, option_map};
 ghost use Rattle.clap.specs.Words.{app_of, first_of, found_of, new_app, rows_of, subcommand_rows_of, with_subcommand};
-ghost use Rattle.dc_command.specs.Command.{asked_of, asked_view, check_command, command_line, met, met_by, names_by, with_word};
+ghost use Rattle.dc_command.specs.Command.{asked_of, asked_view, check_command, command_line, met, met_by, names_by, to_run, with_word};
 
 use clap::error::ErrorKind;
 use clap::{Arg, ArgMatches, Command};
 use std::alloc::{AllocError, Global};
+
+/// What a run writes at its end, beside the lines that its processes showed.
+#[derive(Clone, Copy, Debug, PartialEq, Eq)]
+pub enum Ledger {
+    /// The report: what each process was told, in order.
+    Report,
+    /// The journal: the events that count and the commits.
+    Journal,
+}
+
+/// The plan of a run, by its file's name, and what the run writes at its end.
+#[derive(Clone, Copy)]
+pub struct Order<'a> {
+    pub plan: &'a str,
+    pub ledger: Ledger,
+}
 
 /// The names of the files of a check.
 #[derive(Clone, Copy)]
@@ -16,8 +32,8 @@ pub struct Names<'a> {
 
 /// What the words ask for, by the names of files.
 pub enum Asked<'a> {
-    /// To run that plan.
-    Run(&'a str),
+    /// To run a plan, and write its report or its journal.
+    Run(Order<'a>),
     /// To check an output against a report, by a plan.
     Check(Names<'a>),
     /// To assemble that source.
@@ -69,6 +85,7 @@ fn command<'a>(alloc: Global) -> Result<Command<'a>, AllocError>
     let top = with_command(alloc, top, "run", "plan")?;
     let top = with_check(alloc, top)?;
     let top = with_command(alloc, top, "asm", "source")?;
+    let top = with_command(alloc, top, "journal", "plan")?;
     with_command(alloc, top, "audit", "journal")
 }
 
@@ -90,6 +107,14 @@ fn names_met<'a>(matches: &ArgMatches<'a>) -> Option<Asked<'a>>
     Some(Asked::Check(Names { plan, report, out }))
 }
 
+/// To run the plan that the words name, and write that at its end.
+fn run_met<'a>(matches: &ArgMatches<'a>, ledger: Ledger) -> Option<Asked<'a>>
+    ensures { option_map asked_view result ≡ option_map (to_run ledger) (first_of (codes "plan") (rows_of (found_of matches.now))) }
+{
+    let plan = word(matches, "plan")?;
+    Some(Asked::Run(Order { plan, ledger }))
+}
+
 /// What the words of the command of that name ask for.
 fn met_by<'a>(name: &str, matches: &ArgMatches<'a>) -> Option<Asked<'a>>
     ensures { option_map asked_view result ≡ met_by name.now (rows_of (found_of matches.now)) }
@@ -100,10 +125,13 @@ fn met_by<'a>(name: &str, matches: &ArgMatches<'a>) -> Option<Asked<'a>>
     if name == "check" {
         return names_met(matches);
     }
+    if name == "journal" {
+        return run_met(matches, Ledger::Journal);
+    }
     if name == "audit" {
         return Some(Asked::Audit(word(matches, "journal")?));
     }
-    Some(Asked::Run(word(matches, "plan")?))
+    run_met(matches, Ledger::Report)
 }
 
 /// What the matches of a command ask for.

@@ -4,5 +4,5 @@
 mod command;
 mod meaning;
 
-pub use command::{Asked, CommandFault, Names, command_in};
+pub use command::{Asked, CommandFault, Ledger, Names, Order, command_in};
 pub use meaning::{CommandName, meant};

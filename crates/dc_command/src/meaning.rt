@@ -10,6 +10,7 @@ pub enum CommandName {
     Run,
     Check,
     Asm,
+    Journal,
     Audit,
 }
 
@@ -22,6 +23,7 @@ impl CommandName {
             CommandName::Run => "run",
             CommandName::Check => "check",
             CommandName::Asm => "asm",
+            CommandName::Journal => "journal",
             CommandName::Audit => "audit",
         }
     }
@@ -47,6 +49,9 @@ fn nearly(alloc: Global, word: &str) -> Result<Option<CommandName>, AllocError>
     }
     if is_nearly(alloc, word, "asm")? {
         return Ok(Some(CommandName::Asm));
+    }
+    if is_nearly(alloc, word, "journal")? {
+        return Ok(Some(CommandName::Journal));
     }
     if is_nearly(alloc, word, "audit")? {
         return Ok(Some(CommandName::Audit));

@@ -1,5 +1,5 @@
 -- Which processes take part in an entry, and which stop together.
-use Rattle.std.proofs.Common.{◌≡◌, ◌≤◌, ◌<◌, ◌+◌, ◌||◌, ◌==◌, ◌∙◌, ℕ, true, false, Some, ap, arith, length, subst, sym, ⊎_elim}
+use Rattle.std.proofs.Common.{◌≡◌, ◌≤◌, ◌<◌, ◌+◌, ◌||◌, ◌==◌, ◌∙◌, ℕ, Bool, true, false, List, [], inl, inr, ◌⊎◌, Option, None, Some, IfSome, IsSomeAnd, if◌then◌else◌, is_some, refl, ap, arith, length, subst, sym, ⊎_elim}
 use Rattle.std.proofs.lemmas.Bool.{cases_Bool, eq-eqb, eqb-true, or_left, or_right, true≢false}
 use Rattle.dc_model.specs.declared.entry.Entry.{Entry}
 use Rattle.dc_model.specs.declared.entry.Entry.TheVariants.{Turn, Stop, Power}
@@ -7,7 +7,10 @@ use Rattle.dc_protocols.specs.Rules.{is_joint}
 use Rattle.dc_protocols.specs.declared.protocol.Protocol.{Protocol}
 use Rattle.dc_recovery.specs.Parts.{is_with}
 use Rattle.dc_world.specs.Worlds.{TakesPart}
-use Rattle.dc_course.specs.Headline.{Setting, takes_part, turn_after}
+use Rattle.dc_media.specs.Causes.{Rose}
+use Rattle.dc_media.specs.declared.planned.PlannedStop.{PlannedStop}
+use Rattle.dc_course.specs.Headline.{Setting, is_planned, takes_part, turn_after}
+use Rattle.dc_course.specs.Journals.{cut_by}
 use Rattle.dc_course.specs.Running.{IsSettingOf}
 use Rattle.dc_course.specs.declared.running.Running.{Running}
 
@@ -66,3 +69,65 @@ pub part_below : (protocol : Protocol) (entry : Entry) (n q : ℕ) → n ≤ q �
 part_below protocol (Turn turn) n q high is = let less = is.1 in omega (arith, less, high)
 part_below protocol (Stop p) n q high is = is
 part_below protocol Power n q high is = is
+
+-- whom something is said of
+pub someone : (o : Option ℕ) (P : ℕ → Type 0) → IsSomeAnd o P → (p : ℕ) × (o ≡ Some p) × P p
+someone None P is = absurd is
+someone (Some p) P is = (p, refl, is)
+
+-- and what follows from it
+pub someone_so : (o : Option ℕ) (P Q : ℕ → Type 0) → ((p : ℕ) → P p → Q p) → IsSomeAnd o P → IsSomeAnd o Q
+someone_so None P Q so is = is
+someone_so (Some p) P Q so is = so p is
+
+-- where nothing is planned nothing is planned for a turn
+pub unplanned_none : (stops : List PlannedStop) (turn p : ℕ) → stops ≡ [] → is_planned stops turn p ≡ false
+unplanned_none stops turn p none = ap (λ ss. is_planned ss turn p) none
+
+-- nobody
+pub no_one : (o : Option ℕ) (P : ℕ → Type 0) → o ≡ None → IsSomeAnd o P → ⊥
+no_one o P none is = subst (λ x. IsSomeAnd x P) none is
+
+pub none_of : (o : Option ℕ) → is_some o ≡ false → o ≡ None
+none_of None off = refl
+none_of (Some p) off = absurd (true≢false off)
+
+-- of somebody it is said, of nobody nothing
+pub one_stopped : (o : Option ℕ) (P Q : ℕ → Type 0) → ((p : ℕ) → P p → Q p) → IsSomeAnd o P → IfSome o Q
+one_stopped None P Q so is = tt
+one_stopped (Some p) P Q so is = so p is
+
+pub if_some_so : (o : Option ℕ) (P Q : ℕ → Type 0) → ((p : ℕ) → P p → Q p) → IfSome o P → IfSome o Q
+if_some_so None P Q so is = tt
+if_some_so (Some p) P Q so is = so p is
+
+-- whoever takes part is there
+pub part_inside : (protocol : Protocol) (n p : ℕ) (entry : Entry) → TakesPart protocol n p entry → p < n
+part_inside protocol n p (Turn turn) part = part.1
+part_inside protocol n p (Stop q) part = absurd part
+part_inside protocol n p Power part = absurd part
+
+-- a run that keeps its journal and was not cut off was not stopped
+pub cut_none : {C : Type 0} (r : Running C) → r.journal.kept ≡ true → cut_by r ≡ None → r.world.stopped ≡ None
+cut_none r keeps none = sym (ap (λ b. if b then r.world.stopped else None) keeps) ∙ none
+
+-- a count that rose since later rose since earlier
+pub rose_from : (a b c : ℕ) → a ≤ b → Rose b c → Rose a c
+rose_from a b c later rose = omega (arith, later, rose)
+
+-- and one that had risen has
+pub stop_later : {A : Type 0} (n p a b c : ℕ) → b ≤ c → A ⊎ ((p < n) × Rose a b) → A ⊎ ((p < n) × Rose a c)
+stop_later n p a b c later (inl x) = inl x
+stop_later n p a b c later (inr rose) = let r = rose.1 in inr (rose.0, omega (arith, later, r))
+
+-- one that was cut off keeps its journal, and was stopped
+pub cut_some : {C : Type 0} (r : Running C) (p : ℕ) → cut_by r ≡ Some p → (r.journal.kept ≡ true) × (r.world.stopped ≡ Some p)
+cut_some r p is = by r.journal.kept refl is
+  where
+    by : (kept : Bool) → r.journal.kept ≡ kept → (if kept then r.world.stopped else None) ≡ Some p → (r.journal.kept ≡ true) × (r.world.stopped ≡ Some p)
+    by true same e = (same, e)
+    by false same e = absurd (let never : ⊥ = cc in never)
+
+-- what is said of whoever is named, of this one
+pub said_of : (o : Option ℕ) (p : ℕ) (P : ℕ → Type 0) → o ≡ Some p → IfSome o P → P p
+said_of o p P named is = subst (λ x. IfSome x P) named is

@@ -1,6 +1,7 @@
 -- A run that has ended keeps the promise.
-use Rattle.std.proofs.Common.{◌≡◌, ◌∙◌, ◌++◌, ℕ, Bool, List, Some, ap, arith, reverse, subst, sym}
+use Rattle.std.proofs.Common.{◌≡◌, ◌∙◌, ◌++◌, ℕ, Bool, List, Option, Some, ap, arith, reverse, subst, sym}
 use Rattle.std.proofs.lemmas.List.{reverse-reverse}
+use Rattle.dc_audit.specs.declared.journal.Line.{Line}
 use Rattle.dc_checkpoint.specs.declared.checkpoint.Checkpoint as checkpoint
 use Rattle.dc_model.specs.Drawn.{Drawn}
 use Rattle.dc_model.specs.Repeats.{RepeatsEqual}
@@ -25,8 +26,8 @@ led_opened setting up from_is marks core = subst (λ n. LeadsTo (system_in setti
 
 -- by the laws of recovery
 pub promised : {C D : Type 0} (g : checkpoint.Ghosts C D) (setting : Setting) (up : ℕ → Bool) (alike : AreUpAlike setting up) (from_is : setting.from ≡ 0) (x : Stage C D) (marks : List Mark) (last : Last) (out : Output)
-    (ended : IsEnded g setting (opened_core up) x marks last out) → IsHeadline setting (record { acts = x.acts; marks = marks; lines = x.lines }) last up ended.core out.before out.now
-promised g setting up alike from_is x marks last out ended =
+    (ended : IsEnded g setting (opened_core up) x marks last out) → (journal : Option (List Line)) → IsHeadline setting (record { acts = x.acts; marks = marks; lines = x.lines; journal = journal }) last up ended.core out.before out.now
+promised g setting up alike from_is x marks last out ended journal =
     let S = system_in setting in
     let led : LeadsTo S setting.schedule (opening up) (marks_at last marks) ended.core = led_opened setting up from_is (marks_at last marks) ended.core ended.led in
     let well : IsPromised S setting.schedule (opening up) (marks_at last marks) ended.core =

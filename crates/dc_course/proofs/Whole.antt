@@ -1,9 +1,12 @@
 -- A run from its opening to its end.
-use Rattle.std.proofs.Common.{◌≡◌, ◌∙◌, ◌≤◌, ◌<◌, ◌-◌, ◌^◌, ◌++◌, ℕ, Bool, true, false, List, [], Option, None, Some, arith, length, refl, slice_get, subst, sym, ⊎_elim}
+use Rattle.std.proofs.Common.{◌≡◌, ◌∙◌, ◌≤◌, ◌<◌, ◌-◌, ◌^◌, ◌++◌, ℕ, Bool, true, false, List, [], Option, None, Some, IfSome, arith, length, refl, slice_get, subst, sym, ⊎_elim}
 use Rattle.std.proofs.lemmas.Bool.{cases_Bool, cases_lt}
 use Rattle.std.proofs.lemmas.List.{append-nil}
 use Rattle.dc_acts.specs.Lines.{text_of}
+use Rattle.dc_audit.specs.declared.journal.Line.{Line}
 use Rattle.dc_checkpoint.specs.declared.checkpoint.Checkpoint as checkpoint
+use Rattle.dc_course.specs.Journals.{AreCutAtStop, IsJournalOf, IsUncut}
+use Rattle.dc_recovery.specs.Unstopped.{AreTurns}
 use Rattle.dc_media.specs.Told.{Becomes}
 use Rattle.dc_model.specs.declared.mark.Mark.{Mark}
 use Rattle.dc_protocols.specs.Rules.{is_joint}
@@ -31,6 +34,7 @@ use Rattle.dc_course.specs.Courses.{IsCourse, Counts, PlannedCome, StoresLeft, T
 use Rattle.dc_course.specs.Headline.{AreUpAlike, IsEnding, Last, Setting, StopsTold, marks_at, system_in, turn_after}
 use Rattle.dc_course.specs.Headline.Last.{Whole, CutOff, Broken}
 use Rattle.dc_course.specs.declared.ending.Ending.{Ending}
+use Rattle.dc_course.specs.declared.ending.Ending.TheVariants as ending
 use Rattle.dc_course.specs.Running.{IsEnded, IsEndedBy, IsRunning, Moment, Output, output}
 
 -- nothing was written
@@ -135,6 +139,11 @@ module _ {C D : Type 0} (g : checkpoint.Ghosts C D) (setting : Setting) (begun :
   ending_whole true r have used = record { last = Whole; ended = steps_whole g setting begun m.stage m.marks (output first m.held) r; is = ((used, refl), have) }
   ending_whole false r have used = record { last = Whole; ended = steps_whole g setting begun m.stage m.marks (output first m.held) r; is = ((used, refl), have) }
 
+  -- by a stop
+  pub ending_cut : (p : ℕ) (r : IsRunning g setting begun m.stage m.marks (output first m.held)) → p < length setting.images → Came g setting begun (ending.Stopped p) m first
+  unfolding steps_whole
+  ending_cut p r less = record { last = Whole; ended = steps_whole g setting begun m.stage m.marks (output first m.held) r; is = (refl, less) }
+
   -- by a fault
   pub ending_broken : (f : TurnFault) → IsEndedBy g f setting begun m first → CameBroken g setting begun (ending_by f) m first
   ending_broken (fault.Device p) ended = record { last = Broken; ended = ended.0; is = (refl, ended.1, ended.2); broken = λ e. absurd (cc) }
@@ -164,16 +173,18 @@ module _ {C D : Type 0} (g : checkpoint.Ghosts C D) (setting : Setting) (up : �
   -- it keeps what it promises
   pub course_is : (counts : Counts D) (ending : Ending) → dev ≡ counts.after → IsEnding setting ending marks last ended.core → StopsTold setting up marks (counts.stops counts.before) (counts.stops counts.after)
       → PlannedCome setting (opening up) (λ core d. StoresLeft g setting core d) counts last marks
-      → IsCourse setting (record { acts = w.acts.items; marks = marks; lines = w.lines }) ending out counts (λ core d. StoresLeft g setting core d)
-  course_is counts ending same is told come = record {
+      → (journal : Option (List Line)) → (AreTurns setting.schedule → IfSome journal (λ lines. AreCutAtStop marks × IsUncut ending up marks × IsJournalOf setting up marks lines))
+      → IsCourse setting (record { acts = w.acts.items; marks = marks; lines = w.lines; journal = journal }) ending out counts (λ core d. StoresLeft g setting core d)
+  course_is counts ending same is told come journal noted = record {
     last = last;
     up = up;
     alike = alike;
     core = ended.core;
-    headline = promised g setting up alike from_is (stage_of stores dev w) marks last out ended;
+    headline = promised g setting up alike from_is (stage_of stores dev w) marks last out ended journal;
     ending_is = is;
     stops_told = told;
     planned_come = come;
     left = subst (λ d. StoresLeft g setting ended.core d) same stores_left;
     determined = λ below only whole. determined (system_in setting) setting.schedule only (marks_at last marks) ended.core (led_up below) whole;
+    journal = noted;
   }

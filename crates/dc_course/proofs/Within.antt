@@ -22,6 +22,7 @@ course_lent setting run ending out f stops calls old new Left Left1 weaker cours
   planned_come = come_lent setting (opening course.up) f calls Left Left1 weaker stops course.last run.marks old new course.planned_come;
   left = weaker course.core new course.left;
   determined = course.determined;
+  journal = course.journal;
 }
 
 -- where no planned stop came, the counts of the device within stay, or it was stopped, as those did that are counted with the plan

@@ -1,5 +1,6 @@
 -- What a whole run promises: of what it lists and shows, of how it ended, and of the devices that it was lent.
-use Rattle.std.specs.Prelude.{◌≡◌, ◌<◌, ◌-◌, ◌^◌, ℕ, Bool, true, false, List, IsSomeAnd, Some, length, map, reverse, slice_get}
+use Rattle.std.specs.Prelude.{◌≡◌, ◌<◌, ◌-◌, ◌^◌, ℕ, Bool, true, false, List, Option, IfSome, IsSomeAnd, None, Some, if◌then◌else◌, length, map, reverse, slice_get}
+use Rattle.dc_audit.specs.declared.journal.Line.{Line}
 use Rattle.dc_media.specs.declared.planned.PlannedStop.{PlannedStop}
 use Rattle.dc_checkpoint.specs.declared.checkpoint.Checkpoint as checkpoint
 use Rattle.dc_model.specs.declared.entry.Entry.{Entry}
@@ -15,11 +16,13 @@ use Rattle.dc_processes.specs.Stages.{decided_by}
 use Rattle.dc_world.specs.declared.opening.Setup.{Setup}
 use Rattle.dc_course.specs.Headline.{Account, AreUpAlike, IsEnding, IsHeadline, Last, Setting, StopsTold, marks_at, system_in}
 use Rattle.dc_course.specs.Headline.Last.{Whole}
+use Rattle.dc_course.specs.Journals.{AreCutAtStop, IsJournalOf, IsUncut}
 use Rattle.dc_course.specs.Moments.{AreCalledOn, Moments}
 use Rattle.dc_course.specs.Running.{Output}
 use Rattle.dc_course.specs.declared.course.Course.{Course}
 use Rattle.dc_course.specs.declared.ending.Ending.{Ending}
 use Rattle.dc_course.specs.declared.ending.Ending.TheVariants as ending
+use Rattle.dc_course.specs.declared.leaving.Journal.{Journal}
 use Rattle.dc_world.specs.declared.faults.TurnFault.{TurnFault}
 use Rattle.dc_world.specs.declared.faults.TurnFault.TheVariants as fault
 
@@ -27,9 +30,13 @@ use Rattle.dc_world.specs.declared.faults.TurnFault.TheVariants as fault
 abbrev pub setting_of : Setup → List Entry → List PlannedStop → Setting
 setting_of setup schedule stops = record { protocol = setup.protocol; images = map seen_image setup.images.items; inputs = lists_of setup.inputs.items; schedule = schedule; stops = stops; from = 0 }
 
+-- the lines of a journal that is kept
+abbrev pub journal_in : Journal → Option (List Line)
+journal_in journal = if journal.kept then Some journal.lines.items else None
+
 -- what it lists of itself
 abbrev pub account_of : Course → Account
-account_of course = record { acts = course.acts.items; marks = course.marks.items; lines = course.lines }
+account_of course = record { acts = course.acts.items; marks = course.marks.items; lines = course.lines; journal = journal_in course.journal }
 
 -- the devices of a run before and after, and what they count of each process: its stops, other than those that were planned, and its calls
 pub record Counts (D : Type 0) : Type 0 where
@@ -78,6 +85,8 @@ pub record IsCourse {D : Type 0} (setting : Setting) (run : Account) (ending : E
   -- where nothing was stopped, and only turns were given, marks, acts and lines have no choice
   pub determined : ((p : ℕ) → p < length setting.images → up p ≡ true) → AreTurns setting.schedule → Unstopped (marks_at last run.marks)
       → IsDetermined (system_in setting) setting.schedule (marks_at last run.marks) core
+  -- of a run of turns that keeps its journal, that is what its entries left in it, and no entry but the last was stopped, nor that unless the run ended by it
+  pub journal : AreTurns setting.schedule → IfSome run.journal (λ lines. AreCutAtStop run.marks × IsUncut ending up run.marks × IsJournalOf setting up run.marks lines)
 
 -- what a fault of the world ends a run with
 abbrev pub ending_by : TurnFault → Ending

@@ -2,6 +2,7 @@
 use Rattle.std.specs.Prelude.{◌≡◌, ◌<◌, ◌≤◌, ◌+◌, ◌&&◌, ◌||◌, not, ℕ, zero, suc, Bool, true, false, List, [], ◌∷◌, ◌++◌, if◌then◌else◌, length, reverse, slice_get, take, Option, Some, IfSome, is_some}
 use Rattle.dc_acts.specs.Lines.{text_of, visible_line}
 use Rattle.dc_armed.specs.Stops.{first_stop}
+use Rattle.dc_audit.specs.declared.journal.Line.{Line}
 use Rattle.dc_media.specs.declared.planned.PlannedStop.{PlannedStop}
 use Rattle.dc_elf.specs.Images.{Image}
 use Rattle.dc_guest.specs.Guest.{Guest}
@@ -26,7 +27,7 @@ use Rattle.dc_recovery.specs.Systems.{System}
 use Rattle.dc_recovery.specs.Turned.{LeadsTo}
 use Rattle.dc_world.specs.Ended.{HaveEnded}
 use Rattle.dc_course.specs.declared.ending.Ending.{Ending}
-use Rattle.dc_course.specs.declared.ending.Ending.TheVariants.{Done, Unfinished, Device, Store, Sink}
+use Rattle.dc_course.specs.declared.ending.Ending.TheVariants.{Done, Unfinished, Device, Store, Sink, Stopped}
 
 -- what a run is given: the protocol of its processes, their images and inputs, the schedule, the stops that are planned, and how many entries of the
 -- schedule an earlier part of it took: none where it begins at its opening
@@ -50,11 +51,12 @@ start_at setting begun = record { entries = setting.from; core = begun }
 abbrev pub turn_after : Setting → List Mark → ℕ
 turn_after setting marks = setting.from + length marks
 
--- what a run lists of itself: the acts that count, the marks of its entries, and how many whole lines it wrote
+-- what a run lists of itself: the acts that count, the marks of its entries, how many whole lines it wrote, and its journal, if it kept one
 pub record Account : Type 0 where
   pub acts : List Taken
   pub marks : List Mark
   pub lines : ℕ
+  pub journal : Option (List Line)
 
 -- how the last entry went: whole, as all before it; or its line was cut off by a fault of the output; or a device failed at it
 pub data Last : Type 0 where
@@ -120,13 +122,14 @@ abbrev pub IsUsedUp : Setting → List Mark → Last → Type 0
 IsUsedUp setting marks last = (turn_after setting marks ≡ length setting.schedule) × (last ≡ Whole)
 
 -- done where the schedule is used up and every process is up and has ended, unfinished where one is not; else a fault at the entry behind the
--- marked ones: of the device of a process that takes part in it, or of the output
+-- marked ones: of the device of a process that takes part in it, or of the output; or a stop, which ends a run that keeps a journal
 abbrev pub IsEnding : Setting → Ending → List Mark → Last → Core → Type 0
 IsEnding setting Done marks last core = IsUsedUp setting marks last × HaveEnded true (system_in setting).guests core
 IsEnding setting Unfinished marks last core = IsUsedUp setting marks last × HaveEnded false (system_in setting).guests core
 IsEnding setting (Device p) marks last core = (last ≡ Broken) × (takes_part setting.protocol p (slice_get setting.schedule (turn_after setting marks)) ≡ true) × (p < length setting.images)
 IsEnding setting (Store p fault) marks last core = ⊥
 IsEnding setting Sink marks last core = (torn : Visible) × (last ≡ CutOff torn) × (turn_after setting marks < length setting.schedule)
+IsEnding setting (Stopped p) marks last core = (last ≡ Whole) × (p < length setting.images)
 
 -- a stop is planned for this turn and process
 abbrev pub is_planned : List PlannedStop → ℕ → ℕ → Bool

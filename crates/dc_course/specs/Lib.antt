@@ -5,3 +5,4 @@ pub mod Courses
 pub mod Lent
 pub mod Moments
 pub mod Traces
+pub mod Journals

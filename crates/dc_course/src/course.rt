@@ -1,6 +1,7 @@
 //! A run, from its opening to its end.
 
 ghost use Rattle.std.specs.Prelude.{◌≡◌, ◌<◌, ◌≤◌, ◌+◌, ◌-◌, ◌^◌, ℕ, All, Err, IfOk, OnErr, [], length, false};
+ghost use Rattle.dc_audit.specs.Journals.{IsOfSixteen};
 ghost use Rattle.dc_course.specs.Courses.{IsCourse, StoresLeft, TellsThroughout, account_of, counts_of, ending_by, ending_of, setting_of};
 ghost use Rattle.dc_course.specs.Running.{output};
 ghost use Rattle.dc_course.specs.declared.ending.Ending.TheVariants as endings;
@@ -13,6 +14,7 @@ ghost use Rattle.dc_world.specs.Worlds.{IsOfProcesses};
 ghost use Rattle.dc_world.specs.declared.faults.OpenFault.TheVariants as opening;
 
 use crate::ending::Ending;
+use crate::leaving::Journal;
 use crate::planned::Planned;
 use crate::running::Running;
 use dc_acts::{Acts, Reserved};
@@ -31,17 +33,20 @@ pub struct Course {
     pub marks: Reserved<Mark>,
     /// How many whole lines were written, repeats counted.
     pub lines: u32,
+    /// The journal, if one was kept.
+    pub journal: Journal,
     pub ending: Ending,
 }
 
 impl<C: Planned + Drop> Running<C> {
     /// What the run did, when no more of it is needed.
     fn course(self, ending: Ending) -> Course
-        ensures { result ≡ record { acts = self.world.processes.acts; marks = self.marks; lines = self.world.processes.lines; ending = ending } }
+        ensures { result ≡ record { acts = self.world.processes.acts; marks = self.marks; lines = self.world.processes.lines; journal = self.journal; ending = ending } }
     {
         let Running {
             world,
             marks,
+            journal,
             from: _,
         } = self;
         let lines = world.lines();
@@ -49,6 +54,7 @@ impl<C: Planned + Drop> Running<C> {
             acts: world.into_acts(),
             marks,
             lines,
+            journal,
             ending,
         }
     }
@@ -88,12 +94,14 @@ fn ended(all: bool) -> Ending
 
 /// Runs a schedule over a world that is opened for it, up to its end or to a fault, and writes the lines of what its processes show.
 ///
-/// The device is lent with the stops that are planned for it. All room is taken in the opening; after it no want of memory is answered.
+/// The device is lent with the stops that are planned for it. All room is taken in the opening; after it no want of memory is answered. Where a
+/// journal is kept the run ends at its first stop.
 /// `Failed(p)`: the device of that process's store failed as it was made, and nothing was run.
 pub fn run<C: Planned + Drop, O: Sink>(
     alloc: Global,
     setup: Setup,
     schedule: &[Entry],
+    kept: bool,
     dev: &mut C::Device,
     out: &mut O,
 ) -> Result<Course, OpenFault>
@@ -110,6 +118,10 @@ pub fn run<C: Planned + Drop, O: Sink>(
         IsCourse (setting_of setup schedule.now (C.planned dev.old)) (account_of course) course.ending (output (O.held out.old) (O.held out.new)) (counts_of C.unplanned C.calls dev.old dev.new)
         (λ core lent. StoresLeft C.Checkpoint (setting_of setup schedule.now (C.planned dev.old)) core lent)) }
     ensures device { IfOk result (λ course. (p : ℕ) → course.ending ≡ endings.Device p → Rose (C.faults dev.old p) (C.faults dev.new p)) }
+    ensures stop { IfOk result (λ course. (p : ℕ) → course.ending ≡ endings.Stopped p → (p < length setup.images.items) × (C.planned dev.old ≡ [] → C.stops dev.old p ≡ C.unplanned dev.old p → Rose (C.unplanned dev.old p) (C.unplanned dev.new p))) }
+    ensures kept { IfOk result (λ course. course.journal.kept ≡ kept) }
+    ensures sixteen { IfOk result (λ course. All IsOfSixteen course.journal.lines.items) }
+    ensures unkept { IfOk result (λ course. kept ≡ false → (p : ℕ) → ¬ (course.ending ≡ endings.Stopped p)) }
     ensures sink { IfOk result (λ course. course.ending ≡ endings.Sink → Rose (O.faults out.old) (O.faults out.new)) }
     ensures marks { IfOk result (λ course. length course.marks.items ≤ length schedule.now) }
     // Nothing was run.
@@ -127,6 +139,7 @@ pub fn run<C: Planned + Drop, O: Sink>(
     ensures out_later { O.faults out.old ≤ O.faults out.new }
 {
     let marks = marks_for(alloc, schedule.len())?;
+    let journal = Journal::new(alloc, kept, schedule.len())?;
     let world = match World::<C>::open(alloc, setup, schedule.len() as u32, dev) {
         Ok(world) => world,
         Err(fault) => return Err(fault),
@@ -134,10 +147,14 @@ pub fn run<C: Planned + Drop, O: Sink>(
     let mut running = Running {
         world,
         marks,
+        journal,
         from: 0,
     };
     let ending = match running.run(schedule, dev, out) {
-        Ok(()) => ended(running.world.ended()),
+        Ok(()) => match running.cut_by() {
+            Some(p) => Ending::Stopped(p),
+            None => ended(running.world.ended()),
+        },
         Err(fault) => ended_by(fault),
     };
     Ok(running.course(ending))

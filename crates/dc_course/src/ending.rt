@@ -13,4 +13,6 @@ pub enum Ending {
     Store(u32, StoreFault),
     /// The output failed.
     Sink,
+    /// The device of that process was stopped, in a run that keeps a journal: it ends at its first stop.
+    Stopped(u32),
 }

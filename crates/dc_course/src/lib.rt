@@ -4,10 +4,12 @@
 
 mod course;
 mod ending;
+mod leaving;
 mod planned;
 mod running;
 
 pub use course::{Course, run};
 pub use ending::Ending;
+pub use leaving::Journal;
 pub use planned::Planned;
 pub use running::Running;

@@ -1,10 +1,12 @@
 //! A run that was opened: one entry after the other.
 
-ghost use Rattle.std.specs.Prelude.{◌≡◌, ◌<◌, ◌≤◌, ◌+◌, ◌-◌, ◌^◌, ◌++◌, ◌∷◌, [], ℕ, All, IfOk, IfSome, IsErrOf, IsOk, OnErr, OnOk, Some, false, length, slice_get};
+ghost use Rattle.std.specs.Prelude.{◌≡◌, ◌⊎◌, ◌<◌, ◌≤◌, ◌+◌, ◌*◌, ◌-◌, ◌^◌, ◌++◌, ◌∷◌, [], ℕ, All, IfOk, IfSome, IsErrOf, IsOk, IsSomeAnd, OnErr, OnOk, None, Some, false, true, length, slice_get};
 ghost use Rattle.dc_armed.specs.Armed.{IsUnrefused};
+ghost use Rattle.dc_audit.specs.Journals.{IsOfSixteen};
 ghost use Rattle.dc_armed.specs.Stops.{first_stop};
 ghost use Rattle.dc_course.specs.Headline.{IsCountedOn, is_planned, is_stopped, turn_after};
 ghost use Rattle.dc_course.specs.Headline.{Setting as Settings};
+ghost use Rattle.dc_course.specs.Journals.{AreCutAtStop, KeepsJournal, cut_by, noted_of};
 ghost use Rattle.dc_course.specs.Running.{CanBegin, IsRest, IsSettingOf, RunsOff, RunsOn, StepsOff, StepsOn, moment_of};
 ghost use Rattle.dc_course.specs.Traces.{RunsBy};
 ghost use Rattle.dc_media.specs.Causes.{Rose};
@@ -12,11 +14,13 @@ ghost use Rattle.dc_media.specs.Told.{TellsOn};
 ghost use Rattle.dc_media.specs.declared.planned.PlannedStop.{PlannedStop as PlannedStops};
 ghost use Rattle.dc_model.specs.declared.mark.Mark.TheVariants as marks;
 ghost use Rattle.dc_recovery.specs.Core.{Core};
+ghost use Rattle.dc_recovery.specs.Unstopped.{Unstopped};
 ghost use Rattle.dc_processes.specs.Stages.{KeepsTelling};
 ghost use Rattle.dc_world.specs.Worlds.{IsOfProcesses, IsPartOf, MayRun};
 ghost use Rattle.dc_world.specs.declared.faults.TurnFault.TheVariants as faults;
 ghost use Rattle.dc_world.specs.declared.faults.TurnFault.{TurnFault as TurnFaults};
 
+use crate::leaving::Journal;
 use crate::planned::Planned;
 use dc_acts::Reserved;
 use dc_limits::ENTRIES;
@@ -24,11 +28,12 @@ use dc_media::Sink;
 use dc_model::{Entry, Mark};
 use dc_world::{TurnFault, World};
 
-/// A run that was opened: its world, the marks of its entries, and how many entries an earlier part of it took.
+/// A run that was opened: its world, the marks of its entries, its journal, and how many entries an earlier part of it took.
 #[derive(Drop)]
 pub struct Running<C: Drop> {
     pub world: World<C>,
     pub marks: Reserved<Mark>,
+    pub journal: Journal,
     pub from: u32,
 }
 
@@ -43,6 +48,7 @@ fn begin<C: Planned + Drop>(world: &World<C>, dev: &mut C::Device, turn: u32)
     ensures once { (now : C.Device) (p : ℕ) → C.continues dev.new now → C.stops now p + C.unplanned dev.old p ≤ C.unplanned now p + C.stops dev.old p + 1 }
     ensures stopped { (now : C.Device) (p : ℕ) → C.continues dev.new now → is_planned (C.planned dev.old) turn p ≡ false
         → Rose (C.stops dev.old p) (C.stops now p) → C.stops now p < 2 ^ 64 - 1 → C.unplanned dev.old p < C.unplanned now p }
+    ensures alone { (now : C.Device) (p : ℕ) → C.continues dev.new now → is_planned (C.planned dev.old) turn p ≡ false → C.stops now p + C.unplanned dev.old p ≤ C.unplanned now p + C.stops dev.old p }
     ensures comes { (now : C.Device) (p : ℕ) → C.continues dev.new now → IsUnrefused C.stops C.faults p dev.old now
         → IfSome (first_stop (C.planned dev.old) turn p) (λ stop. C.calls now p < C.calls dev.old p + stop.call) }
     ensures punctual { (now : C.Device) (p : ℕ) (stop : PlannedStops) → C.continues dev.new now → first_stop (C.planned dev.old) turn p ≡ Some stop → C.faults now p ≡ C.faults dev.old p → C.faults now p < 2 ^ 64 - 1
@@ -75,6 +81,7 @@ impl<C: Planned + Drop> Running<C> {
         ensures ready { MayRun C.Checkpoint self.new.world dev.new }
         ensures left { self.new.world.processes.left + 1 ≡ self.old.world.processes.left }
         ensures from { self.new.from ≡ self.old.from }
+        ensures journal { self.new.journal ≡ self.old.journal }
         ensures protocol { self.new.world.processes.protocol ≡ self.old.world.processes.protocol }
         ensures long { length self.new.world.processes.slots.items ≡ length self.old.world.processes.slots.items }
         ensures room { self.old.marks.room ≤ self.new.marks.room }
@@ -92,10 +99,12 @@ impl<C: Planned + Drop> Running<C> {
             → IfSome (first_stop (C.planned dev.old) (self.old.from + length self.old.marks.items) p) (λ stop. C.calls dev.new p < C.calls dev.old p + stop.call)) }
         ensures punctual { (p : ℕ) (stop : PlannedStops) → first_stop (C.planned dev.old) (self.old.from + length self.old.marks.items) p ≡ Some stop → C.faults dev.new p ≡ C.faults dev.old p → C.faults dev.new p < 2 ^ 64 - 1
             → C.calls dev.new p < 2 ^ 64 - 1 → C.stops dev.old p + C.unplanned dev.new p < C.stops dev.new p + C.unplanned dev.old p → C.calls dev.old p + stop.call ≤ C.calls dev.new p + 1 }
-        ensures stopped { IfOk result (λ mark. mark ≡ marks.Stopped → (p : ℕ) × IsPartOf self.old.world p entry.now × Rose (C.stops dev.old p) (C.stops dev.new p)) }
+        ensures stopped { IfOk result (λ mark. mark ≡ marks.Stopped → IsSomeAnd self.new.world.stopped (λ p. IsPartOf self.old.world p entry.now × Rose (C.stops dev.old p) (C.stops dev.new p))) }
+        ensures unstopped { IfOk result (λ mark. (mark ≡ marks.Stopped → ⊥) → self.new.world.stopped ≡ self.old.world.stopped) }
         ensures unplanned { IfOk result (λ mark. mark ≡ marks.Stopped → ((p : ℕ) → IsPartOf self.old.world p entry.now → (is_planned (C.planned dev.old) (self.old.from + length self.old.marks.items) p ≡ false) × (C.stops dev.new p < 2 ^ 64 - 1))
             → (p : ℕ) × IsPartOf self.old.world p entry.now × (C.unplanned dev.old p < C.unplanned dev.new p)) }
         ensures once { (p : ℕ) → C.stops dev.new p + C.unplanned dev.old p ≤ C.unplanned dev.new p + C.stops dev.old p + 1 }
+        ensures alone { C.planned dev.old ≡ [] → (p : ℕ) → C.stops dev.new p + C.unplanned dev.old p ≤ C.unplanned dev.new p + C.stops dev.old p }
         ensures later { (p : ℕ) → (C.stops dev.old p ≤ C.stops dev.new p) × (C.faults dev.old p ≤ C.faults dev.new p) }
         ensures tells { (p : ℕ) → KeepsTelling C.Checkpoint dev.old dev.new p }
         ensures others { (q : ℕ) → length self.old.world.processes.slots.items ≤ q → C.untouched dev.old dev.new q }
@@ -112,7 +121,18 @@ impl<C: Planned + Drop> Running<C> {
         }
     }
 
-    /// The rest of a schedule, entry by entry, up to a fault.
+    /// The process whose stop ends the run: where it keeps a journal it ends at the first.
+    pub fn cut_by(&self) -> Option<u32>
+        ensures { result ≡ cut_by self.now }
+    {
+        if self.journal.kept {
+            self.world.stopped()
+        } else {
+            None
+        }
+    }
+
+    /// The rest of a schedule, entry by entry, up to a fault, or up to a stop where a journal is kept.
     pub fn run<O: Sink>(
         &mut self,
         schedule: &[Entry],
@@ -125,9 +145,17 @@ impl<C: Planned + Drop> Running<C> {
         requires processes { All (IsOfProcesses (length self.old.world.processes.slots.items)) schedule.now }
         requires room { length schedule.now ≤ self.old.marks.room }
         requires few { self.old.from + length schedule.now ≤ ENTRIES }
+        requires journal { self.old.journal.kept ≡ true → length self.old.journal.lines.items + 2 * length schedule.now ≤ self.old.journal.lines.room }
         ensures ready { MayRun C.Checkpoint self.new.world dev.new }
         ensures long { length self.new.world.processes.slots.items ≡ length self.old.world.processes.slots.items }
-        ensures used { OnOk result (length self.new.marks.items ≡ length schedule.now) }
+        ensures used { OnOk result (cut_by self.new ≡ None → length self.new.marks.items ≡ length schedule.now) }
+        ensures cut { self.old.journal.kept ≡ true → AreCutAtStop self.new.marks.items }
+        ensures whole { OnOk result (self.new.world.stopped ≡ None → (self.old.world.stopped ≡ None) × Unstopped self.new.marks.items) }
+        ensures broken { OnErr result (self.old.journal.kept ≡ true → (self.old.world.stopped ≡ None) × Unstopped self.new.marks.items) }
+        ensures stop { OnOk result (IfSome self.new.world.stopped (λ p. (self.old.world.stopped ≡ Some p) ⊎ ((p < length self.old.world.processes.slots.items) × Rose (C.stops dev.old p) (C.stops dev.new p)))) }
+        ensures kept { self.new.journal.kept ≡ self.old.journal.kept }
+        ensures sixteen { All IsOfSixteen self.old.journal.lines.items → All IsOfSixteen self.new.journal.lines.items }
+        ensures journal { self.old.journal.kept ≡ true → KeepsJournal C.Checkpoint schedule.now (noted_of self.old dev.old (O.held out.old)) (noted_of self.new dev.new (O.held out.new)) }
         ensures few { length self.new.marks.items ≤ length schedule.now }
         ensures runs_on { OnOk result (RunsOn C.Checkpoint schedule.now (moment_of self.old dev.old (O.held out.old)) (moment_of self.new dev.new (O.held out.new))) }
         ensures runs_off { (fault : TurnFaults) → IsErrOf result fault → RunsOff C.Checkpoint schedule.now fault (moment_of self.old dev.old (O.held out.old)) (moment_of self.new dev.new (O.held out.new)) }
@@ -139,6 +167,7 @@ impl<C: Planned + Drop> Running<C> {
         ensures come { (setting : Settings) (begun : Core) → CanBegin setting begun → IsSettingOf self.old setting → setting.stops ≡ C.planned dev.old → IsRest setting schedule.now
             → RunsBy C.Checkpoint C.calls setting begun (moment_of self.old dev.old (O.held out.old)) (moment_of self.new dev.new (O.held out.new)) (IsOk result) }
         ensures planned { (p : ℕ) → C.stops dev.new p + C.unplanned dev.old p ≤ C.unplanned dev.new p + C.stops dev.old p + length schedule.now }
+        ensures alone { C.planned dev.old ≡ [] → (p : ℕ) → C.stops dev.new p + C.unplanned dev.old p ≤ C.unplanned dev.new p + C.stops dev.old p }
         ensures later { (p : ℕ) → (C.stops dev.old p ≤ C.stops dev.new p) × (C.faults dev.old p ≤ C.faults dev.new p) }
         ensures tells { (p : ℕ) → KeepsTelling C.Checkpoint dev.old dev.new p }
         ensures others { (q : ℕ) → length self.old.world.processes.slots.items ≤ q → C.untouched dev.old dev.new q }
@@ -146,9 +175,16 @@ impl<C: Planned + Drop> Running<C> {
         ensures out_later { O.faults out.old ≤ O.faults out.new }
     {
         for entry in schedule {
+            if self.cut_by().is_some() {
+                return Ok(());
+            }
+            let count = self.journal.leave(&self.world, entry, dev);
             match self.entry(entry, dev, out) {
-                Ok(_mark) => {}
-                Err(fault) => return Err(fault),
+                Ok(mark) => self.journal.settle(mark, count),
+                Err(fault) => {
+                    self.journal.cut_off(count);
+                    return Err(fault);
+                }
             }
         }
         Ok(())

@@ -494,7 +494,7 @@ fn one_word_makes_a_file_of_88_bytes(rt: HostRuntime) -> Result<(), Fail> {
     let want = [
         // magic, class, order, version
         0x7f, 0x45, 0x4c, 0x46, 1, 1, 1, 0, 0, 0, 0, 0, 0, 0, 0, 0,
-        // file type, machine, version, entry, place of the program header
+        // file type, machine, version, entry, offset of the program header
         2, 0, 243, 0, 1, 0, 0, 0, 0, 4, 0, 0, 52, 0, 0, 0,
         // sections, flags, sizes of the headers and their number
         0, 0, 0, 0, 0, 0, 0, 0, 52, 0, 32, 0, 1, 0, 0, 0, 0, 0, 0, 0,

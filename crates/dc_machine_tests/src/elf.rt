@@ -1,6 +1,6 @@
 //! Files written by the rules of the Executable and Linkable Format, and what each comes to. The rows of the tables are
 //! `what|fault`: a file with such fields or program headers has that fault, or none, in a memory of 64 bytes. A field is
-//! `place=word`. Numbers are hexadecimal, but for places.
+//! `offset=word`. Numbers are hexadecimal, but for offsets of fields.
 
 use crate::holding::holds;
 use dc_elf::{ElfFault, LoadFault, load};
@@ -11,7 +11,7 @@ use std::test::Fail;
 const HEADER: [u8; 52] = [
     // magic, class, order
     0x7f, 0x45, 0x4c, 0x46, 0x01, 0x01, 0x01, 0x00, 0x00, 0x00, 0x00, 0x00, 0x00, 0x00, 0x00, 0x00,
-    // file type, machine, version, entry, place of the program headers
+    // file type, machine, version, entry, offset of the program headers
     0x02, 0x00, 0xf3, 0x00, 0x01, 0x00, 0x00, 0x00, 0x00, 0x00, 0x00, 0x00, 0x34, 0x00, 0x00, 0x00,
     // flags from byte 36 on, then the sizes of headers and their number
     0x00, 0x00, 0x00, 0x00, 0x00, 0x00, 0x00, 0x00, 0x34, 0x00, 0x20, 0x00, 0x00, 0x00, 0x00, 0x00,
@@ -111,7 +111,7 @@ const ENTRIES: &str = "\
 10000 24=ffff|entry
 ";
 
-/// A segment, by its type, place, address, size in the file and size in memory, keeps to the file, which has 100 bytes, and to the memory.
+/// A segment, by its type, offset, address, size in the file and size in memory, keeps to the file, which has 100 bytes, and to the memory.
 const SEGMENTS: &str = "\
 1 54 0 10 10|
 1 54 0 10 f|segment 0
@@ -145,7 +145,7 @@ const FIRST: &str = "\
 2 95 31 10 f; 1 94 31 10 10; 1 94 0 10 f|segment 1
 ";
 
-/// A byte of the guest and another in its place, with the fault that comes of it, in the order of testing.
+/// A byte of the guest and another instead of it, with the fault that comes of it, in the order of testing.
 const CHANGES: [(usize, u8, &str); 16] = [
     (0, 0x7e, "magic"),
     (1, 0x65, "magic"),
@@ -193,7 +193,7 @@ fn put(file: &mut [u8], at: usize, bytes: &[u8]) {
     }
 }
 
-/// Adds a program header: its type, place, address, size in the file and size in memory. All else in it is ones.
+/// Adds a program header: its type, offset, address, size in the file and size in memory. All else in it is ones.
 fn push_part(file: &mut Vec<u8>, part: &[u32; 5]) -> Result<(), Fail> {
     let [kind, offset, address, filed, sized] = *part;
     let ones = u32::MAX;

@@ -196,6 +196,6 @@ fn a_guest_stands_where_its_registers_say(_rt: HostRuntime) -> Result<(), Fail> 
     if guest.has_ended() && regs.pc == 8 && regs.x[10] == 7 {
         Ok(())
     } else {
-        Err(Fail::new("another place"))
+        Err(Fail::new("other registers"))
     }
 }

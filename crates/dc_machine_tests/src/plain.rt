@@ -171,9 +171,9 @@ fn traps(plain: &Plain, at: usize, p: u32, cause: u32, pc: u32) -> Result<(), Fa
             Visible {
                 p: process,
                 k: 0,
-                body: Body::Trap(why, place),
+                body: Body::Trap(why, at_pc),
             },
-        ) if *process == p && *why == cause && *place == pc => Ok(()),
+        ) if *process == p && *why == cause && *at_pc == pc => Ok(()),
         _ => Err(Fail::new("another trap")),
     }
 }

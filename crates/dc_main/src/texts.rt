@@ -19,6 +19,7 @@ Commands:
   @ run PLAN               run the guests of a plan
   @ check PLAN REPORT OUT  tell whether a run's files belong together
   @ asm SOURCE             assemble a guest
+  @ journal PLAN           run a plan and write its journal
   @ audit JOURNAL          tell whether a journal has Save-work
   @ help [COMMAND]         this text, or more on one command
   @ --version              the version, and what it was proved with
@@ -28,7 +29,8 @@ behind `--` all words are names of files.
 
 Files, named from the working folder:
   PLAN       what to run, in TOML: the guests' files, their schedule, the stops
-  dc.report  what `@ run` writes beside its output: each act that counts
+  dc.report  what `@ run` writes beside its output: each act that counts;
+             of `@ journal` the journal of the run
   REPORT     such a dc.report
   OUT        the standard output of a run, kept in a file
   SOURCE     RV32I instructions, one a line; the guest is the standard output
@@ -51,6 +53,7 @@ Statuses, each with its line on standard error:
   12  store refused: it holds no commit of this guest
   13  report refused: in the line that is named
   14  source refused: in the line that is named
+  17  device stopped: a call of a guest's store was, so the journal ends there
   18  journal refused: in the line that is named
   19  not saved: the event of a line was not committed before another line
 
@@ -113,6 +116,15 @@ Lines of a source, where blanks at the ends and what follows # do not count:
   lw RD,NUMBER(RS1)        registers x0 to x31
   .word NUMBER             any word
   NAME:                    names the next word; the first is at address 1024
+";
+
+/// The command `journal`.
+pub const JOURNAL: &str = "\
+@ journal PLAN runs a plan as `@ run` does, and writes the journal
+of the run to dc.report in place of the report. The plan has to have a schedule,
+of turns alone, and no stop; then the journal has Save-work, as
+`@ audit dc.report` finds. Where the run did not come to the end of its
+schedule the journal lacks its last line.
 ";
 
 /// The command `audit`.

@@ -11,6 +11,8 @@ pub enum Topic {
     Check,
     /// The command `asm`.
     Assembling,
+    /// The command `journal`.
+    Journal,
     /// The command `audit`.
     Audit,
     /// Its version.
@@ -25,6 +27,7 @@ impl Topic {
             Topic::Run => texts::RUN,
             Topic::Check => texts::CHECK,
             Topic::Assembling => texts::ASSEMBLING,
+            Topic::Journal => texts::JOURNAL,
             Topic::Audit => texts::AUDIT,
             Topic::Version => texts::VERSION,
         }
@@ -37,6 +40,7 @@ fn topic_of_command(name: &str) -> Option<Topic> {
         "run" => Some(Topic::Run),
         "check" => Some(Topic::Check),
         "asm" => Some(Topic::Assembling),
+        "journal" => Some(Topic::Journal),
         "audit" => Some(Topic::Audit),
         _ => None,
     }

@@ -97,7 +97,7 @@ module _ (n p : ℕ) (l : Local Guest) (words : List ℕ) (kernel : Kernel) wher
     pub ended_of_it : ends_so (ending_of l.machine) kernel.status ≡ true
     ended_of_it = end_by l.machine.ended (next_of l.machine) kernel.status (ap (λ (g : Guest). g.ended) is.guest) is.status
 
--- an item at a place, and the list from there on
+-- an item at an index, and the list from there on
 get_drop : {A : Type 0} (xs : List A) (k : ℕ) (x : A) → slice_get xs k ≡ Some x → drop k xs ≡ x ∷ drop (suc k) xs
 get_drop [] k x is = absurd (let off : ⊥ = cc in off)
 get_drop (y ∷ xs) zero x is = let same : y ≡ x = cc in ap (λ z. z ∷ xs) same
@@ -110,10 +110,10 @@ drop_get (y ∷ xs) zero x ys is = let same : y ≡ x = cc in let more : xs ≡ 
 drop_get (y ∷ xs) (suc k) x ys is = drop_get xs k x ys is
 
 -- what is left of what was sent and of what is kept decides
-pub record Left (sent : List (List ℕ)) (link : Link) (place : ℕ) (rest : List (List ℕ)) : Type 0 where
-  pub is : drop place link.kept ≡ rest → IsLinkOf sent link
-  pub only : IsLinkOf sent link → drop place link.kept ≡ rest
-  pub long : place + length rest ≡ length link.kept
+pub record Left (sent : List (List ℕ)) (link : Link) (index : ℕ) (rest : List (List ℕ)) : Type 0 where
+  pub is : drop index link.kept ≡ rest → IsLinkOf sent link
+  pub only : IsLinkOf sent link → drop index link.kept ≡ rest
+  pub long : index + length rest ≡ length link.kept
 
 module _ (sent : List (List ℕ)) (link : Link) where
   pub left_all : link.sent ≡ length sent → length link.kept ≤ link.sent → (rest : List (List ℕ)) → rest ≡ drop (link.sent - length link.kept) sent → length rest ≡ length link.kept → Left sent link 0 rest
@@ -123,26 +123,26 @@ module _ (sent : List (List ℕ)) (link : Link) where
     long = omega (arith, long);
   }
 
-  module _ (place : ℕ) (message : List ℕ) (after rest : List (List ℕ)) (rest_is : rest ≡ message ∷ after) (left : Left sent link place rest) where
-    pub left_next : slice_get link.kept place ≡ Some message → Left sent link (place + 1) after
+  module _ (index : ℕ) (message : List ℕ) (after rest : List (List ℕ)) (rest_is : rest ≡ message ∷ after) (left : Left sent link index rest) where
+    pub left_next : slice_get link.kept index ≡ Some message → Left sent link (index + 1) after
     left_next there = record {
-      is = λ same. left.is (get_drop link.kept place message there ∙ ap (λ xs. message ∷ xs) (ap (λ n. drop n link.kept) next_is ∙ same) ∙ sym rest_is);
-      only = λ so. sym (ap (λ n. drop n link.kept) next_is) ∙ (drop_get link.kept place message after (left.only so ∙ rest_is)).1;
+      is = λ same. left.is (get_drop link.kept index message there ∙ ap (λ xs. message ∷ xs) (ap (λ n. drop n link.kept) next_is ∙ same) ∙ sym rest_is);
+      only = λ so. sym (ap (λ n. drop n link.kept) next_is) ∙ (drop_get link.kept index message after (left.only so ∙ rest_is)).1;
       long = let l = left.long in let e = ap length rest_is in omega (arith, l, e);
     }
       where
-        next_is : suc place ≡ place + 1
+        next_is : suc index ≡ index + 1
         next_is = omega arith
 
-    pub left_there : IsLinkOf sent link → slice_get link.kept place ≡ Some message
-    left_there so = (drop_get link.kept place message after (left.only so ∙ rest_is)).0
+    pub left_there : IsLinkOf sent link → slice_get link.kept index ≡ Some message
+    left_there so = (drop_get link.kept index message after (left.only so ∙ rest_is)).0
 
   drop_all : (xs : List (List ℕ)) → drop (length xs) xs ≡ []
   drop_all [] = refl
   drop_all (x ∷ xs) = drop_all xs
 
-  pub left_none : (place : ℕ) (rest : List (List ℕ)) → rest ≡ [] → Left sent link place rest → IsLinkOf sent link
-  left_none place rest none left = left.is (ap (λ n. drop n link.kept) (let l = left.long in let e = ap length none in omega (arith, l, e)) ∙ drop_all link.kept ∙ sym none)
+  pub left_none : (index : ℕ) (rest : List (List ℕ)) → rest ≡ [] → Left sent link index rest → IsLinkOf sent link
+  left_none index rest none left = left.is (ap (λ n. drop n link.kept) (let l = left.long in let e = ap length none in omega (arith, l, e)) ∙ drop_all link.kept ∙ sym none)
 
 -- the number of a guest, and how many there are, stay
 started_is : (p n : ℕ) (o : Option Image) → ((started p n o).number ≡ p) × ((started p n o).count ≡ n)

@@ -1,6 +1,7 @@
 //! Runs over recoverable memory.
 
-ghost use Rattle.std.specs.Prelude.{◌≡◌, ◌<◌, ◌≤◌, ℕ, All, Err, IfOk, OnErr, length, false};
+ghost use Rattle.std.specs.Prelude.{◌≡◌, ◌<◌, ◌≤◌, ℕ, [], All, Err, IfOk, OnErr, length, false};
+ghost use Rattle.dc_audit.specs.Journals.{IsOfSixteen};
 ghost use Rattle.dc_course.specs.Courses.{IsCourse, account_of, counts_of, setting_of};
 ghost use Rattle.dc_course.specs.Running.{output};
 ghost use Rattle.dc_course.specs.Lent.{AreLeftFrom, KeepsTold, capped_by, TellsStores};
@@ -25,11 +26,13 @@ use dc_world::{OpenFault, Setup};
 use std::alloc::Global;
 
 /// Runs a schedule over recoverable memory: the store of each process is a segment of the words that are lent, which stop as planned.
+/// Where its journal is kept it ends at its first stop.
 pub fn run_on_memory<K: Keeps, O: Sink>(
     alloc: Global,
     setup: Setup,
     schedule: &[Entry],
     stops: Vec<PlannedStop>,
+    kept: bool,
     keeps: &mut K,
     out: &mut O,
 ) -> Result<Course, OpenFault>
@@ -44,6 +47,10 @@ pub fn run_on_memory<K: Keeps, O: Sink>(
         IsCourse (setting_of setup schedule.now stops.items) (account_of course) course.ending (output (O.held out.old) (O.held out.new)) (counts_of K.stops (capped_by K.calls) keeps.old keeps.new)
         (λ core lent. SegmentsLeft K.Keeps (setting_of setup schedule.now stops.items) core lent)) }
     ensures device { IfOk result (λ course. (p : ℕ) → course.ending ≡ endings.Device p → Rose (K.faults keeps.old p) (K.faults keeps.new p)) }
+    ensures stop { IfOk result (λ course. stops.items ≡ [] → (p : ℕ) → course.ending ≡ endings.Stopped p → (p < length setup.images.items) × Rose (K.stops keeps.old p) (K.stops keeps.new p)) }
+    ensures kept { IfOk result (λ course. course.journal.kept ≡ kept) }
+    ensures sixteen { IfOk result (λ course. All IsOfSixteen course.journal.lines.items) }
+    ensures unkept { IfOk result (λ course. kept ≡ false → (p : ℕ) → ¬ (course.ending ≡ endings.Stopped p)) }
     ensures sink { IfOk result (λ course. course.ending ≡ endings.Sink → Rose (O.faults out.old) (O.faults out.new)) }
     ensures marks { IfOk result (λ course. length course.marks.items ≤ length schedule.now) }
     ensures failed { (p : ℕ) → result ≡ Err (opening.Failed p) → (p < length setup.images.items) × Rose (K.faults keeps.old p) (K.faults keeps.new p) }
@@ -56,7 +63,9 @@ pub fn run_on_memory<K: Keeps, O: Sink>(
     ensures out_later { O.faults out.old ≤ O.faults out.new }
 {
     let mut armed = Armed::new(keeps, stops);
-    let course = run::<OnWords<Segment<Armed<&mut K>>>, O>(alloc, setup, schedule, &mut armed, out);
+    let course = run::<OnWords<Segment<Armed<&mut K>>>, O>(
+        alloc, setup, schedule, kept, &mut armed, out,
+    );
     let _lent = armed.into_device();
     course
 }

@@ -1,7 +1,6 @@
 -- What an audit found, by what its journal says.
 use Rattle.std.proofs.Common.{◌≡◌, Result, Ok, Err, refl}
 use Rattle.dc_audit.specs.Reading.{Audits, IsVerdict, Journal}
-use Rattle.dc_audit.specs.declared.fault.AuditError.{AuditError}
 use Rattle.dc_audit.specs.declared.fault.AuditFault.{AuditFault}
 use Rattle.dc_audit.specs.declared.verdict.Verdict.{Verdict as Found}
 use Rattle.dc_run.specs.Auditing.{IsJudged}

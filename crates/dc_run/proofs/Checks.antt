@@ -13,7 +13,7 @@ use Rattle.dc_command.specs.Command.Asked.{ToCheck}
 use Rattle.dc_run.specs.Commands.{Asks, IfCheck, IsExact, work_of}
 use Rattle.dc_run.specs.Commands.Work.{Check}
 use Rattle.dc_course.specs.Headline.{Setting}
-use Rattle.dc_run.specs.Opening.{AsksToRun, Files, file_in, opening_of, plan_in}
+use Rattle.dc_run.specs.Opening.{AsksToRun, Files, file_in, opening_of, plan_for, to_report}
 use Rattle.dc_run.specs.Refusals.{as_verdict}
 use Rattle.dc_run.specs.Settings.{is_refusal, setting_of}
 use Rattle.dc_run.specs.declared.setting.Setting as code
@@ -39,20 +39,20 @@ nothing_there : (r : Result Plan Refusal) → IsOkAnd r (λ plan. ⊥) → ⊥
 nothing_there (Err refusal) asks = asks
 nothing_there (Ok plan) asks = asks
 
-pub asked_of_run : (files : Files) (names : Names) (w : Which) → AsksToRun files names.plan w → AsksToCheck files names w
+pub asked_of_run : (files : Files) (names : Names) (w : Which) → AsksToRun files (to_report names.plan) w → AsksToCheck files names w
 asked_of_run files names which.Plan asks = asks
 asked_of_run files names (which.Guest p) asks = asks
 asked_of_run files names which.Schedule asks = asks
-asked_of_run files names which.Report asks = absurd (nothing_there (plan_in files names.plan) asks)
-asked_of_run files names which.Out asks = absurd (nothing_there (plan_in files names.plan) asks)
-asked_of_run files names which.Source asks = absurd (nothing_there (plan_in files names.plan) asks)
-asked_of_run files names which.Journal asks = absurd (nothing_there (plan_in files names.plan) asks)
+asked_of_run files names which.Report asks = absurd (nothing_there (plan_for files (to_report names.plan)) asks)
+asked_of_run files names which.Out asks = absurd (nothing_there (plan_for files (to_report names.plan)) asks)
+asked_of_run files names which.Source asks = absurd (nothing_there (plan_for files (to_report names.plan)) asks)
+asked_of_run files names which.Journal asks = absurd (nothing_there (plan_for files (to_report names.plan)) asks)
 
 -- the report, and the output
-pub asked_report : (files : Files) (names : Names) (setting : Setting) (w : Which) → opening_of files names.plan ≡ Ok setting → w ≡ which.Report → IsSome (files names.report) → AsksToCheck files names w
+pub asked_report : (files : Files) (names : Names) (setting : Setting) (w : Which) → opening_of files (to_report names.plan) ≡ Ok setting → w ≡ which.Report → IsSome (files names.report) → AsksToCheck files names w
 asked_report files names setting w opens is there = subst (AsksToCheck files names) (sym is) (rw opens there)
 
-pub asked_output : (files : Files) (names : Names) (setting : Setting) (report : Report) (w : Which) → opening_of files names.plan ≡ Ok setting → report_for files setting names.report ≡ Ok report
+pub asked_output : (files : Files) (names : Names) (setting : Setting) (report : Report) (w : Which) → opening_of files (to_report names.plan) ≡ Ok setting → report_for files setting names.report ≡ Ok report
     → w ≡ which.Out → IsSome (files names.out) → AsksToCheck files names w
 asked_output files names setting report w opens reads is there = subst (AsksToCheck files names) (sym is) (rw (opens, reads) there)
 
@@ -62,7 +62,7 @@ pub read_for : (files : Files) (setting : code.Setting) (n : ℕ) (name : List �
 read_for files setting n name told same e = subst (λ k. report_in files k name ≡ told) (same ∙ sym (length-map setting.images.items seen_image)) e
 
 -- what is found, where the setting and the report are there
-pub found_by : (files : Files) (names : Names) (setting : Setting) (report : Report) → opening_of files names.plan ≡ Ok setting → report_for files setting names.report ≡ Ok report
+pub found_by : (files : Files) (names : Names) (setting : Setting) (report : Report) → opening_of files (to_report names.plan) ≡ Ok setting → report_for files setting names.report ≡ Ok report
     → found_in files names ≡ (file_in files which.Out names.out >>= found_at_end setting report)
 found_by files names setting report opens reads = rw (opens, reads) refl
 

@@ -1,5 +1,5 @@
 -- How what a command was answered follows from what its work was.
-use Rattle.std.proofs.Common.{◌≡◌, inl, inr, ℕ, List, Option, None, Some, IfSome, IsOkAnd, IsSome, Result, Ok, Err, String, refl, sym, subst}
+use Rattle.std.proofs.Common.{◌≡◌, inl, inr, ℕ, List, Option, None, Some, IfOk, IfSome, IsOkAnd, IsSome, Result, Ok, Err, String, refl, sym, subst}
 use Rattle.std.specs.declared.alloc.Global.{Global}
 use Rattle.dc_audit.specs.Reading.{Journal as Said}
 use Rattle.dc_words.specs.Results.{◌>>=◌}
@@ -8,9 +8,9 @@ use Rattle.dc_command.specs.declared.command.CommandFault.TheVariants as command
 use Rattle.dc_run.specs.Assembling.{program_in}
 use Rattle.dc_run.specs.Auditing.{journal_in}
 use Rattle.dc_run.specs.Checking.{checked_in}
-use Rattle.dc_command.specs.Command.{Names, asked_of}
+use Rattle.dc_command.specs.Command.{Names, Order, asked_of}
 use Rattle.dc_command.specs.Command.Asked.{ToRun, ToCheck, ToAssemble, ToAudit}
-use Rattle.dc_run.specs.Commands.{Asks, IfAudit, IsExact, IsOpenedFor, may_end, unasked_by, work_of}
+use Rattle.dc_run.specs.Commands.{Asks, IfAudit, IsExact, IsOpenedFor, Work, may_end, unasked_by, work_of}
 use Rattle.dc_run.specs.Commands.Work.{Run, Check, Assembly, Audit}
 use Rattle.dc_run.specs.Opening.{Files, AsksToRun, opening_of}
 use Rattle.dc_run.specs.Refusals.{as_verdict}
@@ -21,10 +21,10 @@ use Rattle.dc_run.specs.declared.verdict.Which.{Which}
 use Rattle.dc_run.specs.declared.verdict.Which.TheVariants.{Journal, Source}
 use Rattle.dc_run.proofs.Works.{exact_named, for_known, opened_named, refused_work}
 
-pub run_exact : (known : Option Files) (words : List (String Global)) (plan : List ℕ) → asked_of words ≡ Some (ToRun plan) → (v refusal : Verdict)
-    → IfSome known (λ files. IsExact v refusal (as_verdict (opening_of files plan))) → IfSome known (λ files. IsExact v refusal (work_of files words))
-run_exact None words plan asked v refusal is = tt
-run_exact (Some files) words plan asked v refusal is = rw asked (exact_named Run v refusal (as_verdict (opening_of files plan)) is)
+pub run_exact : (known : Option Files) (words : List (String Global)) (order : Order) → asked_of words ≡ Some (ToRun order) → (v refusal : Verdict)
+    → IfSome known (λ files. IsExact v refusal (as_verdict (opening_of files order))) → IfSome known (λ files. IsExact v refusal (work_of files words))
+run_exact None words order asked v refusal is = tt
+run_exact (Some files) words order asked v refusal is = rw asked (exact_named (Run order.ledger) v refusal (as_verdict (opening_of files order)) is)
 
 pub assembly_exact : (known : Option Files) (words : List (String Global)) (source : List ℕ) → asked_of words ≡ Some (ToAssemble source) → (v refusal : Verdict)
     → IfSome known (λ files. IsExact v refusal (program_in files source)) → IfSome known (λ files. IsExact v refusal (work_of files words))
@@ -36,10 +36,10 @@ pub audit_exact : (known : Option Files) (words : List (String Global)) (journal
 audit_exact None words journal asked v refusal is = tt
 audit_exact (Some files) words journal asked v refusal is = rw asked (exact_named Audit v refusal (journal_in files journal) is)
 
-pub run_asks : (known : Option Files) (words : List (String Global)) (plan : List ℕ) → asked_of words ≡ Some (ToRun plan) → (v : Verdict) (which : Which)
-    → IfSome known (λ files. v ≡ LibraryFault which → AsksToRun files plan which) → IfSome known (λ files. v ≡ LibraryFault which → Asks files words which)
-run_asks None words plan asked v which asks = tt
-run_asks (Some files) words plan asked v which asks = λ is. rw asked (asks is)
+pub run_asks : (known : Option Files) (words : List (String Global)) (order : Order) → asked_of words ≡ Some (ToRun order) → (v : Verdict) (which : Which)
+    → IfSome known (λ files. v ≡ LibraryFault which → AsksToRun files order which) → IfSome known (λ files. v ≡ LibraryFault which → Asks files words which)
+run_asks None words order asked v which asks = tt
+run_asks (Some files) words order asked v which asks = λ is. rw asked (asks is)
 
 pub assembly_asks : (known : Option Files) (words : List (String Global)) (source : List ℕ) → asked_of words ≡ Some (ToAssemble source) → (v : Verdict) (which : Which)
     → (v ≡ LibraryFault which → which ≡ Source) → IfSome known (λ files. v ≡ LibraryFault which → IsSome (files source)) → IfSome known (λ files. v ≡ LibraryFault which → Asks files words which)
@@ -70,12 +70,23 @@ unasked_opened known words fault answered same usage = for_known known (λ files
     by files command.Usage none = refused_work may_end Usage (work_of files words) refl (inr (rw (none refl) refl))
     by files command.Memory none = refused_work may_end WantOfMemory (work_of files words) refl (inl refl)
 
+-- so nothing of their work need be shown where there was memory
+pub unasked_work : (known : Option Files) (words : List (String Global)) (fault : CommandFault) (answered : Verdict) → answered ≡ unasked_by fault → (fault ≡ command.Usage → asked_of words ≡ None)
+    → (P : Files → Work → Type 0) → (answered ≡ WantOfMemory → (files : Files) (work : Work) → P files work) → IfSome known (λ files. IfOk (work_of files words) (P files))
+unasked_work None words fault answered same usage P holds = tt
+unasked_work (Some files) words command.Usage answered same usage P holds = rw (usage refl) tt
+unasked_work (Some files) words command.Memory answered same usage P holds = by (work_of files words)
+  where
+    by : (told : Result Work Verdict) → IfOk told (P files)
+    by (Ok work) = holds same files work
+    by (Err refusal) = tt
+
 -- what was opened is answered by what its work may end with
 module _ (words : List (String Global)) (v : Verdict) where
-  pub run_opened : (known : Option Files) (plan : List ℕ) → asked_of words ≡ Some (ToRun plan) → IfSome known (λ files. IsOpenedFor (λ setting u. may_have_run u) v (as_verdict (opening_of files plan)))
+  pub run_opened : (known : Option Files) (order : Order) → asked_of words ≡ Some (ToRun order) → IfSome known (λ files. IsOpenedFor (λ setting u. may_have_run u) v (as_verdict (opening_of files order)))
       → IfSome known (λ files. IsOpenedFor may_end v (work_of files words))
-  run_opened None plan asked is = tt
-  run_opened (Some files) plan asked is = rw asked (opened_named Run (λ setting u. may_have_run u) may_end v (λ setting. refl) (as_verdict (opening_of files plan)) is)
+  run_opened None order asked is = tt
+  run_opened (Some files) order asked is = rw asked (opened_named (Run order.ledger) (λ setting u. may_have_run u) may_end v (λ setting. refl) (as_verdict (opening_of files order)) is)
 
   pub check_opened : (known : Option Files) (names : Names) → asked_of words ≡ Some (ToCheck names) → IfSome known (λ files. IsOpenedFor (λ checked u. was_opened u) v (checked_in files names))
       → IfSome known (λ files. IsOpenedFor may_end v (work_of files words))

@@ -9,11 +9,13 @@ use Rattle.dc_checkpoint.specs.declared.faults.StoreFault.{StoreFault}
 use Rattle.dc_media.specs.Causes.{Rose}
 use Rattle.dc_plan.specs.declared.plan.Medium.{Medium}
 use Rattle.dc_words.specs.Results.{◌>>=◌}
-use Rattle.dc_command.specs.Command.{asked_of}
+use Rattle.dc_command.specs.Command.{Order, asked_of}
+use Rattle.dc_command.specs.declared.command.Ledger.{Ledger}
+use Rattle.dc_command.specs.declared.command.Ledger.TheVariants as ledger
 use Rattle.dc_command.specs.Command.Asked.{ToRun}
-use Rattle.dc_run.specs.Commands.{AreCalm, IfRun, IsCarriedOut, IsOpenedFor, TellsFor, Work, may_end, medium_of, work_of}
+use Rattle.dc_run.specs.Commands.{AreCalm, HasRun, IfRun, IsCarriedOut, IsOpenedFor, TellsFor, Work, may_end, medium_of, work_of}
 use Rattle.dc_run.specs.Commands.Work.{Run, Check, Assembly, Audit}
-use Rattle.dc_run.specs.Headline.{IsReported, Loan, Reports, SinkCourse, verdict_at}
+use Rattle.dc_run.specs.Headline.{IsReported, Loan, Reports, SinkCourse, keeps_journal, verdict_at}
 use Rattle.dc_run.specs.Media.{Devices, HasFailed}
 use Rattle.dc_run.specs.Opening.{Files, medium_at, opening_of}
 use Rattle.dc_run.specs.Refusals.{as_verdict}
@@ -22,24 +24,45 @@ use Rattle.dc_run.specs.declared.outcome.Outcome.{Outcome}
 use Rattle.dc_run.specs.declared.verdict.Outlet.{Outlet}
 use Rattle.dc_run.specs.declared.verdict.Outlet.TheVariants.{Out, Report}
 use Rattle.dc_run.specs.declared.verdict.Verdict.{Verdict}
-use Rattle.dc_run.specs.declared.verdict.Verdict.TheVariants.{Done, Unfinished, Usage, PlanRefused, GuestRefused, Missing, LibraryFault, DeviceFault, SinkFault, NotARun, Differs, WantOfMemory, ScheduleRefused, StoreRefused, ReportRefused, AsmRefused, JournalRefused, NotSaved}
+use Rattle.dc_run.specs.declared.verdict.Verdict.TheVariants.{Done, Unfinished, Usage, PlanRefused, GuestRefused, Missing, LibraryFault, DeviceFault, DeviceStopped, SinkFault, NotARun, Differs, WantOfMemory, ScheduleRefused, StoreRefused, ReportRefused, AsmRefused, JournalRefused, NotSaved}
 use Rattle.dc_run.specs.declared.verdict.Which.{Which}
+
+-- what a run alone comes to
+pub not_stopped : (v : Verdict) (p : ℕ) → is_of_run v ≡ false → v ≡ DeviceStopped p → ⊥
+not_stopped v p other e = true≢false (sym (ap is_of_run e) ∙ other)
 
 pub no_rise : (before now : ℕ) → IsCalm before now → Rose before now → ⊥
 no_rise before now calm rose = omega (arith, calm.0, calm.1, rose)
 
 abbrev is_run : Work → Bool
-is_run (Run setting) = true
+is_run (Run ledger setting) = true
 is_run _ = false
 
+-- a run that is to write its journal
+abbrev is_noted : Work → Bool
+is_noted (Run ledger setting) = keeps_journal ledger
+is_noted _ = false
+
+run_done : (ledger : Ledger) → HasRun ledger Done
+run_done ledger.Report = inl refl
+run_done ledger.Journal = inl refl
+
+run_unfinished : (ledger : Ledger) → HasRun ledger Unfinished
+run_unfinished ledger.Report = inr refl
+run_unfinished ledger.Journal = inr (inl refl)
+
+run_stopped : (ledger : Ledger) (p : ℕ) → keeps_journal ledger ≡ true → HasRun ledger (DeviceStopped p)
+run_stopped ledger.Report p keeps = absurd (true≢false (sym keeps))
+run_stopped ledger.Journal p keeps = inr (inr (p, refl))
+
 done_is : (work : Work) → IsCarriedOut work Done
-done_is (Run setting) = inl refl
+done_is (Run ledger setting) = run_done ledger
 done_is (Check checked) = refl
 done_is (Assembly program) = refl
 done_is (Audit journal) = inl refl
 
 no_end : (work : Work) (v : Verdict) → may_have_run v ≡ false → was_opened v ≡ false → has_ended v ≡ false → stands_in v ≡ false → (may_end work v ≡ true) ⊎ (stands_in v ≡ true) → ⊥
-no_end (Run setting) v a b c d (inl may) = true≢false (sym may ∙ a)
+no_end (Run ledger setting) v a b c d (inl may) = true≢false (sym may ∙ a)
 no_end (Check checked) v a b c d (inl may) = true≢false (sym may ∙ b)
 no_end (Assembly program) v a b c d (inl may) = true≢false (sym may ∙ b)
 no_end (Audit journal) v a b c d (inl may) = true≢false (sym may ∙ c)
@@ -47,7 +70,7 @@ no_end work v a b c d (inr may) = true≢false (sym may ∙ d)
 
 -- only an audit ends by what it finds
 found_is : (work : Work) (event line : ℕ) → (may_end work (NotSaved event line) ≡ true) ⊎ (stands_in (NotSaved event line) ≡ true) → IsCarriedOut work (NotSaved event line)
-found_is (Run setting) event line (inl may) = absurd (true≢false (sym may))
+found_is (Run ledger setting) event line (inl may) = absurd (true≢false (sym may))
 found_is (Check checked) event line (inl may) = absurd (true≢false (sym may))
 found_is (Assembly program) event line (inl may) = absurd (true≢false (sym may))
 found_is (Audit journal) event line (inl may) = inr (event, line, refl)
@@ -59,13 +82,20 @@ record Known (work : Work) (v : Verdict) : Type 0 where
   device : (p : ℕ) → v ≡ DeviceFault p → ⊥
   sink : (outlet : Outlet) → v ≡ SinkFault outlet → ⊥
   store : (p : ℕ) (fault : StoreFault) → v ≡ StoreRefused p fault → ⊥
+  stopped : (p : ℕ) → v ≡ DeviceStopped p → is_noted work ≡ true
   other : is_run work ≡ false → is_of_run v ≡ false
 
 unfinished_is : (work : Work) → (is_run work ≡ false → true ≡ false) → IsCarriedOut work Unfinished
-unfinished_is (Run setting) other = inr refl
+unfinished_is (Run ledger setting) other = run_unfinished ledger
 unfinished_is (Check checked) other = absurd (true≢false (other refl))
 unfinished_is (Assembly program) other = absurd (true≢false (other refl))
 unfinished_is (Audit journal) other = absurd (true≢false (other refl))
+
+stopped_is : (work : Work) (p : ℕ) → is_noted work ≡ true → IsCarriedOut work (DeviceStopped p)
+stopped_is (Run ledger setting) p noted = run_stopped ledger p noted
+stopped_is (Check checked) p noted = absurd (true≢false (sym noted))
+stopped_is (Assembly program) p noted = absurd (true≢false (sym noted))
+stopped_is (Audit journal) p noted = absurd (true≢false (sym noted))
 
 ended_well : (work : Work) (v : Verdict) → (may_end work v ≡ true) ⊎ (stands_in v ≡ true) → Known work v → IsCarriedOut work v ⊎ (v ≡ WantOfMemory)
 ended_well work Done may known = inl (done_is work)
@@ -73,6 +103,7 @@ ended_well work Unfinished may known = inl (unfinished_is work known.other)
 ended_well work WantOfMemory may known = inr refl
 ended_well work (LibraryFault which) may known = absurd (known.library which refl)
 ended_well work (DeviceFault p) may known = absurd (known.device p refl)
+ended_well work (DeviceStopped p) may known = inl (stopped_is work p (known.stopped p refl))
 ended_well work (SinkFault outlet) may known = absurd (known.sink outlet refl)
 ended_well work (StoreRefused p fault) may known = absurd (known.store p fault refl)
 ended_well work Usage may known = absurd (no_end work Usage refl refl refl refl may)
@@ -104,39 +135,40 @@ module _ {S : Type 0} (asked : List (String Global)) (v : Verdict) (before after
   Counted on = (p : ℕ) → v ≡ DeviceFault p → HasFailed on before after p
 
   complete_at : (on : Devices S) → Counted on → (work : Work) → (may_end work v ≡ true) ⊎ (stands_in v ≡ true) → (TellsFor on before after work → (p : ℕ) (fault : StoreFault) → v ≡ StoreRefused p fault → ⊥)
-      → (is_run work ≡ false → is_of_run v ≡ false) → Complete on work
-  complete_at on device work may store other = λ calm told. ended_well work v may (record {
+      → ((p : ℕ) → v ≡ DeviceStopped p → is_noted work ≡ true) → (is_run work ≡ false → is_of_run v ≡ false) → Complete on work
+  complete_at on device work may store stopped other = λ calm told. ended_well work v may (record {
     library = λ which e. no_rise lib_before lib_after calm.library (library which e);
     device = λ p e. no_rise (on.faults before p) (on.faults after p) (calm.devices p) (device p e);
     sink = sink_by v out report calm.output calm.reports sink sink';
     store = store told;
+    stopped = stopped;
     other = other;
   })
 
   complete_by : (on : Devices S) → Counted on → (told : Result Work Verdict) → IsOpenedFor may_end v told → ((work : Work) → told ≡ Ok work → TellsFor on before after work → (p : ℕ) (fault : StoreFault) → v ≡ StoreRefused p fault → ⊥)
-      → ((work : Work) → told ≡ Ok work → is_run work ≡ false → is_of_run v ≡ false) → IfOk told (Complete on)
-  complete_by on device (Ok work) opened store other = complete_at on device work opened (store work refl) (other work refl)
-  complete_by on device (Err refusal) opened store other = tt
+      → ((p : ℕ) → v ≡ DeviceStopped p → ⊥) → ((work : Work) → told ≡ Ok work → is_run work ≡ false → is_of_run v ≡ false) → IfOk told (Complete on)
+  complete_by on device (Ok work) opened store never other = complete_at on device work opened (store work refl) (λ p e. absurd (never p e)) (other work refl)
+  complete_by on device (Err refusal) opened store never other = tt
 
   module _ (on : Medium → Devices S) where
     -- of a command that is no run
     pub other_complete : ((m : Medium) → Counted (on m)) → (known : Option Files) → IfSome known (λ files. IsOpenedFor may_end v (work_of files asked)) → is_of_run v ≡ false
         → IfSome known (λ files. IfOk (work_of files asked) (Complete (on (medium_of files asked))))
     other_complete device None opened other = tt
-    other_complete device (Some files) opened other = complete_by (on (medium_of files asked)) (device (medium_of files asked)) (work_of files asked) opened (λ work at told p fault e. true≢false (sym (ap is_of_run e) ∙ other)) (λ work at is. other)
+    other_complete device (Some files) opened other = complete_by (on (medium_of files asked)) (device (medium_of files asked)) (work_of files asked) opened (λ work at told p fault e. true≢false (sym (ap is_of_run e) ∙ other)) (λ p e. true≢false (sym (ap is_of_run e) ∙ other)) (λ work at is. other)
 
-    by_setting : (m : Medium) → Counted (on m) → (told : Result Setting Verdict) → IsOpenedFor (λ setting u. may_have_run u) v told
-        → ((p : ℕ) (fault : StoreFault) → v ≡ StoreRefused p fault → IsOkAnd told (λ setting. (on m).tell (length setting.images) before after → ⊥)) → IfOk (told >>= (λ setting. Ok (Run setting))) (Complete (on m))
-    by_setting m device (Ok setting) opened never = complete_at (on m) device (Run setting) opened (λ told p fault e. never p fault e told) (λ is. absurd (true≢false is))
-    by_setting m device (Err refusal) opened never = tt
+    by_setting : (m : Medium) (ledger : Ledger) → Counted (on m) → ((p : ℕ) → v ≡ DeviceStopped p → keeps_journal ledger ≡ true) → (told : Result Setting Verdict) → IsOpenedFor (λ setting u. may_have_run u) v told
+        → ((p : ℕ) (fault : StoreFault) → v ≡ StoreRefused p fault → IsOkAnd told (λ setting. (on m).tell (length setting.images) before after → ⊥)) → IfOk (told >>= (λ setting. Ok (Run ledger setting))) (Complete (on m))
+    by_setting m ledger device stopped (Ok setting) opened never = complete_at (on m) device (Run ledger setting) opened (λ told p fault e. never p fault e told) stopped (λ is. absurd (true≢false is))
+    by_setting m ledger device stopped (Err refusal) opened never = tt
 
     -- of a run: its store is refused only where it is not told
-    pub run_complete : (known : Option Files) (plan : List ℕ) → asked_of asked ≡ Some (ToRun plan) → IfSome known (λ files. Counted (on (medium_at files plan)))
-        → IfSome known (λ files. IsOpenedFor (λ setting u. may_have_run u) v (as_verdict (opening_of files plan)))
-        → ((p : ℕ) (fault : StoreFault) → v ≡ StoreRefused p fault → IfSome known (λ files. IsOkAnd (as_verdict (opening_of files plan)) (λ setting. (on (medium_at files plan)).tell (length setting.images) before after → ⊥)))
+    pub run_complete : (known : Option Files) (order : Order) → asked_of asked ≡ Some (ToRun order) → ((p : ℕ) → v ≡ DeviceStopped p → keeps_journal order.ledger ≡ true) → IfSome known (λ files. Counted (on (medium_at files order.plan)))
+        → IfSome known (λ files. IsOpenedFor (λ setting u. may_have_run u) v (as_verdict (opening_of files order)))
+        → ((p : ℕ) (fault : StoreFault) → v ≡ StoreRefused p fault → IfSome known (λ files. IsOkAnd (as_verdict (opening_of files order)) (λ setting. (on (medium_at files order.plan)).tell (length setting.images) before after → ⊥)))
         → IfSome known (λ files. IfOk (work_of files asked) (Complete (on (medium_of files asked))))
-    run_complete None plan is device opened never = tt
-    run_complete (Some files) plan is device opened never = rw is (by_setting (medium_at files plan) device (as_verdict (opening_of files plan)) opened never)
+    run_complete None order is stopped device opened never = tt
+    run_complete (Some files) order is stopped device opened never = rw is (by_setting (medium_at files order.plan) order.ledger device stopped (as_verdict (opening_of files order)) opened never)
 
 -- a run that kept the promise ended by no refused store, where the stores tell
 by_ending : (e : Ending) (v : Verdict) (text : List ℕ) (sink : SinkCourse) (p : ℕ) (fault : StoreFault) → ((q : ℕ) (why : StoreFault) → e ≡ ending.Store q why → ⊥) → Reports (verdict_at e) v text sink → v ≡ StoreRefused p fault → ⊥
@@ -149,27 +181,29 @@ by_ending (ending.Device q) v text sink p fault never (inr cut) e = let no_way :
 by_ending (ending.Store q why) v text sink p fault never reports e = never q why refl
 by_ending ending.Sink v text sink p fault never (inl whole) e = let no_way : SinkFault Out ≡ StoreRefused p fault = sym whole.0 ∙ e in cc
 by_ending ending.Sink v text sink p fault never (inr cut) e = let no_way : SinkFault Out ≡ StoreRefused p fault = sym cut.0 ∙ e in cc
+by_ending (ending.Stopped q) v text sink p fault never (inl whole) e = let no_way : DeviceStopped q ≡ StoreRefused p fault = sym whole.0 ∙ e in cc
+by_ending (ending.Stopped q) v text sink p fault never (inr cut) e = let no_way : DeviceStopped q ≡ StoreRefused p fault = sym cut.0 ∙ e in cc
 
-pub never_refused : {S : Type 0} (on : Devices S) (setting : Setting) (o : Outcome) (lent : Loan S) (out report : SinkCourse) (p : ℕ) (fault : StoreFault) → o.verdict ≡ StoreRefused p fault
-    → IsReported on setting o lent out report → on.tell (length setting.images) lent.before lent.after → ⊥
-never_refused on setting o lent out report p fault e is told = let kept = is.kept told in
+pub never_refused : {S : Type 0} (ledger : Ledger) (on : Devices S) (setting : Setting) (o : Outcome) (lent : Loan S) (out report : SinkCourse) (p : ℕ) (fault : StoreFault) → o.verdict ≡ StoreRefused p fault
+    → IsReported ledger on setting o lent out report → on.tell (length setting.images) lent.before lent.after → ⊥
+never_refused ledger on setting o lent out report p fault e is told = let kept = is.kept told in
     by_ending is.ending o.verdict _ report p fault (λ q why same. subst (λ x. IsEnding setting x o.marks.items kept.last kept.core) same kept.ending_is) is.report_told e
 
-pub opened_with : (known : Option Files) (plan : List ℕ) (P Q : Medium → Setting → Type 0) → ((m : Medium) (setting : Setting) → P m setting → Q m setting) → IfSome known (λ files. IsOkAnd (as_verdict (opening_of files plan)) (P (medium_at files plan)))
-    → IfSome known (λ files. IsOkAnd (as_verdict (opening_of files plan)) (Q (medium_at files plan)))
-opened_with None plan P Q weaker is = tt
-opened_with (Some files) plan P Q weaker is = by (medium_at files plan) (as_verdict (opening_of files plan)) is
+pub opened_with : (known : Option Files) (order : Order) (P Q : Medium → Setting → Type 0) → ((m : Medium) (setting : Setting) → P m setting → Q m setting) → IfSome known (λ files. IsOkAnd (as_verdict (opening_of files order)) (P (medium_at files order.plan)))
+    → IfSome known (λ files. IsOkAnd (as_verdict (opening_of files order)) (Q (medium_at files order.plan)))
+opened_with None order P Q weaker is = tt
+opened_with (Some files) order P Q weaker is = by (medium_at files order.plan) (as_verdict (opening_of files order)) is
   where
     by : (m : Medium) (r : Result Setting Verdict) → IsOkAnd r (P m) → IsOkAnd r (Q m)
     by m (Ok setting) holds = weaker m setting holds
     by m (Err v) holds = holds
 
 -- the same of the words' work
-pub run_of_words : (known : Option Files) (words : List (String Global)) (plan : List ℕ) (P : Medium → Setting → Type 0) → asked_of words ≡ Some (ToRun plan) → IfSome known (λ files. IsOkAnd (as_verdict (opening_of files plan)) (P (medium_at files plan)))
+pub run_of_words : (known : Option Files) (words : List (String Global)) (order : Order) (P : Medium → Ledger → Setting → Type 0) → asked_of words ≡ Some (ToRun order) → IfSome known (λ files. IsOkAnd (as_verdict (opening_of files order)) (P (medium_at files order.plan) order.ledger))
     → IfSome known (λ files. IsOkAnd (work_of files words) (λ work. IfRun work (P (medium_of files words))))
-run_of_words None words plan P asked is = tt
-run_of_words (Some files) words plan P asked is = rw asked (by (medium_at files plan) (as_verdict (opening_of files plan)) is)
+run_of_words None words order P asked is = tt
+run_of_words (Some files) words order P asked is = rw asked (by (medium_at files order.plan) (as_verdict (opening_of files order)) is)
   where
-    by : (m : Medium) (r : Result Setting Verdict) → IsOkAnd r (P m) → IsOkAnd (r >>= (λ setting. Ok (Run setting))) (λ work. IfRun work (P m))
+    by : (m : Medium) (r : Result Setting Verdict) → IsOkAnd r (P m order.ledger) → IsOkAnd (r >>= (λ setting. Ok (Run order.ledger setting))) (λ work. IfRun work (P m))
     by m (Ok setting) holds = holds
     by m (Err v) holds = holds

@@ -1,11 +1,14 @@
 -- A run with its report keeps the promise.
-use Rattle.std.proofs.Common.{◌≡◌, ◌∙◌, ◌⊎◌, inl, inr, true, sym, subst, All, IfSome, IsOkAnd, List, [], ◌∷◌, Option, None, Some, Ok, ap, length, refl, ℕ}
+use Rattle.std.proofs.Common.{◌≡◌, ◌∙◌, ◌⊎◌, inl, inr, true, false, Bool, is_some, if◌then◌else◌, sym, subst, All, IfSome, IsOkAnd, List, [], ◌∷◌, Option, None, Some, Ok, ap, length, refl, ℕ}
 use Rattle.std.proofs.lemmas.List.Elements.{All-cons, All-nil}
-use Rattle.dc_report.specs.Reports.{report_text}
+use Rattle.dc_command.specs.Command.{Order}
+use Rattle.dc_command.specs.declared.command.Ledger.{Ledger}
 use Rattle.dc_course.specs.Courses.{account_of as run_account}
+use Rattle.dc_course.specs.Courses.{journal_in}
 use Rattle.dc_course.specs.Headline.{Setting}
 use Rattle.dc_course.specs.Running.{output}
 use Rattle.dc_course.specs.declared.course.Course.{Course}
+use Rattle.dc_course.specs.declared.leaving.Journal.{Journal}
 use Rattle.dc_model.specs.declared.entry.Entry.{Entry}
 use Rattle.dc_model.specs.declared.entry.Entry.TheVariants.{Turn, Stop, Power}
 use Rattle.dc_schedule.specs.Entries.{AreEntries, IsEntry, clock_after}
@@ -13,10 +16,10 @@ use Rattle.dc_world.specs.Worlds.{IsOfProcesses}
 use Rattle.dc_world.specs.declared.faults.OpenFault.{OpenFault}
 use Rattle.dc_world.specs.declared.faults.OpenFault.TheVariants as opening
 use Rattle.dc_plan.specs.declared.plan.Medium.{Medium}
-use Rattle.dc_run.specs.Headline.{IsKept, IsReported, Loan, Reports, SinkCourse, unopened_by, unreported, verdict_at}
+use Rattle.dc_run.specs.Headline.{IsKept, IsReported, Loan, Reports, SinkCourse, account_of, keeps_journal, ledger_text, unopened_by, unreported, verdict_at}
 use Rattle.dc_run.specs.Media.{Devices}
 use Rattle.dc_run.specs.Opening.{Files, medium_at, opening_of}
-use Rattle.dc_run.specs.Outcomes.{status_of}
+use Rattle.dc_recovery.specs.Unstopped.{AreTurns}
 use Rattle.dc_run.specs.Refusals.{as_verdict}
 use Rattle.dc_course.specs.declared.ending.Ending.{Ending}
 use Rattle.dc_course.specs.declared.ending.Ending.TheVariants as ending
@@ -25,33 +28,48 @@ use Rattle.dc_run.specs.declared.verdict.Verdict.{Verdict}
 use Rattle.dc_run.specs.declared.outcome.Outcome.{Outcome}
 use Rattle.dc_run.specs.declared.verdict.Did.TheVariants.{Run}
 
--- with the report of what the run came to
-pub with_report : {S : Type 0} (on : Devices S) (setting : Setting) (run : Course) (outcome o : Outcome) (lent : Loan S) (out report : SinkCourse)
-    → outcome ≡ record { verdict = verdict_at run.ending; did = Run; acts = run.acts; marks = run.marks; lines = run.lines; difference = None }
-    → IsKept on setting (run_account run) run.ending (output out.before out.after) lent
-    → Reports outcome.verdict o.verdict (report_text (status_of outcome.verdict) (length outcome.marks.items) outcome.acts.items outcome.lines) report
-    → o.acts ≡ outcome.acts → o.marks ≡ outcome.marks → o.lines ≡ outcome.lines → IsReported on setting o lent out report
-with_report on setting run outcome o lent out report is kept reports acts marks lines = rw (acts, marks, lines) (rw is (record { ending = run.ending; kept = kept; report_told = rw is at reports }))
+-- a journal is there where it is kept
+kept_is : (journal : Journal) → is_some (journal_in journal) ≡ journal.kept
+kept_is journal = by journal.kept
+  where
+    by : (kept : Bool) → is_some (if kept then Some journal.lines.items else None) ≡ kept
+    by true = refl
+    by false = refl
 
--- the report of what it came to, by the run
-pub run_report : (run : Course) (outcome : Outcome) (verdict : Verdict) (sink : SinkCourse)
+-- with what the run wrote at its end, by what it came to
+pub with_ledger : {S : Type 0} (ledger : Ledger) (on : Devices S) (setting : Setting) (run : Course) (outcome : Outcome) (journal : Journal) (o : Outcome) (n : ℕ) (lent : Loan S) (out report : SinkCourse)
+    → outcome ≡ record { verdict = verdict_at run.ending; did = Run; acts = run.acts; marks = run.marks; lines = run.lines; difference = None } → journal ≡ run.journal
+    → n ≡ length setting.images → run.journal.kept ≡ keeps_journal ledger → (keeps_journal ledger ≡ true → AreTurns setting.schedule × (setting.stops ≡ []))
+    → IsKept on setting (run_account run) run.ending (output out.before out.after) lent
+    → Reports outcome.verdict o.verdict (ledger_text n outcome.verdict (account_of outcome (journal_in journal))) report
+    → o.acts ≡ outcome.acts → o.marks ≡ outcome.marks → o.lines ≡ outcome.lines → IsReported ledger on setting o lent out report
+with_ledger ledger on setting run outcome journal o n lent out report is same count keeps turns kept reports acts marks lines = rw (acts, marks, lines) (rw is (record {
+  ending = run.ending;
+  journal = journal_in run.journal;
+  journal_is = kept_is run.journal ∙ keeps;
+  turns = turns;
+  kept = kept;
+  report_told = subst (λ k. Reports (verdict_at run.ending) o.verdict (ledger_text k (verdict_at run.ending) (run_account run)) report) count (rw (is, same) at reports);
+}))
+
+-- what it wrote, by the run
+pub run_ledger : (run : Course) (outcome : Outcome) (verdict : Verdict) (text : List ℕ) (sink : SinkCourse)
     → outcome ≡ record { verdict = verdict_at run.ending; did = Run; acts = run.acts; marks = run.marks; lines = run.lines; difference = None }
-    → Reports outcome.verdict verdict (report_text (status_of outcome.verdict) (length outcome.marks.items) outcome.acts.items outcome.lines) sink
-    → Reports (verdict_at run.ending) verdict (report_text (status_of (verdict_at run.ending)) (length run.marks.items) run.acts.items run.lines) sink
-run_report run outcome verdict sink is reports = rw is at reports
+    → Reports outcome.verdict verdict text sink → Reports (verdict_at run.ending) verdict text sink
+run_ledger run outcome verdict text sink is reports = subst (λ (o : Outcome). Reports o.verdict verdict text sink) is reports
 
 -- wherever the files open it with this setting, on this medium
-pub opened_so : (known : Option Files) (plan : List ℕ) (setting : Setting) (medium : Medium) (P : Medium → Setting → Type 0) → ((files : Files) → known ≡ Some files → opening_of files plan ≡ Ok setting)
-    → ((files : Files) → known ≡ Some files → medium_at files plan ≡ medium) → P medium setting → IfSome known (λ files. IsOkAnd (as_verdict (opening_of files plan)) (P (medium_at files plan)))
-opened_so None plan setting medium P opened said holds = tt
-opened_so (Some files) plan setting medium P opened said holds = rw (opened files refl) (subst (λ m. P m setting) (sym (said files refl)) holds)
+pub opened_so : (known : Option Files) (order : Order) (setting : Setting) (medium : Medium) (P : Medium → Setting → Type 0) → ((files : Files) → known ≡ Some files → opening_of files order ≡ Ok setting)
+    → ((files : Files) → known ≡ Some files → medium_at files order.plan ≡ medium) → P medium setting → IfSome known (λ files. IsOkAnd (as_verdict (opening_of files order)) (P (medium_at files order.plan)))
+opened_so None order setting medium P opened said holds = tt
+opened_so (Some files) order setting medium P opened said holds = rw (opened files refl) (subst (λ m. P m setting) (sym (said files refl)) holds)
 
-pub reported_for : {S : Type 0} (on : Medium → Devices S) (known : Option Files) (plan : List ℕ) (setting : Setting) (medium : Medium) (o : Outcome) (lent : Loan S) (out report : SinkCourse)
-    → ((files : Files) → known ≡ Some files → opening_of files plan ≡ Ok setting)
-    → ((files : Files) → known ≡ Some files → medium_at files plan ≡ medium)
-    → IsReported (on medium) setting o lent out report
-    → IfSome known (λ files. IsOkAnd (as_verdict (opening_of files plan)) (λ s. IsReported (on (medium_at files plan)) s o lent out report))
-reported_for on known plan setting medium o lent out report opened said kept = opened_so known plan setting medium (λ m s. IsReported (on m) s o lent out report) opened said kept
+pub reported_for : {S : Type 0} (ledger : Ledger) (on : Medium → Devices S) (known : Option Files) (order : Order) (setting : Setting) (medium : Medium) (o : Outcome) (lent : Loan S) (out report : SinkCourse)
+    → ((files : Files) → known ≡ Some files → opening_of files order ≡ Ok setting)
+    → ((files : Files) → known ≡ Some files → medium_at files order.plan ≡ medium)
+    → IsReported ledger (on medium) setting o lent out report
+    → IfSome known (λ files. IsOkAnd (as_verdict (opening_of files order)) (λ s. IsReported ledger (on (medium_at files order.plan)) s o lent out report))
+reported_for ledger on known order setting medium o lent out report opened said kept = opened_so known order setting medium (λ m s. IsReported ledger (on m) s o lent out report) opened said kept
 
 -- an entry of a schedule names processes that are there
 entry_named : (n last : ℕ) (entry : Entry) → IsEntry n last entry → IsOfProcesses n entry
@@ -71,6 +89,7 @@ ended_so ending.Unfinished = inl refl
 ended_so (ending.Device p) = inr refl
 ended_so (ending.Store p fault) = inr refl
 ended_so ending.Sink = inl refl
+ended_so (ending.Stopped p) = inr refl
 
 -- also where its report was not written
 unreported_so : (e : Ending) → (has_ended (unreported (verdict_at e)) ≡ true) ⊎ (is_free (unreported (verdict_at e)) ≡ true)
@@ -79,6 +98,7 @@ unreported_so ending.Unfinished = inl refl
 unreported_so (ending.Device p) = inr refl
 unreported_so (ending.Store p fault) = inr refl
 unreported_so ending.Sink = inl refl
+unreported_so (ending.Stopped p) = inr refl
 
 -- so with its report
 pub reported_so : (e : Ending) (v : Verdict) (text : List ℕ) (sink : SinkCourse) → Reports (verdict_at e) v text sink → (has_ended v ≡ true) ⊎ (is_free v ≡ true)
@@ -97,6 +117,7 @@ ended_may ending.Unfinished = refl
 ended_may (ending.Device p) = refl
 ended_may (ending.Store p fault) = refl
 ended_may ending.Sink = refl
+ended_may (ending.Stopped p) = refl
 
 unreported_may : (e : Ending) → may_have_run (unreported (verdict_at e)) ≡ true
 unreported_may ending.Done = refl
@@ -104,6 +125,7 @@ unreported_may ending.Unfinished = refl
 unreported_may (ending.Device p) = refl
 unreported_may (ending.Store p fault) = refl
 unreported_may ending.Sink = refl
+unreported_may (ending.Stopped p) = refl
 
 pub reported_may : (e : Ending) (v : Verdict) (text : List ℕ) (sink : SinkCourse) → Reports (verdict_at e) v text sink → may_have_run v ≡ true
 reported_may e v text sink (inl whole) = ap may_have_run whole.0 ∙ ended_may e

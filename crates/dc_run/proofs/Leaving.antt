@@ -1,7 +1,7 @@
 -- The stores that a call leaves as they were.
 use Rattle.std.proofs.Common.{◌≡◌, ℕ, List, Option, None, Some, Ok, IfSome, String, length, refl}
 use Rattle.std.specs.declared.alloc.Global.{Global}
-use Rattle.dc_command.specs.Command.{asked_of}
+use Rattle.dc_command.specs.Command.{Order, asked_of}
 use Rattle.dc_command.specs.Command.Asked.{ToRun}
 use Rattle.dc_course.specs.Headline.{Setting}
 use Rattle.dc_course.specs.Lent.{AreLeftFrom}
@@ -16,13 +16,13 @@ module _ {S C : Type 0} (device : Device S C) where
   left_same (Some files) used s = λ q high. record { told_same = refl; extent_same = refl; stops_same = refl; faults_same = refl }
 
   -- a run uses the stores of its setting's guests, where the told files open that setting
-  pub opened_left : (known : Option Files) (plan : List ℕ) (setting : Setting) (old new : S) → ((files : Files) → known ≡ Some files → opening_of files plan ≡ Ok setting)
-      → AreLeftFrom (length setting.images) device old new → IfSome known (λ files. AreLeftFrom (stores_used (work_by files (ToRun plan))) device old new)
-  opened_left None plan setting old new opened left = tt
-  opened_left (Some files) plan setting old new opened left = rw (opened files refl) left
+  pub opened_left : (known : Option Files) (order : Order) (setting : Setting) (old new : S) → ((files : Files) → known ≡ Some files → opening_of files order ≡ Ok setting)
+      → AreLeftFrom (length setting.images) device old new → IfSome known (λ files. AreLeftFrom (stores_used (work_by files (ToRun order))) device old new)
+  opened_left None order setting old new opened left = tt
+  opened_left (Some files) order setting old new opened left = rw (opened files refl) left
 
   -- the same of the words that ask for it
-  pub asked_left : (known : Option Files) (line : List (String Global)) (plan : List ℕ) (old new : S) → asked_of line ≡ Some (ToRun plan)
-      → IfSome known (λ files. AreLeftFrom (stores_used (work_by files (ToRun plan))) device old new) → IfSome known (λ files. AreLeftFrom (stores_used (work_of files line)) device old new)
-  asked_left None line plan old new asked left = tt
-  asked_left (Some files) line plan old new asked left = rw asked left
+  pub asked_left : (known : Option Files) (line : List (String Global)) (order : Order) (old new : S) → asked_of line ≡ Some (ToRun order)
+      → IfSome known (λ files. AreLeftFrom (stores_used (work_by files (ToRun order))) device old new) → IfSome known (λ files. AreLeftFrom (stores_used (work_of files line)) device old new)
+  asked_left None line order old new asked left = tt
+  asked_left (Some files) line order old new asked left = rw asked left

@@ -1,7 +1,7 @@
 -- What is said of the medium of a plan, by what it was opened with.
 use Rattle.std.proofs.Common.{◌≡◌, ◌⊎◌, inl, inr, ℕ, List, length, Option, None, Some, IfSome, String, refl, subst, sym}
 use Rattle.std.specs.declared.alloc.Global.{Global}
-use Rattle.dc_command.specs.Command.{asked_of}
+use Rattle.dc_command.specs.Command.{Order, asked_of}
 use Rattle.dc_command.specs.Command.Asked.{ToRun}
 use Rattle.dc_media.specs.Causes.{Rose}
 use Rattle.dc_media.specs.declared.disks.Disks as disks
@@ -19,7 +19,7 @@ use Rattle.dc_media.specs.Devices.{of_disks, of_words}
 use Rattle.dc_rio.specs.Segments.{SegmentsLeft}
 use Rattle.dc_run.specs.Commands.{medium_of}
 use Rattle.dc_run.specs.Headline.{IsKept, loan}
-use Rattle.dc_run.specs.Media.{HasFailed, IsOtherSame, Lent, devices_of, lent}
+use Rattle.dc_run.specs.Media.{HasFailed, HasStopped, IsOtherSame, Lent, devices_of, lent}
 use Rattle.dc_run.specs.Opening.{Files, medium_at}
 
 -- what holds of a medium holds of the plan's, which is this one
@@ -33,9 +33,9 @@ each_so None by P all = tt
 each_so (Some files) by P all = all (by files)
 
 -- the same of the words that ask for the plan
-pub medium_asked : (known : Option Files) (words : List (String Global)) (plan : List ℕ) (P : Medium → Type 0) → asked_of words ≡ Some (ToRun plan) → IfSome known (λ files. P (medium_at files plan)) → IfSome known (λ files. P (medium_of files words))
-medium_asked None words plan P asked is = tt
-medium_asked (Some files) words plan P asked is = rw asked is
+pub medium_asked : (known : Option Files) (words : List (String Global)) (order : Order) (P : Medium → Type 0) → asked_of words ≡ Some (ToRun order) → IfSome known (λ files. P (medium_at files order.plan)) → IfSome known (λ files. P (medium_of files words))
+medium_asked None words order P asked is = tt
+medium_asked (Some files) words order P asked is = rw asked is
 
 module _ {K D : Type 0} where
   -- nothing was called
@@ -53,6 +53,12 @@ module _ {K D : Type 0} where
       → Rose (words.faults before.keeps p) (words.faults after.keeps p) ⊎ Rose (disk.faults before.disks p) (disk.faults after.disks p)
   either_failed words disk Rio before after p rose = inl rose
   either_failed words disk Disk before after p rose = inr rose
+
+  -- or was stopped
+  pub either_stopped : (words : keeps.Ghosts K) (disk : disks.Ghosts D) (medium : Medium) (before after : Lent K D) (p : ℕ) → HasStopped (devices_of words disk medium) before after p
+      → Rose (words.stops before.keeps p) (words.stops after.keeps p) ⊎ Rose (disk.stops before.disks p) (disk.stops after.disks p)
+  either_stopped words disk Rio before after p rose = inl rose
+  either_stopped words disk Disk before after p rose = inr rose
 
   -- a run over words, beside disks that are as they were
   pub kept_on_words : (words : keeps.Ghosts K) (disk : disks.Ghosts D) (setting : Setting) (run : Account) (ending : Ending) (out : Output) (before after : K) (d : D)

@@ -1,5 +1,5 @@
 -- How a run's opening follows the told files.
-use Rattle.std.proofs.Common.{◌≡◌, ◌∙◌, ◌⊎◌, ◌↔◌, inl, inr, ◌≤◌, ◌<◌, ◌+◌, ◌*◌, ◌/◌, ◌%◌, ℕ, suc, true, List, [], ◌∷◌, ◌++◌, String, string_bytes, map, take, drop, slice_get, slice_index_or, option_map, arith, length, Option, None, Some, IsErrOf, IsSome, Result, Ok, Err, ap, refl, subst, sym}
+use Rattle.std.proofs.Common.{◌≡◌, ◌∙◌, ◌⊎◌, ◌↔◌, inl, inr, ◌≤◌, ◌<◌, ◌+◌, ◌*◌, ◌/◌, ◌%◌, ℕ, All, suc, true, List, [], ◌∷◌, ◌++◌, String, string_bytes, map, take, drop, slice_get, slice_index_or, option_map, arith, length, Option, None, Some, IsErrOf, IsSome, Result, Ok, Err, ap, refl, subst, sym}
 use Rattle.std.specs.declared.alloc.Global.{Global}
 use Rattle.std.proofs.Math.Nat.{div-add-mod}
 use Rattle.std.proofs.lemmas.List.{length-map, length-take-le, map-append, map_more, take-append-drop, take-map}
@@ -13,9 +13,14 @@ use Rattle.dc_elf.specs.declared.faults.LoadFault.{LoadFault}
 use Rattle.dc_elf.specs.declared.faults.LoadFault.TheVariants.{Refused}
 use Rattle.dc_elf.specs.declared.image.Image as loaded
 use Rattle.dc_world.specs.Opened.{CanOpen}
+use Rattle.dc_command.specs.Command.{Order}
+use Rattle.dc_model.specs.declared.entry.Entry.{Entry}
+use Rattle.dc_model.specs.declared.entry.Entry.TheVariants.{Turn, Stop, Power}
 use Rattle.dc_plan.specs.Plans.{Plan}
+use Rattle.dc_recovery.specs.Unstopped.{AreTurns}
+use Rattle.dc_schedule.specs.Entries.{IsTurn}
 use Rattle.dc_words.specs.Results.{◌>>=◌}
-use Rattle.dc_run.specs.Opening.{AsksAtPlan, AsksForGuest, AsksToRun, Files, file_in, guest_in, images_in, plan_in}
+use Rattle.dc_run.specs.Opening.{AsksAtPlan, AsksForGuest, AsksToRun, Files, file_in, guest_in, images_in, plan_for}
 use Rattle.dc_run.specs.Settings.{is_free_refusal}
 use Rattle.dc_run.specs.declared.refusal.Refusal.{Refusal}
 use Rattle.dc_run.specs.declared.refusal.Refusal.TheVariants as refusal
@@ -115,12 +120,19 @@ pub asked_guest : (files : Files) (plan : Plan) (names : List (List ℕ)) (w : W
     → ((q : ℕ) × (w ≡ which.Guest q) × AsksForGuest files plan.memory names q) → AsksAtPlan files plan w
 asked_guest files plan names w same (q, is, asks) = subst (AsksAtPlan files plan) (sym is) (subst (λ all. AsksForGuest files plan.memory all q) same asks)
 
--- a file that the plan asks for, by the plan's name
-pub asked_by_name : (files : Files) (name : List ℕ) (plan : Plan) (w : Which) → plan_in files name ≡ Ok plan → AsksAtPlan files plan w → AsksToRun files name w
-asked_by_name files name plan which.Plan e asks = absurd asks
-asked_by_name files name plan which.Source e asks = absurd asks
-asked_by_name files name plan which.Journal e asks = absurd asks
-asked_by_name files name plan which.Report e asks = absurd asks
-asked_by_name files name plan which.Out e asks = absurd asks
-asked_by_name files name plan (which.Guest q) e asks = rw e asks
-asked_by_name files name plan which.Schedule e asks = rw e asks
+-- a file that the plan asks for, by an order
+pub asked_by_order : (files : Files) (order : Order) (plan : Plan) (w : Which) → plan_for files order ≡ Ok plan → AsksAtPlan files plan w → AsksToRun files order w
+asked_by_order files order plan which.Plan e asks = absurd asks
+asked_by_order files order plan which.Source e asks = absurd asks
+asked_by_order files order plan which.Journal e asks = absurd asks
+asked_by_order files order plan which.Report e asks = absurd asks
+asked_by_order files order plan which.Out e asks = absurd asks
+asked_by_order files order plan (which.Guest q) e asks = rw e asks
+asked_by_order files order plan which.Schedule e asks = rw e asks
+
+-- entries that are all turns
+pub turns_are : (n : ℕ) (entries : List Entry) → All (IsTurn n) entries → AreTurns entries
+turns_are n [] all = tt
+turns_are n (Turn turn ∷ entries) all = turns_are n entries (λ k d less. all (suc k) d (omega (arith, less)))
+turns_are n (Stop p ∷ entries) all = absurd (all 0 Power (omega arith))
+turns_are n (Power ∷ entries) all = absurd (all 0 Power (omega arith))

@@ -1,13 +1,34 @@
 -- What a run wrote passes the check.
-use Rattle.std.proofs.Common.{◌≡◌, ◌∙◌, ◌<◌, ◌≤◌, inl, inr, ℕ, suc, Bool, true, List, [], ◌∷◌, ◌++◌, Option, None, Some, Ok, ap, arith, length, refl, reverse, slice_get, subst, sym}
-use Rattle.std.proofs.lemmas.List.{append-nil, length-map, length-reverse}
+use Rattle.std.proofs.Common.{◌≡◌, ◌∙◌, ◌+◌, ◌<◌, ◌≤◌, inl, inr, ℕ, suc, All, Bool, true, false, List, [], ◌∷◌, ◌++◌, Option, None, Some, IfSome, Ok, ap, arith, if◌then◌else◌, is_some, length, refl, reverse, slice_get, subst, sym}
+use Rattle.std.proofs.lemmas.Bool.{true≢false}
+use Rattle.std.proofs.lemmas.List.{append-nil, length-map, length-reverse, reverse-append}
 use Rattle.std.proofs.lemmas.Option.{slice_get_within}
 use Rattle.dc_acts.specs.Lines.{text_of}
 use Rattle.dc_report.specs.Reading.{is_status, report_of}
 use Rattle.dc_report.specs.Reports.{report_text}
 use Rattle.dc_check.specs.Findings.{finding_of}
 use Rattle.dc_check.specs.Findings.Finding.{Passes}
-use Rattle.dc_course.specs.Headline.{Account, IsEnding, IsHeadline, Last, Setting, Shows, marks_at, takes_part, torn_at, turn_after}
+use Rattle.dc_audit.specs.Journals.{HasSaveWork}
+use Rattle.dc_audit.specs.Keeping.{HasMembers, IsJournal}
+use Rattle.dc_audit.specs.Reading.{journal_of}
+use Rattle.dc_course.specs.Courses.{IsCourse, counts_of}
+use Rattle.dc_course.specs.Headline.{Account, IsEnding, IsHeadline, Last, Setting, Shows, is_stopped, marks_at, system_in, takes_part, torn_at, turn_after}
+use Rattle.dc_course.specs.Journals.{AreCutAtStop, IsJournalOf, IsUncut, unstopped_front}
+use Rattle.dc_course.specs.Running.{output}
+use Rattle.dc_journal.proofs.JournalTexts.{text_again}
+use Rattle.dc_journal.specs.Texts.{journal_text, whole_text}
+use Rattle.dc_model.specs.Runs.{Given}
+use Rattle.dc_protocols.specs.Rules.{is_causal}
+use Rattle.dc_recovery.proofs.Sound.{sound_system}
+use Rattle.dc_recovery.proofs.Unstopping.{lead}
+use Rattle.dc_recovery.specs.Systems.{IsSound}
+use Rattle.dc_recovery.specs.Turned.{LeadsTo}
+use Rattle.dc_recovery.specs.Unstopped.{Unstopped, is_taken, taken_turns}
+use Rattle.dc_savework.proofs.Addressed.{addressed}
+use Rattle.dc_savework.proofs.Few.{journal_short}
+use Rattle.dc_savework.proofs.Growing.{plain_all}
+use Rattle.dc_savework.proofs.Leading.{led_work}
+use Rattle.dc_savework.proofs.Wrote.{led_journal}
 use Rattle.dc_course.specs.Headline.Last.{Whole, Broken}
 use Rattle.dc_course.specs.declared.ending.Ending.{Ending}
 use Rattle.dc_course.specs.declared.ending.Ending.TheVariants as ending
@@ -22,19 +43,21 @@ use Rattle.dc_model.specs.declared.mark.Mark.{Mark}
 use Rattle.dc_model.specs.declared.mark.Mark.TheVariants as mark
 use Rattle.dc_model.specs.declared.visible.Visible.{Visible}
 use Rattle.dc_protocols.specs.declared.protocol.Protocol.{Protocol}
-use Rattle.dc_recovery.specs.Core.{Core}
+use Rattle.dc_recovery.specs.Core.{Core, opening}
 use Rattle.dc_limits.specs.declared.bounds.TheConstants.{ENTRIES}
 use Rattle.dc_shows.specs.Typed.{IsGivenRun}
 use Rattle.dc_shows.proofs.Passes.{listed, shown}
-use Rattle.dc_run.specs.Headline.{IsReported, Loan, Reports, SinkCourse, account_of, verdict_at}
+use Rattle.dc_audit.specs.declared.journal.Line.{Line}
+use Rattle.dc_command.specs.declared.command.Ledger.TheVariants as ledger
+use Rattle.dc_run.specs.Headline.{IsReported, Loan, Reports, SinkCourse, account_of, is_used_up, journal_or_report, ledger_text, verdict_at}
 use Rattle.dc_run.specs.Opening.{guests}
 use Rattle.dc_run.specs.Outcomes.{status_of}
-use Rattle.dc_run.specs.Passing.{PassesFor}
+use Rattle.dc_run.specs.Passing.{PassesFor, WritesSaved}
 use Rattle.dc_run.specs.Settings.{IsCalm}
 use Rattle.dc_run.specs.declared.outcome.Outcome.{Outcome}
 use Rattle.dc_run.specs.declared.verdict.Outlet.TheVariants as outlet
 use Rattle.dc_run.specs.declared.verdict.Verdict.{Verdict}
-use Rattle.dc_run.specs.declared.verdict.Verdict.TheVariants.{Done, Unfinished, DeviceFault, SinkFault, StoreRefused}
+use Rattle.dc_run.specs.declared.verdict.Verdict.TheVariants.{Done, Unfinished, DeviceFault, DeviceStopped, SinkFault, StoreRefused}
 use Rattle.dc_run.proofs.Ends.{no_rise}
 
 -- how many notes there are of records
@@ -103,27 +126,28 @@ notes_broken : (schedule : List Entry) (marks : List Mark) → length (numbers (
 notes_broken schedule marks = let h = few_notes schedule (reverse marks) in let l = length-reverse marks in
     let same = ap (λ ns. length (numbers ns)) (no_note (slice_get schedule (length (reverse marks))) (notes schedule (reverse marks))) in omega (arith, h, l, same)
 
-ends_whole : (setting : Setting) (run : Account) (last : Last) (core : Core) (e : Ending) → IsEnding setting e run.marks last core → (e ≡ ending.Sink → ⊥) → EndsWhole setting run last e
-ends_whole setting run last core ending.Done is not_sink = record {
+ends_whole : (setting : Setting) (run : Account) (last : Last) (core : Core) (e : Ending) → IsEnding setting e run.marks last core → (e ≡ ending.Sink → ⊥) → ((p : ℕ) → e ≡ ending.Stopped p → ⊥) → EndsWhole setting run last e
+ends_whole setting run last core ending.Done is not_sink not_stopped = record {
   whole = ap torn_at is.0.1;
   status = refl;
   few = (let h = is.0.0 in omega (arith, h));
   notes_few = subst (λ l. length (numbers (notes setting.schedule (marks_at l run.marks))) ≤ length run.marks) (sym is.0.1) (notes_whole setting.schedule run.marks);
 }
-ends_whole setting run last core ending.Unfinished is not_sink = record {
+ends_whole setting run last core ending.Unfinished is not_sink not_stopped = record {
   whole = ap torn_at is.0.1;
   status = refl;
   few = (let h = is.0.0 in omega (arith, h));
   notes_few = subst (λ l. length (numbers (notes setting.schedule (marks_at l run.marks))) ≤ length run.marks) (sym is.0.1) (notes_whole setting.schedule run.marks);
 }
-ends_whole setting run last core (ending.Device p) is not_sink = record {
+ends_whole setting run last core (ending.Device p) is not_sink not_stopped = record {
   whole = ap torn_at is.0;
   status = refl;
   few = (let h = there setting.protocol p (turn_after setting run.marks) setting.schedule (slice_get setting.schedule (turn_after setting run.marks)) refl is.1 in omega (arith, h));
   notes_few = subst (λ l. length (numbers (notes setting.schedule (marks_at l run.marks))) ≤ length run.marks) (sym is.0) (notes_broken setting.schedule run.marks);
 }
-ends_whole setting run last core (ending.Store p why) is not_sink = absurd is
-ends_whole setting run last core ending.Sink is not_sink = absurd (not_sink refl)
+ends_whole setting run last core (ending.Store p why) is not_sink not_stopped = absurd is
+ends_whole setting run last core ending.Sink is not_sink not_stopped = absurd (not_sink refl)
+ends_whole setting run last core (ending.Stopped p) is not_sink not_stopped = absurd (not_stopped p refl)
 
 -- what stands on a sink that held nothing
 stands_on : (before after : Option (List ℕ)) (text now : List ℕ) → before ≡ Some [] → after ≡ Some now → Becomes before after (λ x y. y ≡ x ++ text) → now ≡ text
@@ -131,6 +155,15 @@ stands_on before after text now e f b = rw (e, f) at b
 
 shows_on : (records : List Visible) (torn : List Visible) (before after : Option (List ℕ)) (now : List ℕ) → torn ≡ [] → before ≡ Some [] → after ≡ Some now → Becomes before after (Shows records torn) → now ≡ text_of records
 shows_on records torn before after now none e f b = rw (none, e, f) at b
+
+stopped_said : (p : ℕ) (v : Verdict) (text : List ℕ) (sink : SinkCourse) → Reports (DeviceStopped p) v text sink → v ≡ DeviceStopped p
+stopped_said p v text sink (inl whole) = whole.0
+stopped_said p v text sink (inr cut) = cut.0
+
+-- no journal was kept
+none_is : (journal : Option (List Line)) → is_some journal ≡ false → journal ≡ None
+none_is None is = refl
+none_is (Some lines) is = absurd (true≢false is)
 
 sink_said : (v : Verdict) (text : List ℕ) (sink : SinkCourse) → Reports (SinkFault outlet.Out) v text sink → v ≡ SinkFault outlet.Out
 sink_said v text sink (inl whole) = whole.0
@@ -141,23 +174,34 @@ reported_whole stood v text sink calm (inl whole) = whole.1
 reported_whole stood v text sink calm (inr cut) = absurd (no_rise sink.faults_before sink.faults_after calm cut.1)
 
 module _ {S : Type 0} (on : Devices S) (setting : Setting) (o : Outcome) (lent : Loan S) (out report : SinkCourse) (given : IsGivenRun setting.images setting.inputs setting.schedule)
-    (is : IsReported on setting o lent out report) (tells : on.tell (length setting.images) lent.before lent.after) (calm : IsCalm out.faults_before out.faults_after)
-    (calm' : IsCalm report.faults_before report.faults_after) (sink : o.verdict ≡ SinkFault outlet.Out → Rose out.faults_before out.faults_after)
+    (is : IsReported ledger.Report on setting o lent out report) (tells : on.tell (length setting.images) lent.before lent.after) (calm : IsCalm out.faults_before out.faults_after)
+    (calm' : IsCalm report.faults_before report.faults_after) (sink : o.verdict ≡ SinkFault outlet.Out → Rose out.faults_before out.faults_after) (unstopped : (p : ℕ) → o.verdict ≡ DeviceStopped p → ⊥)
     (empty : out.before ≡ Some []) (empty' : report.before ≡ Some []) where
+  -- what was written at its end, where it ended so
+  told_at : (e : Ending) → is.ending ≡ e → Reports (verdict_at e) o.verdict (ledger_text (length setting.images) (verdict_at e) (account_of o is.journal)) report
+  told_at e same = subst (λ x. Reports (verdict_at x) o.verdict (ledger_text (length setting.images) (verdict_at x) (account_of o is.journal)) report) same is.report_told
+
   not_sink : is.ending ≡ ending.Sink → ⊥
-  not_sink e = no_rise out.faults_before out.faults_after calm (sink (sink_said o.verdict _ report (subst (λ x. Reports (verdict_at x) o.verdict (report_text (status_of (verdict_at x)) (length o.marks.items) o.acts.items o.lines) report) e is.report_told)))
+  not_sink e = no_rise out.faults_before out.faults_after calm (sink (sink_said o.verdict _ report (told_at ending.Sink e)))
+
+  not_stopped : (p : ℕ) → is.ending ≡ ending.Stopped p → ⊥
+  not_stopped p e = unstopped p (stopped_said p o.verdict _ report (told_at (ending.Stopped p) e))
+
+  -- it is the report
+  report_is : ledger_text (length setting.images) (verdict_at is.ending) (account_of o is.journal) ≡ report_text (status_of (verdict_at is.ending)) (length o.marks.items) o.acts.items o.lines
+  report_is = ap (λ j. journal_or_report j (length setting.images) (verdict_at is.ending) (account_of o is.journal)) (none_is is.journal is.journal_is)
 
   pub run_passes : (shown' listed' : List ℕ) → out.after ≡ Some shown' → report.after ≡ Some listed' → PassesFor setting listed' shown' o.acts.items
   run_passes shown' listed' at at' =
       let kept = is.kept tells in
       let h = kept.headline in
-      let ends = ends_whole setting (account_of o) kept.last kept.core is.ending kept.ending_is not_sink in
+      let ends = ends_whole setting (account_of o is.journal) kept.last kept.core is.ending kept.ending_is not_sink not_stopped in
       let few = ends.few in let most = given.schedule_is.0 in
-      let lines = lines_noted setting given (account_of o) kept.last kept.up kept.core out.before out.after h ends.whole in let noted = ends.notes_few in
+      let lines = lines_noted setting given (account_of o is.journal) kept.last kept.up kept.core out.before out.after h ends.whole in let noted = ends.notes_few in
       let text = shows_on h.whole (torn_at kept.last) out.before out.after shown' ends.whole empty at h.lines_shown.written in
-      let list = stands_on report.before report.after _ listed' empty' at' (reported_whole (verdict_at is.ending) o.verdict _ report calm' is.report_told) in
-      let reads = report_passes setting given (account_of o) kept.last kept.up kept.core out.before out.after h ends.whole (status_of (verdict_at is.ending)) ends.status (omega (arith, few, most)) (omega (arith, lines, noted)) in
-      let passes = output_passes setting given (account_of o) kept.last kept.up kept.core out.before out.after h ends.whole in
+      let list = stands_on report.before report.after _ listed' empty' at' (reported_whole (verdict_at is.ending) o.verdict _ report calm' is.report_told) ∙ report_is in
+      let reads = report_passes setting given (account_of o is.journal) kept.last kept.up kept.core out.before out.after h ends.whole (status_of (verdict_at is.ending)) ends.status (omega (arith, few, most)) (omega (arith, lines, noted)) in
+      let passes = output_passes setting given (account_of o is.journal) kept.last kept.up kept.core out.before out.after h ends.whole in
       λ files names opens here here'. (length h.world.visibles, rw (opens, here, here', list, reads, text, passes) refl)
 
 -- the run ended by its sink where the call says so
@@ -171,6 +215,8 @@ sink_ending (ending.Device p) v text sink (inr cut) e = absurd (let no_way : Dev
 sink_ending (ending.Store p why) v text sink (inl whole) e = absurd (let no_way : StoreRefused p why ≡ SinkFault outlet.Out = sym whole.0 ∙ e in let never : ⊥ = cc in never)
 sink_ending (ending.Store p why) v text sink (inr cut) e = absurd (let no_way : StoreRefused p why ≡ SinkFault outlet.Out = sym cut.0 ∙ e in let never : ⊥ = cc in never)
 sink_ending ending.Sink v text sink reports e = refl
+sink_ending (ending.Stopped q) v text sink (inl whole) e = absurd (let no_way : DeviceStopped q ≡ SinkFault outlet.Out = sym whole.0 ∙ e in let never : ⊥ = cc in never)
+sink_ending (ending.Stopped q) v text sink (inr cut) e = absurd (let no_way : DeviceStopped q ≡ SinkFault outlet.Out = sym cut.0 ∙ e in let never : ⊥ = cc in never)
 
 -- or by a device
 pub device_ending : (e : Ending) (v : Verdict) (text : List ℕ) (sink : SinkCourse) (p : ℕ) → Reports (verdict_at e) v text sink → v ≡ DeviceFault p → e ≡ ending.Device p
@@ -184,3 +230,164 @@ device_ending (ending.Store q why) v text sink p (inl whole) e = absurd (let no_
 device_ending (ending.Store q why) v text sink p (inr cut) e = absurd (let no_way : StoreRefused q why ≡ DeviceFault p = sym cut.0 ∙ e in let never : ⊥ = cc in never)
 device_ending ending.Sink v text sink p (inl whole) e = absurd (let no_way : SinkFault outlet.Out ≡ DeviceFault p = sym whole.0 ∙ e in let never : ⊥ = cc in never)
 device_ending ending.Sink v text sink p (inr cut) e = absurd (let no_way : SinkFault outlet.Out ≡ DeviceFault p = sym cut.0 ∙ e in let never : ⊥ = cc in never)
+device_ending (ending.Stopped q) v text sink p (inl whole) e = absurd (let no_way : DeviceStopped q ≡ DeviceFault p = sym whole.0 ∙ e in let never : ⊥ = cc in never)
+device_ending (ending.Stopped q) v text sink p (inr cut) e = absurd (let no_way : DeviceStopped q ≡ DeviceFault p = sym cut.0 ∙ e in let never : ⊥ = cc in never)
+
+-- or by a stop
+pub stop_ending : (e : Ending) (v : Verdict) (text : List ℕ) (sink : SinkCourse) (p : ℕ) → Reports (verdict_at e) v text sink → v ≡ DeviceStopped p → e ≡ ending.Stopped p
+stop_ending ending.Done v text sink p (inl whole) e = absurd (let no_way : Done ≡ DeviceStopped p = sym whole.0 ∙ e in let never : ⊥ = cc in never)
+stop_ending ending.Done v text sink p (inr cut) e = absurd (let no_way : SinkFault outlet.Report ≡ DeviceStopped p = sym cut.0 ∙ e in let never : ⊥ = cc in never)
+stop_ending ending.Unfinished v text sink p (inl whole) e = absurd (let no_way : Unfinished ≡ DeviceStopped p = sym whole.0 ∙ e in let never : ⊥ = cc in never)
+stop_ending ending.Unfinished v text sink p (inr cut) e = absurd (let no_way : SinkFault outlet.Report ≡ DeviceStopped p = sym cut.0 ∙ e in let never : ⊥ = cc in never)
+stop_ending (ending.Device q) v text sink p (inl whole) e = absurd (let no_way : DeviceFault q ≡ DeviceStopped p = sym whole.0 ∙ e in let never : ⊥ = cc in never)
+stop_ending (ending.Device q) v text sink p (inr cut) e = absurd (let no_way : DeviceFault q ≡ DeviceStopped p = sym cut.0 ∙ e in let never : ⊥ = cc in never)
+stop_ending (ending.Store q why) v text sink p (inl whole) e = absurd (let no_way : StoreRefused q why ≡ DeviceStopped p = sym whole.0 ∙ e in let never : ⊥ = cc in never)
+stop_ending (ending.Store q why) v text sink p (inr cut) e = absurd (let no_way : StoreRefused q why ≡ DeviceStopped p = sym cut.0 ∙ e in let never : ⊥ = cc in never)
+stop_ending ending.Sink v text sink p (inl whole) e = absurd (let no_way : SinkFault outlet.Out ≡ DeviceStopped p = sym whole.0 ∙ e in let never : ⊥ = cc in never)
+stop_ending ending.Sink v text sink p (inr cut) e = absurd (let no_way : SinkFault outlet.Out ≡ DeviceStopped p = sym cut.0 ∙ e in let never : ⊥ = cc in never)
+stop_ending (ending.Stopped q) v text sink p (inl whole) e = let same : DeviceStopped q ≡ DeviceStopped p = sym whole.0 ∙ e in let is : q ≡ p = cc in ap ending.Stopped is
+stop_ending (ending.Stopped q) v text sink p (inr cut) e = let same : DeviceStopped q ≡ DeviceStopped p = sym cut.0 ∙ e in let is : q ≡ p = cc in ap ending.Stopped is
+
+-- a run that used up its schedule ended so
+record EndsUsed (e : Ending) : Type 0 where
+  used : is_used_up (verdict_at e) ≡ true
+  uncut : (up : ℕ → Bool) (marks : List Mark) → IsUncut e up marks → ((p : ℕ) → up p ≡ true) × Unstopped marks
+  marked : (setting : Setting) (marks : List Mark) (last : Last) (core : Core) → IsEnding setting e marks last core → length marks ≤ length setting.schedule
+
+ends_used : (e : Ending) (v : Verdict) (text : List ℕ) (sink : SinkCourse) → Reports (verdict_at e) v text sink → is_used_up v ≡ true → EndsUsed e
+ends_used ending.Done v text sink reports used = record { used = refl; uncut = λ up marks is. is; marked = λ setting marks last core is. (let h = is.0.0 in omega (arith, h)) }
+ends_used ending.Unfinished v text sink reports used = record { used = refl; uncut = λ up marks is. is; marked = λ setting marks last core is. (let h = is.0.0 in omega (arith, h)) }
+ends_used (ending.Device p) v text sink (inl whole) used = absurd (true≢false (sym used ∙ ap is_used_up whole.0))
+ends_used (ending.Device p) v text sink (inr cut) used = absurd (true≢false (sym used ∙ ap is_used_up cut.0))
+ends_used (ending.Store p why) v text sink (inl whole) used = absurd (true≢false (sym used ∙ ap is_used_up whole.0))
+ends_used (ending.Store p why) v text sink (inr cut) used = absurd (true≢false (sym used ∙ ap is_used_up cut.0))
+ends_used ending.Sink v text sink (inl whole) used = absurd (true≢false (sym used ∙ ap is_used_up whole.0))
+ends_used ending.Sink v text sink (inr cut) used = absurd (true≢false (sym used ∙ ap is_used_up cut.0))
+ends_used (ending.Stopped p) v text sink (inl whole) used = absurd (true≢false (sym used ∙ ap is_used_up whole.0))
+ends_used (ending.Stopped p) v text sink (inr cut) used = absurd (true≢false (sym used ∙ ap is_used_up cut.0))
+
+-- the lines of a journal that is there
+some_is : (journal : Option (List Line)) → is_some journal ≡ true → (lines : List Line) × (journal ≡ Some lines)
+some_is None is = absurd (true≢false (sym is))
+some_is (Some lines) is = (lines, refl)
+
+-- no more turns are taken than there are marks
+taken_few : (marks : List Mark) → length (taken_turns marks) ≤ length marks
+taken_few [] = omega arith
+taken_few (m ∷ marks) = let less = taken_few marks in by (is_taken m) less
+  where
+    by : (b : Bool) → length (taken_turns marks) ≤ length marks → length (if b then length marks ∷ taken_turns marks else taken_turns marks) ≤ suc (length marks)
+    by true less = omega (arith, less)
+    by false less = omega (arith, less)
+
+-- marks that were not stopped, the last first
+unstopped_behind : (marks : List Mark) (m : Mark) → Unstopped marks → (m ≡ mark.Stopped → ⊥) → Unstopped (marks ++ m ∷ [])
+unstopped_behind [] m all ne = (ne, tt)
+unstopped_behind (x ∷ marks) m all ne = (all.0, unstopped_behind marks m all.1 ne)
+
+unstopped_back : (marks : List Mark) → Unstopped marks → Unstopped (reverse marks)
+unstopped_back [] all = tt
+unstopped_back (m ∷ marks) all = subst Unstopped (sym (reverse-append (m ∷ []) marks)) (unstopped_behind (reverse marks) m (unstopped_back marks all.1) all.0)
+
+-- all are in front of the first stop
+front_all : (marks : List Mark) → Unstopped marks → unstopped_front marks ≡ marks
+front_all [] all = refl
+front_all (m ∷ marks) all = rw (unstopped_is m all.0) (ap (λ ms. m ∷ ms) (front_all marks all.1))
+  where
+    unstopped_is : (x : Mark) → (x ≡ mark.Stopped → ⊥) → is_stopped x ≡ false
+    unstopped_is mark.Stopped ne = absurd (ne refl)
+    unstopped_is (mark.Idle why) ne = refl
+    unstopped_is mark.Stepped ne = refl
+    unstopped_is (mark.Showed k) ne = refl
+    unstopped_is (mark.Recovered y) ne = refl
+    unstopped_is mark.Marked ne = refl
+
+module _ {S : Type 0} (on : Devices S) (setting : Setting) (o : Outcome) (lent : Loan S) (out report : SinkCourse) (given : IsGivenRun setting.images setting.inputs setting.schedule)
+    (some : 0 < length setting.images) (seven : is_causal setting.protocol ≡ false) (is : IsReported ledger.Journal on setting o lent out report) (tells : on.tell (length setting.images) lent.before lent.after)
+    (used : is_used_up o.verdict ≡ true) where
+  -- what it promises
+  kept_is : IsCourse setting (account_of o is.journal) is.ending (output out.before out.after) (counts_of on.stops on.calls lent.before lent.after) (λ core x. on.left setting core x)
+  kept_is = is.kept tells
+
+  -- how it ended
+  ends : EndsUsed is.ending
+  ends = ends_used is.ending o.verdict _ report is.report_told used
+
+  -- its lines
+  abbrev lines : List Line
+  lines = (some_is is.journal is.journal_is).0
+
+  -- are its journal's
+  journal_lines : is.journal ≡ Some lines
+  journal_lines = (some_is is.journal is.journal_is).1
+
+  -- of which is known
+  known_journal : AreCutAtStop o.marks.items × IsUncut is.ending kept_is.up o.marks.items × IsJournalOf setting kept_is.up o.marks.items lines
+  known_journal = subst (λ j. IfSome j (λ ls. AreCutAtStop o.marks.items × IsUncut is.ending kept_is.up o.marks.items × IsJournalOf setting kept_is.up o.marks.items ls)) journal_lines (kept_is.journal (is.turns refl).0)
+
+  -- that it was not stopped
+  whole : ((p : ℕ) → kept_is.up p ≡ true) × Unstopped o.marks.items
+  whole = ends.uncut kept_is.up o.marks.items known_journal.1
+
+  -- the core that its entries led to
+  abbrev core : Core
+  core = known_journal.2.core
+
+  -- from where all are up
+  led : LeadsTo (system_in setting) setting.schedule (opening (λ p. true)) (reverse o.marks.items) core
+  led = subst (λ (u : ℕ → Bool). LeadsTo (system_in setting) setting.schedule (opening u) (reverse o.marks.items) core) (λ i p. whole.0 p i)
+      (subst (λ ms. LeadsTo (system_in setting) setting.schedule (opening kept_is.up) (reverse ms) core) (front_all o.marks.items whole.1) known_journal.2.led)
+
+  -- none of its marks, the last first, is a stop
+  back : Unstopped (reverse o.marks.items)
+  back = unstopped_back o.marks.items whole.1
+
+  -- the system is sound
+  sound : IsSound (system_in setting)
+  sound = sound_system (system_in setting).guests setting.protocol 8 64 (omega arith)
+
+  -- and has few guests
+  few : (system_in setting).guests.count ≤ 16
+  few = let least = given.few in omega (arith, least)
+
+  -- so they have Save-work
+  saved : HasSaveWork false lines
+  saved = subst (HasSaveWork false) (sym known_journal.2.lines_are) (led_work (system_in setting) sound few setting.schedule (is.turns refl).0 (reverse o.marks.items) core led back seven)
+
+  -- and are a journal
+  journal_is : IsJournal (length setting.images) lines
+  journal_is = subst (IsJournal (length setting.images)) (sym known_journal.2.lines_are)
+      (led_journal (system_in setting) sound few (λ p q message answers at. addressed setting.images setting.inputs p q message answers at) setting.schedule (is.turns refl).0 (reverse o.marks.items) core led back)
+
+  -- each commit of which is of somebody
+  members : All HasMembers lines
+  members = subst (All HasMembers) (sym known_journal.2.lines_are)
+      (λ i x within. (plain_all (system_in setting) sound few setting.schedule (is.turns refl).0 (reverse o.marks.items) core led back i x within).1)
+
+  -- there are not too many
+  short : length lines + 2 ≤ 4000000
+  short =
+      let two = ap (λ ls. length ls) known_journal.2.lines_are in
+      let acts = journal_short (system_in setting) core.acts in
+      let turns = ap (λ ts. length ts) (lead (system_in setting) setting.schedule (is.turns refl).0 (reverse o.marks.items) core led back).turns in
+      let mapped = length-map core.acts (λ (x : Given). x.t) in
+      let taken = taken_few (reverse o.marks.items) in
+      let long = length-reverse o.marks.items in
+      let marked = ends.marked setting o.marks.items kept_is.last kept_is.core kept_is.ending_is in
+      let most = given.schedule_is.0 in omega (arith, two, acts, turns, mapped, taken, long, marked, most)
+
+  -- it wrote them whole
+  whole_is : ledger_text (length setting.images) (verdict_at is.ending) (account_of o is.journal) ≡ whole_text (length setting.images) false lines
+  whole_is = ap (λ j. journal_or_report j (length setting.images) (verdict_at is.ending) (account_of o is.journal)) journal_lines
+      ∙ ap (λ b. if b then whole_text (length setting.images) false lines else journal_text (length setting.images) false lines) ends.used
+
+  -- so the text is that of a journal with Save-work
+  pub run_saves : WritesSaved setting report
+  run_saves calm empty listed' at = (
+    record { n = length setting.images; causal = false; lines = lines },
+    ap journal_of (stands_on report.before report.after _ listed' empty at (reported_whole (verdict_at is.ending) o.verdict _ report calm is.report_told) ∙ whole_is)
+        ∙ text_again (length setting.images) false lines some few journal_is members short,
+    refl,
+    refl,
+    saved,
+  )

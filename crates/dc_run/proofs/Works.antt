@@ -9,7 +9,7 @@ use Rattle.dc_run.specs.Settings.{is_free, has_ended, is_free_refusal, is_of_run
 use Rattle.dc_run.specs.declared.refusal.Refusal.{Refusal}
 use Rattle.dc_run.specs.declared.refusal.Refusal.TheVariants as refusal
 use Rattle.dc_run.specs.declared.verdict.Verdict.{Verdict}
-use Rattle.dc_run.specs.declared.verdict.Verdict.TheVariants.{Done, Unfinished, Usage, PlanRefused, GuestRefused, Missing, LibraryFault, DeviceFault, SinkFault, NotARun, Differs, WantOfMemory, ScheduleRefused, StoreRefused, ReportRefused, AsmRefused, JournalRefused, NotSaved}
+use Rattle.dc_run.specs.declared.verdict.Verdict.TheVariants.{Done, Unfinished, Usage, PlanRefused, GuestRefused, Missing, LibraryFault, DeviceFault, DeviceStopped, SinkFault, NotARun, Differs, WantOfMemory, ScheduleRefused, StoreRefused, ReportRefused, AsmRefused, JournalRefused, NotSaved}
 
 pub for_known : (known : Option Files) {P : Files → Type 0} → ((files : Files) → known ≡ Some files → P files) → IfSome known P
 for_known None at = tt
@@ -26,6 +26,7 @@ opened_ended (GuestRefused p fault) e = e
 opened_ended (Missing which) e = e
 opened_ended (LibraryFault which) e = e
 opened_ended (DeviceFault p) e = e
+opened_ended (DeviceStopped p) e = e
 opened_ended (SinkFault outlet) e = e
 opened_ended (NotARun position) e = e
 opened_ended (Differs line) e = e
@@ -49,6 +50,7 @@ no_refusal v refusal is (inr free) e = true≢false (sym free ∙ ap is_free e �
 -- what may stand in is free
 pub stands_free : (v : Verdict) → stands_in v ≡ true → is_free v ≡ true
 stands_free (DeviceFault p) e = refl
+stands_free (DeviceStopped p) e = refl
 stands_free (StoreRefused p fault) e = refl
 stands_free WantOfMemory e = e
 stands_free (LibraryFault which) e = e

@@ -10,7 +10,7 @@ use Rattle.dc_words.specs.Results.{◌>>=◌}
 use Rattle.dc_run.specs.Assembling.{WritesOut}
 use Rattle.dc_command.specs.Command.{Names}
 use Rattle.dc_course.specs.Headline.{Setting}
-use Rattle.dc_run.specs.Opening.{AsksToRun, Files, file_in, guests, opening_of}
+use Rattle.dc_run.specs.Opening.{AsksToRun, Files, file_in, guests, opening_of, to_report}
 use Rattle.dc_run.specs.Refusals.{as_verdict}
 use Rattle.dc_run.specs.Settings.{differing_line, was_opened}
 use Rattle.dc_run.specs.declared.checking.Found as code
@@ -56,7 +56,7 @@ found_at_setting files names setting = report_for files setting names.report >>=
 
 -- what a run is opened with, then the report, then the output: the first that is refused decides
 abbrev pub found_in : Files → Names → Result Found Refusal
-found_in files names = opening_of files names.plan >>= found_at_setting files names
+found_in files names = opening_of files (to_report names.plan) >>= found_at_setting files names
 
 -- an output that passes, or how it is refused
 abbrev pub passed : List Taken → Finding → Result Checked Verdict
@@ -104,8 +104,8 @@ TellsLine o = option_map (λ (difference : Difference). difference.line) o.diffe
 
 -- which files a check asks for and finds: those of a run, and the others once those before them were there and were not refused
 abbrev pub AsksToCheck : Files → Names → Which → Type 0
-AsksToCheck files names which.Report = IsOkAnd (opening_of files names.plan) (λ setting. IsSome (files names.report))
-AsksToCheck files names which.Out = IsOkAnd (opening_of files names.plan) (λ setting. IsOkAnd (report_for files setting names.report) (λ report. IsSome (files names.out)))
+AsksToCheck files names which.Report = IsOkAnd (opening_of files (to_report names.plan)) (λ setting. IsSome (files names.report))
+AsksToCheck files names which.Out = IsOkAnd (opening_of files (to_report names.plan)) (λ setting. IsOkAnd (report_for files setting names.report) (λ report. IsSome (files names.out)))
 AsksToCheck files names which.Source = ⊥
 AsksToCheck files names which.Journal = ⊥
-AsksToCheck files names which = AsksToRun files names.plan which
+AsksToCheck files names which = AsksToRun files (to_report names.plan) which

@@ -6,7 +6,9 @@ use Rattle.dc_audit.specs.Reading.{Journal}
 use Rattle.dc_run.specs.Assembling.{program_in}
 use Rattle.dc_run.specs.Auditing.{journal_in}
 use Rattle.dc_run.specs.Checking.{AsksToCheck, Checked, Found, checked_in, found_in}
-use Rattle.dc_command.specs.Command.{Asked, asked_of}
+use Rattle.dc_command.specs.Command.{Asked, Order, asked_of}
+use Rattle.dc_command.specs.declared.command.Ledger.{Ledger}
+use Rattle.dc_command.specs.declared.command.Ledger.TheVariants as ledger
 use Rattle.dc_command.specs.Command.Asked.{ToRun, ToCheck, ToAssemble, ToAudit}
 use Rattle.dc_command.specs.declared.command.CommandFault.{CommandFault}
 use Rattle.dc_command.specs.declared.command.CommandFault.TheVariants as command
@@ -20,13 +22,13 @@ use Rattle.dc_run.specs.Opening.{Files, AsksToRun, medium_at, opening_of}
 use Rattle.dc_run.specs.Refusals.{as_verdict}
 use Rattle.dc_run.specs.Settings.{IsCalm, has_ended, may_have_run, stands_in, was_opened}
 use Rattle.dc_run.specs.declared.verdict.Verdict.{Verdict}
-use Rattle.dc_run.specs.declared.verdict.Verdict.TheVariants.{Done, NotSaved, Unfinished, Usage, WantOfMemory}
+use Rattle.dc_run.specs.declared.verdict.Verdict.TheVariants.{DeviceStopped, Done, NotSaved, Unfinished, Usage, WantOfMemory}
 use Rattle.dc_run.specs.declared.verdict.Which.{Which}
 use Rattle.dc_run.specs.declared.verdict.Which.TheVariants.{Journal as OfJournal, Source}
 
--- what there is to carry out: a run that is opened, an output that passes, a source's program, or a journal that is audited
+-- what there is to carry out: a run that is opened, with what it is to write at its end, an output that passes, a source's program, or a journal that is audited
 pub data Work : Type 0 where
-  Run : (setting : Setting) → Work
+  Run : (ledger : Ledger) (setting : Setting) → Work
   Check : (checked : Checked) → Work
   Assembly : (program : List Meant) → Work
   Audit : (journal : Journal) → Work
@@ -38,7 +40,7 @@ unasked_by command.Memory = WantOfMemory
 
 -- what there is to carry out, by what is asked for
 abbrev pub work_by : Files → Asked → Result Work Verdict
-work_by files (ToRun plan) = as_verdict (opening_of files plan) >>= (λ setting. Ok (Run setting))
+work_by files (ToRun order) = as_verdict (opening_of files order) >>= (λ setting. Ok (Run order.ledger setting))
 work_by files (ToCheck names) = checked_in files names >>= (λ checked. Ok (Check checked))
 work_by files (ToAssemble source) = program_in files source >>= (λ program. Ok (Assembly program))
 work_by files (ToAudit journal) = journal_in files journal >>= (λ said. Ok (Audit said))
@@ -48,8 +50,8 @@ abbrev pub work_of : Files → List (String Global) → Result Work Verdict
 work_of files words = or_fault Usage (asked_of words) >>= work_by files
 
 -- the work is a run of which this holds
-abbrev pub IfRun : Work → (Setting → Type 0) → Type 0
-IfRun (Run setting) P = P setting
+abbrev pub IfRun : Work → (Ledger → Setting → Type 0) → Type 0
+IfRun (Run ledger setting) P = P ledger setting
 IfRun _ P = Unit {0}
 
 -- the work is an output that passes, of which this holds
@@ -69,7 +71,7 @@ IfAudit _ P = Unit {0}
 
 -- which files a command asks for and finds
 abbrev pub AsksFor : Files → Asked → Which → Type 0
-AsksFor files (ToRun plan) which = AsksToRun files plan which
+AsksFor files (ToRun order) which = AsksToRun files order which
 AsksFor files (ToCheck names) which = AsksToCheck files names which
 AsksFor files (ToAssemble source) which = (which ≡ Source) × IsSome (files source)
 AsksFor files (ToAudit journal) which = (which ≡ OfJournal) × IsSome (files journal)
@@ -93,31 +95,36 @@ abbrev pub IsOpenedFor : {A : Type 0} → (A → Verdict → Bool) → Verdict �
 IsOpenedFor ends verdict (Ok work) = (ends work verdict ≡ true) ⊎ (stands_in verdict ≡ true)
 IsOpenedFor ends verdict (Err refusal) = may_have_run verdict ≡ false
 
--- the words ask to run a plan
+-- the words ask to run a plan, and write its report or its journal
 abbrev pub AsksToRunPlan : List (String Global) → Type 0
-AsksToRunPlan words = (plan : List ℕ) × (asked_of words ≡ Some (ToRun plan))
+AsksToRunPlan words = (order : Order) × (asked_of words ≡ Some (ToRun order))
 
 -- how work may end: a run by its schedule or by a fault of a device, a store or a sink, a check or an assembly by what it writes, an audit also by
 -- what it finds
 abbrev pub may_end : Work → Verdict → Bool
-may_end (Run setting) verdict = may_have_run verdict
+may_end (Run ledger setting) verdict = may_have_run verdict
 may_end (Audit journal) verdict = has_ended verdict
 may_end _ verdict = was_opened verdict
 
--- work was carried out: a run to the end of its schedule, else what was asked for was written, or a journal was found to have no Save-work
+-- a run came to the end of its schedule, or, where it was to write its journal, to the first stop of a device
+abbrev pub HasRun : Ledger → Verdict → Type 0
+HasRun ledger.Report verdict = (verdict ≡ Done) ⊎ (verdict ≡ Unfinished)
+HasRun ledger.Journal verdict = (verdict ≡ Done) ⊎ (verdict ≡ Unfinished) ⊎ ((p : ℕ) × (verdict ≡ DeviceStopped p))
+
+-- work was carried out: a run, else what was asked for was written, or a journal was found to have no Save-work
 abbrev pub IsCarriedOut : Work → Verdict → Type 0
-IsCarriedOut (Run setting) verdict = (verdict ≡ Done) ⊎ (verdict ≡ Unfinished)
+IsCarriedOut (Run ledger setting) verdict = HasRun ledger verdict
 IsCarriedOut (Audit journal) verdict = (verdict ≡ Done) ⊎ ((event : ℕ) × (line : ℕ) × (verdict ≡ NotSaved event line))
 IsCarriedOut _ verdict = verdict ≡ Done
 
 -- how many stores work uses: a run one for each guest, and all else none
 abbrev pub stores_used : Result Work Verdict → ℕ
-stores_used (Ok (Run setting)) = length setting.images
+stores_used (Ok (Run ledger setting)) = length setting.images
 stores_used _ = 0
 
 -- the medium of the run that is asked for; where none is, the first one, whose devices stay then
 abbrev pub medium_by : Files → Option Asked → Medium
-medium_by files (Some (ToRun plan)) = medium_at files plan
+medium_by files (Some (ToRun order)) = medium_at files order.plan
 medium_by files _ = medium.Rio
 
 -- by its words
@@ -126,7 +133,7 @@ medium_of files words = medium_by files (asked_of words)
 
 -- the devices that a run was lent told what they held
 abbrev pub TellsFor : {S : Type 0} → Devices S → S → S → Work → Type 0
-TellsFor on before after (Run setting) = on.tell (length setting.images) before after
+TellsFor on before after (Run ledger setting) = on.tell (length setting.images) before after
 TellsFor on before after _ = Unit {0}
 
 -- the counts of faults of what a call was lent stay: of the library, of each process's device, of the output and of the report

@@ -1,5 +1,10 @@
 -- What a call of the program promises of a run that was opened.
-use Rattle.std.specs.Prelude.{◌≡◌, ◌⊎◌, ◌<◌, ℕ, List, ◌++◌, length, take, Option}
+use Rattle.std.specs.Prelude.{◌≡◌, ◌⊎◌, ◌<◌, ℕ, Bool, true, false, List, [], ◌++◌, if◌then◌else◌, is_some, length, take, Option, None, Some}
+use Rattle.dc_audit.specs.declared.journal.Line.{Line}
+use Rattle.dc_command.specs.declared.command.Ledger.{Ledger}
+use Rattle.dc_command.specs.declared.command.Ledger.TheVariants as ledger
+use Rattle.dc_journal.specs.Texts.{journal_text, whole_text}
+use Rattle.dc_recovery.specs.Unstopped.{AreTurns}
 use Rattle.dc_report.specs.Reports.{report_text}
 use Rattle.dc_course.specs.Courses.{IsCourse, counts_of}
 use Rattle.dc_course.specs.Headline.{Account, Setting}
@@ -15,11 +20,16 @@ use Rattle.dc_run.specs.Outcomes.{status_of}
 use Rattle.dc_run.specs.declared.outcome.Outcome.{Outcome}
 use Rattle.dc_run.specs.declared.verdict.Outlet.TheVariants.{Out, Report}
 use Rattle.dc_run.specs.declared.verdict.Verdict.{Verdict}
-use Rattle.dc_run.specs.declared.verdict.Verdict.TheVariants.{Done, Unfinished, DeviceFault, SinkFault, StoreRefused, WantOfMemory}
+use Rattle.dc_run.specs.declared.verdict.Verdict.TheVariants.{Done, Unfinished, DeviceFault, DeviceStopped, SinkFault, StoreRefused, WantOfMemory}
 
--- what an outcome lists of a run
-abbrev pub account_of : Outcome → Account
-account_of o = record { acts = o.acts.items; marks = o.marks.items; lines = o.lines }
+-- what an outcome lists of a run, with the journal that it kept, if it kept one
+abbrev pub account_of : Outcome → Option (List Line) → Account
+account_of o journal = record { acts = o.acts.items; marks = o.marks.items; lines = o.lines; journal = journal }
+
+-- a run that is to write this keeps its journal
+abbrev pub keeps_journal : Ledger → Bool
+keeps_journal ledger.Report = false
+keeps_journal ledger.Journal = true
 
 -- what a sink held before and after a call, where it is told, and how often it had failed
 pub record SinkCourse : Type 0 where
@@ -48,6 +58,7 @@ verdict_at ending.Unfinished = Unfinished
 verdict_at (ending.Device p) = DeviceFault p
 verdict_at (ending.Store p fault) = StoreRefused p fault
 verdict_at ending.Sink = SinkFault Out
+verdict_at (ending.Stopped p) = DeviceStopped p
 
 -- the verdict of a run that was not opened
 abbrev pub unopened_by : OpenFault → Verdict
@@ -60,7 +71,22 @@ unreported Done = SinkFault Report
 unreported Unfinished = SinkFault Report
 unreported stood = stood
 
--- the report of a run that came to `stood`: it is written whole and that is the verdict; or its sink failed and a part of its front is written
+-- the schedule of a run that came to this was used up
+abbrev pub is_used_up : Verdict → Bool
+is_used_up Done = true
+is_used_up Unfinished = true
+is_used_up _ = false
+
+-- what a run of n processes that came to this writes at its end: its report; or, of one that kept its journal, that, whole where its schedule was used up
+abbrev pub journal_or_report : Option (List Line) → ℕ → Verdict → Account → List ℕ
+journal_or_report None n stood run = report_text (status_of stood) (length run.marks) run.acts run.lines
+journal_or_report (Some lines) n stood run = if is_used_up stood then whole_text n false lines else journal_text n false lines
+
+-- by what it lists
+abbrev pub ledger_text : ℕ → Verdict → Account → List ℕ
+ledger_text n stood run = journal_or_report run.journal n stood run
+
+-- the report of a run that came to `stood`, or its journal: it is written whole and that is the verdict; or its sink failed and a part of its front is written
 abbrev pub Reports : Verdict → Verdict → List ℕ → SinkCourse → Type 0
 Reports stood verdict text sink =
     ((verdict ≡ stood) × Becomes sink.before sink.after (λ x y. y ≡ x ++ text))
@@ -71,11 +97,14 @@ abbrev pub IsKept : {S : Type 0} → Devices S → Setting → Account → Endin
 IsKept on setting run ending out lent = on.tell (length setting.images) lent.before lent.after
     → IsCourse setting run ending out (counts_of on.stops on.calls lent.before lent.after) (λ core x. on.left setting core x)
 
--- with its report: the status is that of the verdict before the report
-pub record IsReported {S : Type 0} (on : Devices S) (setting : Setting) (o : Outcome) (lent : Loan S) (out report : SinkCourse) : Type 0 where
+-- with what it wrote at its end: the status is that of the verdict before that. One that wrote its journal was given turns alone, and no stop was planned
+pub record IsReported {S : Type 0} (ledger : Ledger) (on : Devices S) (setting : Setting) (o : Outcome) (lent : Loan S) (out report : SinkCourse) : Type 0 where
   pub ending : Ending
-  pub kept : IsKept on setting (account_of o) ending (output out.before out.after) lent
-  pub report_told : Reports (verdict_at ending) o.verdict (report_text (status_of (verdict_at ending)) (length o.marks.items) o.acts.items o.lines) report
+  pub journal : Option (List Line)
+  pub journal_is : is_some journal ≡ keeps_journal ledger
+  pub turns : keeps_journal ledger ≡ true → AreTurns setting.schedule × (setting.stops ≡ [])
+  pub kept : IsKept on setting (account_of o journal) ending (output out.before out.after) lent
+  pub report_told : Reports (verdict_at ending) o.verdict (ledger_text (length setting.images) (verdict_at ending) (account_of o journal)) report
 
 -- the line of an outcome was written whole, or its sink failed and a part of its front was
 abbrev pub Concludes : List ℕ → SinkCourse → Type 0

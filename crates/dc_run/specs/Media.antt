@@ -50,6 +50,10 @@ devices_of words disk medium.Disk = record {
 abbrev pub HasFailed : {S : Type 0} → Devices S → S → S → ℕ → Type 0
 HasFailed on before after p = Rose (on.faults before p) (on.faults after p)
 
+-- or a stop
+abbrev pub HasStopped : {S : Type 0} → Devices S → S → S → ℕ → Type 0
+HasStopped on before after p = Rose (on.stops before p) (on.stops after p)
+
 -- what was lent for the other medium is as it was
 abbrev pub IsOtherSame : {K D : Type 0} → Medium → Lent K D → Lent K D → Type 0
 IsOtherSame medium.Rio before after = after.disks ≡ before.disks

@@ -1,5 +1,8 @@
 -- What a run is opened with, by the told files, or the refusal that comes first.
-use Rattle.std.specs.Prelude.{ℕ, suc, List, [], ◌∷◌, Option, None, Some, IsOkAnd, IsSome, IsSomeAnd, Result, Ok, Err, length, slice_get, take}
+use Rattle.std.specs.Prelude.{ℕ, suc, Bool, true, false, List, [], ◌∷◌, Option, None, Some, IsOkAnd, IsSome, IsSomeAnd, Result, Ok, Err, if◌then◌else◌, length, slice_get, take}
+use Rattle.dc_command.specs.Command.{Order}
+use Rattle.dc_command.specs.declared.command.Ledger.{Ledger}
+use Rattle.dc_command.specs.declared.command.Ledger.TheVariants as ledger
 use Rattle.dc_course.specs.Headline.{Setting}
 use Rattle.dc_elf.specs.Files.{file_fault}
 use Rattle.dc_elf.specs.Images.{Image, image_of}
@@ -8,11 +11,14 @@ use Rattle.dc_guest.specs.Guest.{Guest, guests_of}
 use Rattle.dc_model.specs.Guests.{Guests}
 use Rattle.dc_model.specs.declared.entry.Entry.{Entry}
 use Rattle.dc_plan.specs.Plans.{Plan, Source, InFile, FromSeed, plan_of}
+use Rattle.dc_media.specs.declared.planned.PlannedStop.{PlannedStop}
 use Rattle.dc_plan.specs.declared.fault.PlanFault.{PlanFault}
+use Rattle.dc_plan.specs.declared.fault.PlanFault.TheVariants.{Range}
+use Rattle.dc_plan.specs.declared.keys.Key.TheVariants as key
 use Rattle.dc_plan.specs.declared.plan.Medium.{Medium}
 use Rattle.dc_plan.specs.declared.plan.Medium.TheVariants as medium
 use Rattle.dc_schedule.specs.Generated.{generated}
-use Rattle.dc_schedule.specs.Schedules.{schedule_of}
+use Rattle.dc_schedule.specs.Schedules.{schedule_of, turns_of}
 use Rattle.dc_schedule.specs.declared.fault.ScheduleFault.{ScheduleFault}
 use Rattle.dc_words.specs.Results.{◌>>=◌, or_fault}
 use Rattle.dc_run.specs.declared.refusal.Refusal.{Refusal}
@@ -23,6 +29,10 @@ use Rattle.dc_run.specs.declared.verdict.Which.TheVariants as which
 -- the guests of a setting
 abbrev pub guests : Setting → Guests Guest
 guests setting = guests_of setting.images setting.inputs
+
+-- an order to run the plan of this name and write its report
+abbrev pub to_report : List ℕ → Order
+to_report plan = record { plan = plan; ledger = ledger.Report }
 
 -- told files: the bytes of each name
 abbrev pub Files : Type 0
@@ -40,6 +50,25 @@ plan_or_fault (Err fault) = Err (refusal.Plan fault)
 -- the plan of this name
 abbrev pub plan_in : Files → List ℕ → Result Plan Refusal
 plan_in files name = file_in files which.Plan name >>= (λ text. plan_or_fault (plan_of text))
+
+-- a seed in place of a schedule's file
+abbrev pub is_seed : Source → Bool
+is_seed (InFile name) = false
+is_seed (FromSeed start turns) = true
+
+-- some stop is planned
+abbrev pub has_stops : List PlannedStop → Bool
+has_stops [] = false
+has_stops (stop ∷ stops) = true
+
+-- a plan that leaves what is to be written: of a journal a seed would stop processes, and so would planned stops
+abbrev pub allowed_by : Ledger → Plan → Result Plan Refusal
+allowed_by ledger.Report plan = Ok plan
+allowed_by ledger.Journal plan = if is_seed plan.schedule then Err (refusal.Plan (Range key.Seed)) else (if has_stops plan.stops then Err (refusal.Plan (Range key.Stop)) else Ok plan)
+
+-- the plan of an order
+abbrev pub plan_for : Files → Order → Result Plan Refusal
+plan_for files order = plan_in files order.plan >>= allowed_by order.ledger
 
 -- the medium of a plan that is read; of one that is refused nothing runs, and any would do
 abbrev pub medium_in : Result Plan Refusal → Medium
@@ -73,26 +102,31 @@ abbrev pub schedule_or_fault : Result (List Entry) ScheduleFault → Result (Lis
 schedule_or_fault (Ok schedule) = Ok schedule
 schedule_or_fault (Err fault) = Err (refusal.Schedule fault)
 
+-- the schedule of a text: of a run that is to leave its journal a line that stops a process is a fault of form
+abbrev pub entries_of : Ledger → ℕ → List ℕ → Result (List Entry) ScheduleFault
+entries_of ledger.Report n text = schedule_of n text
+entries_of ledger.Journal n text = turns_of n text
+
 -- the schedule of n guests: that of the file, or the one that is drawn from the seed
-abbrev pub schedule_in : Files → ℕ → Source → Result (List Entry) Refusal
-schedule_in files n (InFile name) = file_in files which.Schedule name >>= (λ text. schedule_or_fault (schedule_of n text))
-schedule_in files n (FromSeed start turns) = Ok (generated start turns n)
+abbrev pub schedule_in : Files → Ledger → ℕ → Source → Result (List Entry) Refusal
+schedule_in files ledger n (InFile name) = file_in files which.Schedule name >>= (λ text. schedule_or_fault (entries_of ledger n text))
+schedule_in files ledger n (FromSeed start turns) = Ok (generated start turns n)
 
 -- with the plan, the images and the schedule
 abbrev pub setting_with : Plan → List Image → List Entry → Setting
 setting_with plan images schedule = record { protocol = plan.protocol; images = images; inputs = plan.inputs; schedule = schedule; stops = plan.stops; from = 0 }
 
 -- with the plan and the images
-abbrev pub opening_at_images : Files → Plan → List Image → Result Setting Refusal
-opening_at_images files plan images = schedule_in files (length images) plan.schedule >>= (λ schedule. Ok (setting_with plan images schedule))
+abbrev pub opening_at_images : Files → Ledger → Plan → List Image → Result Setting Refusal
+opening_at_images files ledger plan images = schedule_in files ledger (length images) plan.schedule >>= (λ schedule. Ok (setting_with plan images schedule))
 
 -- with the plan
-abbrev pub opening_at_plan : Files → Plan → Result Setting Refusal
-opening_at_plan files plan = images_in files plan.memory 0 plan.guests >>= opening_at_images files plan
+abbrev pub opening_at_plan : Files → Ledger → Plan → Result Setting Refusal
+opening_at_plan files ledger plan = images_in files plan.memory 0 plan.guests >>= opening_at_images files ledger plan
 
 -- the plan, the guests in order, the schedule: the first that is missing or refused decides
-abbrev pub opening_of : Files → List ℕ → Result Setting Refusal
-opening_of files name = plan_in files name >>= opening_at_plan files
+abbrev pub opening_of : Files → Order → Result Setting Refusal
+opening_of files order = plan_for files order >>= opening_at_plan files order.ledger
 
 -- Which files a run asks for and finds: one only after those before it were there and were not refused.
 
@@ -115,7 +149,7 @@ AsksAtPlan files plan (which.Guest q) = AsksForGuest files plan.memory plan.gues
 AsksAtPlan files plan which.Schedule = AsksForSchedule files plan
 AsksAtPlan files plan _ = ⊥
 
--- by the plan's name
-abbrev pub AsksToRun : Files → List ℕ → Which → Type 0
-AsksToRun files name which.Plan = IsSome (files name)
-AsksToRun files name which = IsOkAnd (plan_in files name) (λ plan. AsksAtPlan files plan which)
+-- by an order
+abbrev pub AsksToRun : Files → Order → Which → Type 0
+AsksToRun files order which.Plan = IsSome (files order.plan)
+AsksToRun files order which = IsOkAnd (plan_for files order) (λ plan. AsksAtPlan files plan which)

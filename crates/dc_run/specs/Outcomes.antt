@@ -18,7 +18,7 @@ use Rattle.dc_plan.specs.Faults.{fault_text as plan_fault_text}
 use Rattle.dc_report.specs.Reading.{kind_text as report_kind_text}
 use Rattle.dc_schedule.specs.Schedules.{kind_text as schedule_kind_text}
 use Rattle.dc_run.specs.declared.verdict.Verdict.{Verdict}
-use Rattle.dc_run.specs.declared.verdict.Verdict.TheVariants.{Done, Unfinished, Usage, PlanRefused, GuestRefused, Missing, LibraryFault, DeviceFault, SinkFault, NotARun, Differs, WantOfMemory, ScheduleRefused, StoreRefused, ReportRefused, AsmRefused, JournalRefused, NotSaved}
+use Rattle.dc_run.specs.declared.verdict.Verdict.TheVariants.{Done, Unfinished, Usage, PlanRefused, GuestRefused, Missing, LibraryFault, DeviceFault, DeviceStopped, SinkFault, NotARun, Differs, WantOfMemory, ScheduleRefused, StoreRefused, ReportRefused, AsmRefused, JournalRefused, NotSaved}
 use Rattle.dc_run.specs.declared.verdict.Which.{Which}
 use Rattle.dc_run.specs.declared.verdict.Which.TheVariants as which
 
@@ -32,6 +32,7 @@ status_of (GuestRefused p fault) = 4
 status_of (Missing which) = 5
 status_of (LibraryFault which) = 6
 status_of (DeviceFault p) = 7
+status_of (DeviceStopped p) = 17
 status_of (SinkFault outlet) = 8
 status_of (NotARun position) = 9
 status_of (Differs line) = 9
@@ -60,6 +61,10 @@ refused_guest_text p fault = codes "guest " ++ decimal p ++ codes " refused: " +
 -- a device that failed
 abbrev pub device_fault_text : ℕ → List ℕ
 device_fault_text p = codes "device of " ++ decimal p ++ codes " failed"
+
+-- a device that was stopped
+abbrev pub device_stop_text : ℕ → List ℕ
+device_stop_text p = codes "device of " ++ decimal p ++ codes " stopped"
 
 -- a refused store
 abbrev pub refused_store_text : ℕ → StoreFault → List ℕ
@@ -94,12 +99,13 @@ done_text (Audited events) acts lines = codes "saved " ++ decimal events ++ code
 abbrev pub verdict_text : Verdict → Did → ℕ → ℕ → List ℕ
 verdict_text Done did acts lines = done_text did acts lines
 verdict_text Unfinished did acts lines = counts_text (codes "unfinished ") acts lines
-verdict_text Usage did acts lines = codes "usage: dc run PLAN | dc check PLAN REPORT OUT | dc asm SOURCE | dc audit JOURNAL"
+verdict_text Usage did acts lines = codes "usage: dc run PLAN | dc check PLAN REPORT OUT | dc asm SOURCE | dc journal PLAN | dc audit JOURNAL"
 verdict_text (PlanRefused fault) did acts lines = codes "plan refused: " ++ plan_fault_text fault
 verdict_text (GuestRefused p fault) did acts lines = refused_guest_text p fault
 verdict_text (Missing which) did acts lines = codes "missing: " ++ which_text which
 verdict_text (LibraryFault which) did acts lines = codes "library failed: " ++ which_text which
 verdict_text (DeviceFault p) did acts lines = device_fault_text p
+verdict_text (DeviceStopped p) did acts lines = device_stop_text p
 verdict_text (SinkFault outlet) did acts lines = codes "sink failed: " ++ outlet_text outlet
 verdict_text (NotARun position) did acts lines = codes "not a run: act " ++ decimal position
 verdict_text (Differs line) did acts lines = codes "differs: line " ++ decimal line

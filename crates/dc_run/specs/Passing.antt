@@ -1,19 +1,26 @@
 -- What a run wrote, checked.
-use Rattle.std.specs.Prelude.{◌≡◌, ℕ, List, [], Some, Ok}
+use Rattle.std.specs.Prelude.{◌≡◌, ℕ, false, List, [], Some, Ok, length}
+use Rattle.dc_audit.specs.Journals.{HasSaveWork}
+use Rattle.dc_audit.specs.Reading.{Journal, journal_of}
 use Rattle.dc_course.specs.Headline.{Setting}
 use Rattle.dc_model.specs.declared.act.Taken.{Taken}
 use Rattle.dc_run.specs.Checking.{checked_in}
 use Rattle.dc_command.specs.Command.{Names}
 use Rattle.dc_run.specs.Headline.{SinkCourse}
 use Rattle.dc_run.specs.Settings.{IsCalm}
-use Rattle.dc_run.specs.Opening.{Files, opening_of}
+use Rattle.dc_run.specs.Opening.{Files, opening_of, to_report}
 
 -- wherever files open a run of this setting, and hold these texts as its report and its output, the output passes, with these acts
 abbrev pub PassesFor : Setting → List ℕ → List ℕ → List Taken → Type 0
-PassesFor setting listed shown acts = (files : Files) (names : Names) → opening_of files names.plan ≡ Ok setting → files names.report ≡ Some listed → files names.out ≡ Some shown
+PassesFor setting listed shown acts = (files : Files) (names : Names) → opening_of files (to_report names.plan) ≡ Ok setting → files names.report ≡ Some listed → files names.out ≡ Some shown
     → (visibles : ℕ) × (checked_in files names ≡ Ok (record { acts = acts; visibles = visibles }))
 
 -- what was written on sinks that held nothing, tell and did not fail, passes
 abbrev pub WritesPassing : Setting → SinkCourse → SinkCourse → List Taken → Type 0
 WritesPassing setting out report acts = IsCalm out.faults_before out.faults_after → IsCalm report.faults_before report.faults_after → out.before ≡ Some [] → report.before ≡ Some []
     → (shown listed : List ℕ) → out.after ≡ Some shown → report.after ≡ Some listed → PassesFor setting listed shown acts
+
+-- what was written on a sink that held nothing, tells and did not fail is the text of a journal, of these processes, that has Save-work
+abbrev pub WritesSaved : Setting → SinkCourse → Type 0
+WritesSaved setting report = IsCalm report.faults_before report.faults_after → report.before ≡ Some []
+    → (listed : List ℕ) → report.after ≡ Some listed → (journal : Journal) × (journal_of listed ≡ Ok journal) × (journal.n ≡ length setting.images) × (journal.causal ≡ false) × HasSaveWork false journal.lines

@@ -10,7 +10,7 @@ use Rattle.dc_run.specs.declared.refusal.Refusal.{Refusal}
 use Rattle.dc_run.specs.declared.setting.Setting as code
 use Rattle.dc_run.specs.declared.verdict.Outlet.TheVariants.{Report}
 use Rattle.dc_run.specs.declared.verdict.Verdict.{Verdict}
-use Rattle.dc_run.specs.declared.verdict.Verdict.TheVariants.{Done, Unfinished, LibraryFault, DeviceFault, SinkFault, Differs, NotSaved, WantOfMemory, StoreRefused}
+use Rattle.dc_run.specs.declared.verdict.Verdict.TheVariants.{Done, Unfinished, LibraryFault, DeviceFault, DeviceStopped, SinkFault, Differs, NotSaved, WantOfMemory, StoreRefused}
 
 -- a verdict that may stand in for a refusal: no told file decides it, and it may come before the refusal is found
 abbrev pub stands_in : Verdict → Bool
@@ -18,9 +18,10 @@ stands_in WantOfMemory = true
 stands_in (LibraryFault which) = true
 stands_in _ = false
 
--- a verdict that no told file decides: one that may stand in, a fault of a device, and what a store holds
+-- a verdict that no told file decides: one that may stand in, a fault or a stop of a device, and what a store holds
 abbrev pub is_free : Verdict → Bool
 is_free (DeviceFault p) = true
+is_free (DeviceStopped p) = true
 is_free (StoreRefused p fault) = true
 is_free verdict = stands_in verdict
 
@@ -41,6 +42,7 @@ abbrev pub may_have_run : Verdict → Bool
 may_have_run Done = true
 may_have_run Unfinished = true
 may_have_run (DeviceFault p) = true
+may_have_run (DeviceStopped p) = true
 may_have_run (SinkFault outlet) = true
 may_have_run (StoreRefused p fault) = true
 may_have_run _ = false
@@ -49,6 +51,7 @@ may_have_run _ = false
 abbrev pub has_run : Verdict → Bool
 has_run Done = true
 has_run Unfinished = true
+has_run (DeviceStopped p) = true
 has_run (SinkFault outlet) = true
 has_run (StoreRefused p fault) = true
 has_run _ = false
@@ -57,6 +60,7 @@ has_run _ = false
 abbrev pub is_of_run : Verdict → Bool
 is_of_run Unfinished = true
 is_of_run (DeviceFault p) = true
+is_of_run (DeviceStopped p) = true
 is_of_run (SinkFault Report) = true
 is_of_run (StoreRefused p fault) = true
 is_of_run _ = false

@@ -17,7 +17,7 @@ use crate::setting::Setting;
 use crate::{Did, Outcome, Outlet, Verdict, Which};
 use dc_acts::{Acts, Line};
 use dc_check::{Finding, check};
-use dc_command::Names;
+use dc_command::{Ledger, Names, Order};
 use dc_limits::{ENTRIES, PROCESSES};
 use dc_media::{Library, Sink, write_whole};
 use dc_report::{ReadError, Report, read_report};
@@ -79,7 +79,11 @@ fn find_in<L: Library>(alloc: Global, names: &Names, lib: &mut L) -> Result<Foun
     ensures fault { (w : Whose) → IsErrOf result (Refusal.Library w) → Rose (L.faults lib.old) (L.faults lib.new) }
     ensures library { LibraryKept (L.files lib.old) (L.files lib.new) (L.faults lib.old) (L.faults lib.new) }
 {
-    let setting = open(alloc, names.plan, lib)?;
+    let order = Order {
+        plan: names.plan,
+        ledger: Ledger::Report,
+    };
+    let setting = open(alloc, &order, lib)?;
     let n = setting.images.len() as u32;
     let report = report_at(alloc, lib, n, names.report)?;
     let out = fetch(alloc, lib, Which::Out, names.out)?;

@@ -1,5 +1,5 @@
 ghost use Rattle.std.specs.List.{AllByRecursion};
-ghost use Rattle.std.specs.Prelude.{◌≡◌, ◌≤◌, ◌<◌, ◌%◌, ◌^◌, ℕ, All, IsErrOf, IsSome, OnOk, Some, IfOk, length, map, string_bytes};
+ghost use Rattle.std.specs.Prelude.{◌≡◌, false, [], Err, ◌≤◌, ◌<◌, ◌%◌, ◌^◌, ℕ, All, IsErrOf, IsSome, OnOk, Some, IfOk, length, map, string_bytes};
 ghost use Rattle.dc_media.specs.Causes.{Rose};
 ghost use Rattle.dc_elf.specs.Loaded.{seen_image};
 ghost use Rattle.dc_plan.specs.Allowed.{IsAllowed, IsSourceAllowed};
@@ -9,19 +9,23 @@ ghost use Rattle.dc_shows.specs.Typed.{IsGivenRun, IsImage};
 ghost use Rattle.dc_words.specs.Lists.{lists_of};
 ghost use Rattle.dc_words.specs.Words.{AllBelow};
 ghost use Rattle.dc_world.specs.Opened.{CanOpen};
-ghost use Rattle.dc_run.specs.Opening.{AsksAtPlan, AsksForGuest, AsksToRun, Files, IsSourceThere, file_in, guest_in, images_in, medium_at, opening_at_plan, opening_of, plan_in, schedule_in};
+ghost use Rattle.dc_command.specs.Command.{order_view};
+ghost use Rattle.dc_recovery.specs.Unstopped.{AreTurns};
+ghost use Rattle.dc_schedule.specs.Schedules.{Reads};
+ghost use Rattle.dc_run.specs.Opening.{AsksAtPlan, AsksForGuest, AsksToRun, Files, IsSourceThere, allowed_by, entries_of, file_in, guest_in, images_in, is_seed, medium_at, opening_at_plan, opening_of, plan_in, schedule_in};
 ghost use Rattle.dc_run.specs.Settings.{Agrees, LibraryKept, setting_of};
 ghost use Rattle.dc_run.specs.declared.verdict.Which.{Which as Whose};
 
 use crate::Which;
 use crate::refusal::Refusal;
 use crate::setting::Setting;
+use dc_command::{Ledger, Order};
 use dc_elf::{Image, LoadFault, load};
 use dc_limits::PROCESSES;
 use dc_media::{Fetch, Library};
 use dc_model::Entry;
-use dc_plan::{Plan, PlanError, ScheduleSource, read_plan};
-use dc_schedule::{ReadError, generate, read};
+use dc_plan::{Key, Plan, PlanError, PlanFault, ScheduleSource, read_plan};
+use dc_schedule::{ReadError, generate, read, read_turns};
 use std::alloc::{AllocError, Global};
 
 /// All the bytes of a file of the command.
@@ -62,6 +66,25 @@ fn plan_at<L: Library>(alloc: Global, lib: &mut L, name: &str) -> Result<Plan, R
         Err(PlanError::Refused(fault)) => Err(Refusal::Plan(fault)),
         Err(PlanError::Memory) => Err(Refusal::Memory),
     }
+}
+
+/// A plan that leaves what is to be written, or why it does not: a journal is of turns alone, and a seed would stop processes too.
+fn allowed_by(ledger: Ledger, plan: Plan) -> Result<Plan, Refusal>
+    ensures told { Agrees plan_view result (allowed_by ledger (plan_view plan)) }
+    ensures same { IfOk result (λ allowed. allowed ≡ plan) }
+    ensures none { IfOk result (λ allowed. ledger ≡ Ledger.Journal → allowed.stops.items ≡ []) }
+    ensures which { (w : Whose) → ¬ (result ≡ Err (Refusal.Library w)) }
+{
+    if ledger == Ledger::Report {
+        return Ok(plan);
+    }
+    if let ScheduleSource::Seed(_) = plan.schedule {
+        return Err(Refusal::Plan(PlanFault::Range(Key::Seed)));
+    }
+    if !plan.stops.is_empty() {
+        return Err(Refusal::Plan(PlanFault::Range(Key::Stop)));
+    }
+    Ok(plan)
 }
 
 /// How many bytes an image has. They are bytes, and its entry is a word.
@@ -137,16 +160,31 @@ fn load_guests<L: Library>(
     Ok(images)
 }
 
+/// The entries of a text, for `n` guests: of a run that is to leave its journal turns alone.
+fn entries_in(alloc: Global, ledger: Ledger, n: u32, text: &[u8]) -> Result<Vec<Entry>, ReadError>
+    requires { 0 < n }
+    ensures exact { Reads result (entries_of ledger n text.now) }
+    ensures schedule { IfOk result (λ entries. IsSchedule n entries.items) }
+    ensures turns { IfOk result (λ entries. ledger ≡ Ledger.Journal → AreTurns entries.items) }
+{
+    match ledger {
+        Ledger::Report => read(alloc, text, n),
+        Ledger::Journal => read_turns(alloc, text, n),
+    }
+}
+
 /// The schedule of the file of that name, for `n` guests.
 fn schedule_at<L: Library>(
     alloc: Global,
     lib: &mut L,
+    ledger: Ledger,
     n: u32,
     name: &str,
 ) -> Result<Vec<Entry>, Refusal>
     requires { 0 < n }
-    ensures told { (files : Files) → L.files lib.old ≡ Some files → Agrees (λ entries. entries.items) result (schedule_in files n (InFile name.now)) }
+    ensures told { (files : Files) → L.files lib.old ≡ Some files → Agrees (λ entries. entries.items) result (schedule_in files ledger n (InFile name.now)) }
     ensures schedule { IfOk result (λ entries. IsSchedule n entries.items) }
+    ensures turns { IfOk result (λ entries. ledger ≡ Ledger.Journal → AreTurns entries.items) }
     ensures which { (w : Whose) → IsErrOf result (Refusal.Library w) → w ≡ Which.Schedule }
     ensures there { (files : Files) (w : Whose) → L.files lib.old ≡ Some files → IsErrOf result (Refusal.Library w) → IsSome (files name.now) }
     ensures files { OnOk result (L.files lib.new ≡ L.files lib.old) }
@@ -154,7 +192,7 @@ fn schedule_at<L: Library>(
     ensures library { LibraryKept (L.files lib.old) (L.files lib.new) (L.faults lib.old) (L.faults lib.new) }
 {
     let text = fetch(alloc, lib, Which::Schedule, name)?;
-    match read(alloc, &text, n) {
+    match entries_in(alloc, ledger, n, &text) {
         Ok(entries) => Ok(entries),
         Err(ReadError::Refused(fault)) => Err(Refusal::Schedule(fault)),
         Err(ReadError::Memory) => Err(Refusal::Memory),
@@ -165,13 +203,15 @@ fn schedule_at<L: Library>(
 fn schedule_from<L: Library>(
     alloc: Global,
     lib: &mut L,
+    ledger: Ledger,
     n: u32,
     source: &ScheduleSource,
 ) -> Result<Vec<Entry>, Refusal>
     requires some { 0 < n }
     requires allowed { IsSourceAllowed (source_view source.now) }
-    ensures told { (files : Files) → L.files lib.old ≡ Some files → Agrees (λ entries. entries.items) result (schedule_in files n (source_view source.now)) }
+    ensures told { (files : Files) → L.files lib.old ≡ Some files → Agrees (λ entries. entries.items) result (schedule_in files ledger n (source_view source.now)) }
     ensures schedule { IfOk result (λ entries. IsSchedule n entries.items) }
+    ensures turns { IfOk result (λ entries. ledger ≡ Ledger.Journal → is_seed (source_view source.now) ≡ false → AreTurns entries.items) }
     ensures which { (w : Whose) → IsErrOf result (Refusal.Library w) → w ≡ Which.Schedule }
     ensures there { (files : Files) (w : Whose) → L.files lib.old ≡ Some files → IsErrOf result (Refusal.Library w) → IsSourceThere files (source_view source.now) }
     ensures files { OnOk result (L.files lib.new ≡ L.files lib.old) }
@@ -179,7 +219,7 @@ fn schedule_from<L: Library>(
     ensures library { LibraryKept (L.files lib.old) (L.files lib.new) (L.faults lib.old) (L.faults lib.new) }
 {
     match source {
-        ScheduleSource::File(name) => schedule_at(alloc, lib, n, name),
+        ScheduleSource::File(name) => schedule_at(alloc, lib, ledger, n, name),
         ScheduleSource::Seed(seed) => match generate(alloc, seed.start, seed.turns, n) {
             Ok(entries) => Ok(entries),
             Err(AllocError) => Err(Refusal::Memory),
@@ -188,9 +228,16 @@ fn schedule_from<L: Library>(
 }
 
 /// With the plan.
-fn open_plan<L: Library>(alloc: Global, lib: &mut L, plan: Plan) -> Result<Setting, Refusal>
+fn open_plan<L: Library>(
+    alloc: Global,
+    lib: &mut L,
+    ledger: Ledger,
+    plan: Plan,
+) -> Result<Setting, Refusal>
     requires { IsAllowed (plan_view plan) }
-    ensures told { (files : Files) → L.files lib.old ≡ Some files → Agrees setting_of result (opening_at_plan files (plan_view plan)) }
+    ensures told { (files : Files) → L.files lib.old ≡ Some files → Agrees setting_of result (opening_at_plan files ledger (plan_view plan)) }
+    ensures ledger { IfOk result (λ s. (s.ledger ≡ ledger) × (s.stops ≡ plan.stops)) }
+    ensures turns { IfOk result (λ s. ledger ≡ Ledger.Journal → is_seed (plan_view plan).schedule ≡ false → AreTurns s.schedule.items) }
     ensures medium { IfOk result (λ s. s.medium ≡ plan.medium) }
     ensures given { IfOk result (λ s. IsGivenRun (map seen_image s.images.items) (lists_of s.inputs.items) s.schedule.items) }
     ensures reached { (files : Files) (w : Whose) → L.files lib.old ≡ Some files → IsErrOf result (Refusal.Library w) → AsksAtPlan files (plan_view plan) w }
@@ -200,8 +247,9 @@ fn open_plan<L: Library>(alloc: Global, lib: &mut L, plan: Plan) -> Result<Setti
 {
     let images = load_guests(alloc, lib, plan.memory, &plan.guests)?;
     let n = images.len() as u32;
-    let schedule = schedule_from(alloc, lib, n, &plan.schedule)?;
+    let schedule = schedule_from(alloc, lib, ledger, n, &plan.schedule)?;
     Ok(Setting {
+        ledger,
         protocol: plan.protocol,
         medium: plan.medium,
         images,
@@ -211,16 +259,19 @@ fn open_plan<L: Library>(alloc: Global, lib: &mut L, plan: Plan) -> Result<Setti
     })
 }
 
-/// What the files open the run of that plan with, or the first refusal.
-pub fn open<L: Library>(alloc: Global, plan: &str, lib: &mut L) -> Result<Setting, Refusal>
-    ensures told { (files : Files) → L.files lib.old ≡ Some files → Agrees setting_of result (opening_of files plan.now) }
-    ensures medium { (files : Files) → L.files lib.old ≡ Some files → IfOk result (λ s. medium_at files plan.now ≡ s.medium) }
+/// What the files open the run of an order with, or the first refusal.
+pub fn open<L: Library>(alloc: Global, order: &Order, lib: &mut L) -> Result<Setting, Refusal>
+    ensures told { (files : Files) → L.files lib.old ≡ Some files → Agrees setting_of result (opening_of files (order_view order.now)) }
+    ensures medium { (files : Files) → L.files lib.old ≡ Some files → IfOk result (λ s. medium_at files order.now.plan.now ≡ s.medium) }
+    ensures ledger { IfOk result (λ s. s.ledger ≡ order.now.ledger) }
+    ensures turns { IfOk result (λ s. s.ledger ≡ Ledger.Journal → AreTurns s.schedule.items × (s.stops.items ≡ [])) }
     ensures given { IfOk result (λ s. IsGivenRun (map seen_image s.images.items) (lists_of s.inputs.items) s.schedule.items) }
-    ensures reached { (files : Files) (w : Whose) → L.files lib.old ≡ Some files → IsErrOf result (Refusal.Library w) → AsksToRun files plan.now w }
+    ensures reached { (files : Files) (w : Whose) → L.files lib.old ≡ Some files → IsErrOf result (Refusal.Library w) → AsksToRun files (order_view order.now) w }
     ensures files { OnOk result (L.files lib.new ≡ L.files lib.old) }
     ensures fault { (w : Whose) → IsErrOf result (Refusal.Library w) → Rose (L.faults lib.old) (L.faults lib.new) }
     ensures library { LibraryKept (L.files lib.old) (L.files lib.new) (L.faults lib.old) (L.faults lib.new) }
 {
-    let plan = plan_at(alloc, lib, plan)?;
-    open_plan(alloc, lib, plan)
+    let read = plan_at(alloc, lib, order.plan)?;
+    let plan = allowed_by(order.ledger, read)?;
+    open_plan(alloc, lib, order.ledger, plan)
 }

@@ -11,7 +11,7 @@ ghost use Rattle.dc_media.specs.Told.{TellsOn};
 ghost use Rattle.dc_plan.specs.Faults.{fault_text as plan_fault_text};
 ghost use Rattle.dc_schedule.specs.Schedules.{kind_text as schedule_kind_text};
 ghost use Rattle.dc_run.specs.Headline.{Concludes, course};
-ghost use Rattle.dc_run.specs.Outcomes.{IsNothing, counts_text, device_fault_text, done_text, meant_for, meant_text, not_saved_text, outcome_line, outlet_text, refused_guest_text, refused_store_text, refused_text, status_of, verdict_text, which_text};
+ghost use Rattle.dc_run.specs.Outcomes.{IsNothing, counts_text, device_fault_text, device_stop_text, done_text, meant_for, meant_text, not_saved_text, outcome_line, outlet_text, refused_guest_text, refused_store_text, refused_text, status_of, verdict_text, which_text};
 
 use crate::{
     AsmFault, AuditFault, Did, ElfFault, Outlet, PlanFault, ReportFault, ScheduleFault, StoreFault,
@@ -69,6 +69,7 @@ impl Outcome {
             Verdict::Missing(_) => 5,
             Verdict::LibraryFault(_) => 6,
             Verdict::DeviceFault(_) => 7,
+            Verdict::DeviceStopped(_) => 17,
             Verdict::SinkFault(_) => 8,
             Verdict::NotARun(_) => 9,
             Verdict::Differs(_) => 9,
@@ -106,14 +107,14 @@ impl Outcome {
     fn push_verdict(&self, line: &mut Line)
         requires { length line.old ≤ 4 }
         ensures text { line.new ≡ line.old ++ verdict_text self.now.verdict self.now.did (length self.now.acts.items) self.now.lines }
-        ensures length { length line.new ≤ length line.old + 90 }
+        ensures length { length line.new ≤ length line.old + 100 }
     {
         match self.verdict {
             Verdict::Done => self.push_done(line),
             Verdict::Unfinished => self.push_counts(line, b"unfinished ", self.lines),
             Verdict::Usage => {
                 line.push(
-                    b"usage: dc run PLAN | dc check PLAN REPORT OUT | dc asm SOURCE | dc audit JOURNAL",
+                    b"usage: dc run PLAN | dc check PLAN REPORT OUT | dc asm SOURCE | dc journal PLAN | dc audit JOURNAL",
                 );
             }
             Verdict::PlanRefused(fault) => push_plan_fault(line, fault),
@@ -121,6 +122,7 @@ impl Outcome {
             Verdict::Missing(which) => push_which(line, b"missing: ", which),
             Verdict::LibraryFault(which) => push_which(line, b"library failed: ", which),
             Verdict::DeviceFault(p) => push_device_fault(line, p),
+            Verdict::DeviceStopped(p) => push_device_stop(line, p),
             Verdict::SinkFault(outlet) => push_both(line, b"sink failed: ", outlet_name(outlet)),
             Verdict::NotARun(position) => push_at(line, b"not a run: act ", u64::from(position)),
             Verdict::Differs(number) => push_at(line, b"differs: line ", number),
@@ -138,7 +140,7 @@ impl Outcome {
     fn push_done(&self, line: &mut Line)
         requires { length line.old ≤ 4 }
         ensures text { line.new ≡ line.old ++ done_text self.now.did (length self.now.acts.items) self.now.lines }
-        ensures length { length line.new ≤ length line.old + 90 }
+        ensures length { length line.new ≤ length line.old + 100 }
     {
         match self.did {
             Did::Nothing => self.push_counts(line, b"done ", self.lines),
@@ -162,7 +164,7 @@ impl Outcome {
         requires line { length line.old ≤ 4 }
         requires name { length name.now ≤ 11 }
         ensures text { line.new ≡ line.old ++ counts_text name.now (length self.now.acts.items) lines }
-        ensures length { length line.new ≤ length line.old + 90 }
+        ensures length { length line.new ≤ length line.old + 100 }
     {
         line.push(name);
         line.push_number(u64::from(self.acts.len()));
@@ -174,7 +176,7 @@ impl Outcome {
 
 /// What is said of the command that was probably meant.
 fn push_meant(line: &mut Line, meant: Option<CommandName>)
-    requires { length line.old ≤ 94 }
+    requires { length line.old ≤ 104 }
     ensures text { line.new ≡ line.old ++ meant_text meant }
     ensures length { length line.new ≤ length line.old + 30 }
 {
@@ -191,7 +193,7 @@ fn push_both(line: &mut Line, what: &[u8], name: &[u8])
     requires what { length what.now ≤ 16 }
     requires name { length name.now ≤ 16 }
     ensures text { line.new ≡ line.old ++ (what.now ++ name.now) }
-    ensures length { length line.new ≤ length line.old + 90 }
+    ensures length { length line.new ≤ length line.old + 100 }
 {
     line.push(what);
     line.push(name);
@@ -202,7 +204,7 @@ fn push_at(line: &mut Line, what: &[u8], number: u64)
     requires line { length line.old ≤ 4 }
     requires what { length what.now ≤ 16 }
     ensures text { line.new ≡ line.old ++ (what.now ++ decimal number) }
-    ensures length { length line.new ≤ length line.old + 90 }
+    ensures length { length line.new ≤ length line.old + 100 }
 {
     line.push(what);
     line.push_number(number);
@@ -214,7 +216,7 @@ fn push_refused(line: &mut Line, what: &[u8], number: u64, kind: &[u8])
     requires what { length what.now ≤ 16 }
     requires kind { length kind.now ≤ 16 }
     ensures text { line.new ≡ line.old ++ refused_text what.now number kind.now }
-    ensures length { length line.new ≤ length line.old + 90 }
+    ensures length { length line.new ≤ length line.old + 100 }
 {
     line.push(what);
     line.push(b" line ");
@@ -226,7 +228,7 @@ fn push_refused(line: &mut Line, what: &[u8], number: u64, kind: &[u8])
 fn push_schedule_fault(line: &mut Line, fault: ScheduleFault)
     requires { length line.old ≤ 4 }
     ensures text { line.new ≡ line.old ++ refused_text (codes "schedule") fault.line (schedule_kind_text fault.kind) }
-    ensures length { length line.new ≤ length line.old + 90 }
+    ensures length { length line.new ≤ length line.old + 100 }
 {
     let kind = fault.kind.text().as_bytes();
     push_refused(line, b"schedule", u64::from(fault.line), kind);
@@ -235,7 +237,7 @@ fn push_schedule_fault(line: &mut Line, fault: ScheduleFault)
 fn push_report_fault(line: &mut Line, fault: ReportFault)
     requires { length line.old ≤ 4 }
     ensures text { line.new ≡ line.old ++ refused_text (codes "report") fault.line (report_kind_text fault.kind) }
-    ensures length { length line.new ≤ length line.old + 90 }
+    ensures length { length line.new ≤ length line.old + 100 }
 {
     let kind = fault.kind.text().as_bytes();
     push_refused(line, b"report", u64::from(fault.line), kind);
@@ -244,7 +246,7 @@ fn push_report_fault(line: &mut Line, fault: ReportFault)
 fn push_asm_fault(line: &mut Line, fault: AsmFault)
     requires { length line.old ≤ 4 }
     ensures text { line.new ≡ line.old ++ refused_text (codes "source") fault.line (asm_kind_text fault.kind) }
-    ensures length { length line.new ≤ length line.old + 90 }
+    ensures length { length line.new ≤ length line.old + 100 }
 {
     let kind = fault.kind.text().as_bytes();
     push_refused(line, b"source", fault.line, kind);
@@ -253,7 +255,7 @@ fn push_asm_fault(line: &mut Line, fault: AsmFault)
 fn push_journal_fault(line: &mut Line, fault: AuditFault)
     requires { length line.old ≤ 4 }
     ensures text { line.new ≡ line.old ++ refused_text (codes "journal") fault.line (journal_kind_text fault.kind) }
-    ensures length { length line.new ≤ length line.old + 90 }
+    ensures length { length line.new ≤ length line.old + 100 }
 {
     let kind = fault.kind.text().as_bytes();
     push_refused(line, b"journal", u64::from(fault.line), kind);
@@ -262,7 +264,7 @@ fn push_journal_fault(line: &mut Line, fault: AuditFault)
 fn push_not_saved(line: &mut Line, event: u64, at: u64)
     requires { length line.old ≤ 4 }
     ensures text { line.new ≡ line.old ++ not_saved_text event at }
-    ensures length { length line.new ≤ length line.old + 90 }
+    ensures length { length line.new ≤ length line.old + 100 }
 {
     line.push(b"not saved: line ");
     line.push_number(event);
@@ -275,7 +277,7 @@ fn push_which(line: &mut Line, what: &[u8], which: Which)
     requires line { length line.old ≤ 4 }
     requires what { length what.now ≤ 16 }
     ensures text { line.new ≡ line.old ++ what.now ++ which_text which }
-    ensures length { length line.new ≤ length line.old + 90 }
+    ensures length { length line.new ≤ length line.old + 100 }
 {
     line.push(what);
     match which {
@@ -295,7 +297,7 @@ fn push_which(line: &mut Line, what: &[u8], which: Which)
 fn push_plan_fault(line: &mut Line, fault: PlanFault)
     requires { length line.old ≤ 4 }
     ensures text { line.new ≡ line.old ++ (codes "plan refused: " ++ plan_fault_text fault) }
-    ensures length { length line.new ≤ length line.old + 90 }
+    ensures length { length line.new ≤ length line.old + 100 }
 {
     line.push(b"plan refused: ");
     push_plan_kind(line, fault);
@@ -315,7 +317,7 @@ fn push_plan_kind(line: &mut Line, fault: PlanFault)
 fn push_guest_fault(line: &mut Line, p: u32, fault: ElfFault)
     requires { length line.old ≤ 4 }
     ensures text { line.new ≡ line.old ++ refused_guest_text p fault }
-    ensures length { length line.new ≤ length line.old + 90 }
+    ensures length { length line.new ≤ length line.old + 100 }
 {
     line.push(b"guest ");
     line.push_number(u64::from(p));
@@ -337,17 +339,27 @@ fn push_elf_fault(line: &mut Line, fault: ElfFault)
 fn push_device_fault(line: &mut Line, p: u32)
     requires { length line.old ≤ 4 }
     ensures text { line.new ≡ line.old ++ device_fault_text p }
-    ensures length { length line.new ≤ length line.old + 90 }
+    ensures length { length line.new ≤ length line.old + 100 }
 {
     line.push(b"device of ");
     line.push_number(u64::from(p));
     line.push(b" failed");
 }
 
+fn push_device_stop(line: &mut Line, p: u32)
+    requires { length line.old ≤ 4 }
+    ensures text { line.new ≡ line.old ++ device_stop_text p }
+    ensures length { length line.new ≤ length line.old + 100 }
+{
+    line.push(b"device of ");
+    line.push_number(u64::from(p));
+    line.push(b" stopped");
+}
+
 fn push_store_fault(line: &mut Line, p: u32, fault: StoreFault)
     requires { length line.old ≤ 4 }
     ensures text { line.new ≡ line.old ++ refused_store_text p fault }
-    ensures length { length line.new ≤ length line.old + 90 }
+    ensures length { length line.new ≤ length line.old + 100 }
 {
     line.push(b"store of ");
     line.push_number(u64::from(p));

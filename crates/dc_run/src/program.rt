@@ -1,9 +1,10 @@
-ghost use Rattle.std.specs.Prelude.{◌≡◌, ◌⊎◌, ◌≤◌, ◌<◌, ◌^◌, ℕ, Err, None, Some, false, true, IfOk, IfSome, IsOkAnd, IsSomeAnd, List, OnErr, length};
+ghost use Rattle.std.specs.Prelude.{◌≡◌, [], ◌⊎◌, ◌≤◌, ◌<◌, ◌^◌, ℕ, All, Err, None, Some, false, true, IfOk, IfSome, IsOkAnd, IsSomeAnd, List, OnErr, length};
 ghost use Rattle.dc_report.specs.Reports.{report_text};
 ghost use Rattle.dc_asm.specs.declared.forms.Meant.{Meant};
-ghost use Rattle.dc_audit.specs.Reading.{IsVerdict, Journal};
+ghost use Rattle.dc_audit.specs.Journals.{IsOfSixteen};
+ghost use Rattle.dc_audit.specs.Reading.{IsVerdict, Journal as Journals};
 ghost use Rattle.dc_audit.specs.declared.verdict.Verdict.TheVariants as found;
-ghost use Rattle.dc_course.specs.Courses.{account_of};
+ghost use Rattle.dc_course.specs.Courses.{account_of, journal_in};
 ghost use Rattle.dc_course.specs.Headline.{Setting as Settings};
 ghost use Rattle.dc_course.specs.Running.{output};
 ghost use Rattle.dc_course.specs.Lent.{AreLeftFrom, KeepsTold};
@@ -11,20 +12,23 @@ ghost use Rattle.dc_course.specs.declared.ending.Ending.TheVariants as endings;
 ghost use Rattle.dc_world.specs.Opened.{IsCalmUnlessStopped};
 ghost use Rattle.dc_world.specs.declared.faults.OpenFault.TheVariants as opening;
 ghost use Rattle.dc_limits.specs.declared.sizes.TheConstants.{PROCESSES};
-ghost use Rattle.dc_media.specs.Causes.{Rose};
+ghost use Rattle.dc_media.specs.Causes.{HasCause, Rose};
+ghost use Rattle.dc_media.specs.Sinks.{TakesWhole};
 ghost use Rattle.dc_media.specs.Devices.{of_disks, of_words};
 ghost use Rattle.dc_media.specs.Told.{TellsOn};
 ghost use Rattle.dc_run.specs.Assembling.{IsAssembled};
 ghost use Rattle.dc_run.specs.Auditing.{IsAudited};
 ghost use Rattle.dc_run.specs.Checking.{Checked, IsChecked, TellsDifference, TellsLine};
-ghost use Rattle.dc_command.specs.Command.{Names, asked_of};
+ghost use Rattle.dc_command.specs.Command.{Names, asked_of, order_view, to_run};
+ghost use Rattle.dc_command.specs.declared.command.Ledger.{Ledger as Ledgers};
 ghost use Rattle.dc_command.specs.Command.Asked.{ToAssemble, ToAudit, ToCheck, ToRun};
 ghost use Rattle.dc_run.specs.Commands.{AreCalm, Asks, AsksToRunPlan, IfAssembly, IfAudit, IfCheck, IfFound, IfRun, IsCarriedOut, IsExact, IsOpenedFor, TellsFor, may_end, medium_of, stores_used, unasked_by, work_by, work_of};
-ghost use Rattle.dc_run.specs.Headline.{IsKept, IsReported, Reports, course, loan, unopened_by, unreported, verdict_at};
-ghost use Rattle.dc_run.specs.Media.{HasFailed, IsOtherSame, devices_of, lent};
+ghost use Rattle.dc_run.specs.Headline.{account_of as outcome_account};
+ghost use Rattle.dc_run.specs.Headline.{IsKept, IsReported, Reports, course, is_used_up, keeps_journal, ledger_text, loan, unopened_by, unreported, verdict_at};
+ghost use Rattle.dc_run.specs.Media.{HasFailed, HasStopped, IsOtherSame, devices_of, lent};
 ghost use Rattle.dc_run.specs.Opening.{AsksToRun, medium_at, opening_of};
 ghost use Rattle.dc_run.specs.Outcomes.{IsNothing, status_of};
-ghost use Rattle.dc_run.specs.Passing.{WritesPassing};
+ghost use Rattle.dc_run.specs.Passing.{WritesPassing, WritesSaved};
 ghost use Rattle.dc_run.specs.Refusals.{as_verdict};
 ghost use Rattle.dc_run.specs.Settings.{LibraryKept, has_run, is_of_run, is_refusal, may_have_run, setting_of, was_opened};
 ghost use Rattle.dc_plan.specs.declared.plan.Medium.{Medium as Media};
@@ -39,10 +43,11 @@ use crate::outcome::Outcome;
 use crate::refusal::verdict_of;
 use crate::setting::Setting;
 use crate::{Did, Outlet, Verdict};
-use dc_command::{Asked, CommandFault, command_in};
-use dc_course::{Course, Ending};
+use dc_command::{Asked, CommandFault, Ledger, Order, command_in};
+use dc_course::{Course, Ending, Journal};
 use dc_disk::run_on_disks;
-use dc_media::{Disks, Keeps, Library, Sink};
+use dc_journal::write_journal;
+use dc_media::{Disks, Keeps, Library, Sink, SinkFailed};
 use dc_plan::Medium;
 use dc_report::write_report;
 use dc_rio::run_on_memory;
@@ -53,7 +58,8 @@ use std::alloc::Global;
 ///
 /// `run PLAN` fetches the plan, its guests and its schedule from the library, or draws the schedule from a seed, makes a store for each
 /// guest in `keeps` or on `disks`, as the plan's medium says, runs the entries in order, lets processes stop where the plan or the schedule says so and recover, writes the lines
-/// of their visible records to `out`, and last the report of the run to `report`. `check PLAN REPORT OUT` fetches what a run is opened
+/// of their visible records to `out`, and last the report of the run to `report`. `journal PLAN` does the same with the journal of the run in place of its report: it
+/// takes turns alone, of a schedule without stops, and ends at the first stop of a device. `check PLAN REPORT OUT` fetches what a run is opened
 /// with, then a report and an output, plays the report's acts in the failure-free world, compares the output's lines with those that they
 /// show, and writes `ok`, the counts of acts and of visible records to `out` where both belong together. `asm SOURCE` fetches the source,
 /// assembles it and writes the ELF file to `out`. `audit JOURNAL` fetches the journal, and writes `ok` and the count of its events to `out` where it
@@ -85,26 +91,33 @@ pub fn dc<L: Library, K: Keeps, D: Disks, O: Sink, R: Sink>(
     ensures library_asked { (which : Whose) → IfSome (L.files lib.old) (λ files. result.verdict ≡ Verdict.LibraryFault which → Asks files words.now which) }
     ensures device_fault { (p : ℕ) → result.verdict ≡ Verdict.DeviceFault p → Rose (K.faults keeps.old p) (K.faults keeps.new p) ⊎ Rose (D.faults disks.old p) (D.faults disks.new p) }
     ensures medium_fault { IfSome (L.files lib.old) (λ files. (p : ℕ) → result.verdict ≡ Verdict.DeviceFault p → HasFailed (devices_of K.Keeps D.Disks (medium_of files words.now)) (lent keeps.old disks.old) (lent keeps.new disks.new) p) }
+    ensures stopped_alone { (p : ℕ) → result.verdict ≡ Verdict.DeviceStopped p → (plan : List ℕ) × (asked_of words.now ≡ Some (to_run Ledger.Journal plan)) }
     ensures wanting { result.verdict ≡ Verdict.WantOfMemory → (p : ℕ) → IsCalmUnlessStopped K.stops K.faults p keeps.old keeps.new × IsCalmUnlessStopped D.stops D.faults p disks.old disks.new }
+    ensures device_stop { (p : ℕ) → result.verdict ≡ Verdict.DeviceStopped p → Rose (K.stops keeps.old p) (K.stops keeps.new p) ⊎ Rose (D.stops disks.old p) (D.stops disks.new p) }
     ensures output_fault { result.verdict ≡ Verdict.SinkFault Outlet.Out → Rose (O.faults out.old) (O.faults out.new) }
     ensures report_fault { result.verdict ≡ Verdict.SinkFault Outlet.Report → Rose (R.faults report.old) (R.faults report.new) }
 
     // What users see of a run that was opened, and its report.
-    ensures headline { result.did ≡ Did.Run → IfSome (L.files lib.old) (λ files. IsOkAnd (work_of files words.now) (λ work. IfRun work (λ setting.
-        IsReported (devices_of K.Keeps D.Disks (medium_of files words.now)) setting result (loan (lent keeps.old disks.old) (lent keeps.new disks.new)) (course (O.held out.old) (O.held out.new) (O.faults out.old) (O.faults out.new))
+    ensures headline { result.did ≡ Did.Run → IfSome (L.files lib.old) (λ files. IsOkAnd (work_of files words.now) (λ work. IfRun work (λ ledger setting.
+        IsReported ledger (devices_of K.Keeps D.Disks (medium_of files words.now)) setting result (loan (lent keeps.old disks.old) (lent keeps.new disks.new)) (course (O.held out.old) (O.held out.new) (O.faults out.old) (O.faults out.new))
         (course (R.held report.old) (R.held report.new) (R.faults report.old) (R.faults report.new))))) }
 
-    // What a run wrote on sinks that held nothing and did not fail passes the check of it, wherever files hold it.
-    ensures passes { result.did ≡ Did.Run → IfSome (L.files lib.old) (λ files. IsOkAnd (work_of files words.now) (λ work. IfRun work (λ setting.
-        (devices_of K.Keeps D.Disks (medium_of files words.now)).tell (length setting.images) (lent keeps.old disks.old) (lent keeps.new disks.new) → WritesPassing setting (course (O.held out.old) (O.held out.new) (O.faults out.old) (O.faults out.new))
+    // What a run wrote on sinks that held nothing and did not fail passes the check of it, wherever files hold it. The journal that it wrote in place of its
+    // report, where its schedule was used up, has Save-work: an audit of it answers so.
+    ensures passes { result.did ≡ Did.Run → IfSome (L.files lib.old) (λ files. IsOkAnd (work_of files words.now) (λ work. IfRun work (λ ledger setting.
+        ledger ≡ Ledger.Report → (devices_of K.Keeps D.Disks (medium_of files words.now)).tell (length setting.images) (lent keeps.old disks.old) (lent keeps.new disks.new) → WritesPassing setting (course (O.held out.old) (O.held out.new) (O.faults out.old) (O.faults out.new))
         (course (R.held report.old) (R.held report.new) (R.faults report.old) (R.faults report.new)) result.acts.items))) }
+
+    ensures saves { result.did ≡ Did.Run → IfSome (L.files lib.old) (λ files. IsOkAnd (work_of files words.now) (λ work. IfRun work (λ ledger setting.
+        ledger ≡ Ledger.Journal → (devices_of K.Keeps D.Disks (medium_of files words.now)).tell (length setting.images) (lent keeps.old disks.old) (lent keeps.new disks.new) → is_used_up result.verdict ≡ true →
+        WritesSaved setting (course (R.held report.old) (R.held report.new) (R.faults report.old) (R.faults report.new))))) }
 
     // The same where the files are not told: there is a medium and a setting of which it holds. Words that ask to run a plan do a run or nothing: a
     // run wherever the verdict is one of a run and no fault of a device. No other words come to a run, or to a verdict that only runs have.
-    ensures ran { result.did ≡ Did.Run → (medium : Media) × (setting : Settings) ×
-        IsReported (devices_of K.Keeps D.Disks medium) setting result (loan (lent keeps.old disks.old) (lent keeps.new disks.new)) (course (O.held out.old) (O.held out.new) (O.faults out.old) (O.faults out.new))
+    ensures ran { result.did ≡ Did.Run → (ledger : Ledgers) × (medium : Media) × (setting : Settings) ×
+        IsReported ledger (devices_of K.Keeps D.Disks medium) setting result (loan (lent keeps.old disks.old) (lent keeps.new disks.new)) (course (O.held out.old) (O.held out.new) (O.faults out.old) (O.faults out.new))
         (course (R.held report.old) (R.held report.new) (R.faults report.old) (R.faults report.new)) }
-    ensures did { (plan : List ℕ) → asked_of words.now ≡ Some (ToRun plan) → has_run result.verdict ≡ true → result.did ≡ Did.Run }
+    ensures did { AsksToRunPlan words.now → has_run result.verdict ≡ true → result.did ≡ Did.Run }
     ensures did_run { AsksToRunPlan words.now → (result.did ≡ Did.Run) ⊎ (result.did ≡ Did.Nothing) }
     ensures runs_alone { (result.did ≡ Did.Run) ⊎ (is_of_run result.verdict ≡ true) → AsksToRunPlan words.now }
     ensures idle { may_have_run result.verdict ≡ false → result.did ≡ Did.Nothing }
@@ -130,11 +143,11 @@ pub fn dc<L: Library, K: Keeps, D: Disks, O: Sink, R: Sink>(
     ensures audited { was_opened result.verdict ≡ true → IfSome (L.files lib.old) (λ files. IsOkAnd (work_of files words.now) (λ work. IfAudit work (λ said.
         IsAudited said result (O.held out.old) (O.held out.new) × (report.new ≡ report.old)))) }
     ensures audit { (journal : List ℕ) → asked_of words.now ≡ Some (ToAudit journal) → was_opened result.verdict ≡ true →
-        (said : Journal) × IsAudited said result (O.held out.old) (O.held out.new) × (report.new ≡ report.old) }
+        (said : Journals) × IsAudited said result (O.held out.old) (O.held out.new) × (report.new ≡ report.old) }
     ensures unsaved { (event line : ℕ) → result.verdict ≡ Verdict.NotSaved event line → IfSome (L.files lib.old) (λ files. IsOkAnd (work_of files words.now) (λ work. IfAudit work (λ said.
         IsVerdict said (found.NotSaved event line)))) }
     ensures unsaved_alone { (event line : ℕ) → result.verdict ≡ Verdict.NotSaved event line → (journal : List ℕ) × (asked_of words.now ≡ Some (ToAudit journal)) ×
-        ((said : Journal) × IsVerdict said (found.NotSaved event line)) }
+        ((said : Journals) × IsVerdict said (found.NotSaved event line)) }
 
     // What stays.
     ensures unopened { result.did ≡ Did.Nothing → IsNothing result × (out.new ≡ out.old) × (report.new ≡ report.old) }
@@ -146,13 +159,13 @@ pub fn dc<L: Library, K: Keeps, D: Disks, O: Sink, R: Sink>(
     // Of the stores of words and the disks those of one medium alone are called.
     ensures other { IfSome (L.files lib.old) (λ files. IsOtherSame (medium_of files words.now) (lent keeps.old disks.old) (lent keeps.new disks.new)) }
     ensures either { (keeps.new ≡ keeps.old) ⊎ (disks.new ≡ disks.old) }
-    ensures keeps { ((plan : List ℕ) → asked_of words.now ≡ Some (ToRun plan) → ⊥) → keeps.new ≡ keeps.old }
+    ensures keeps { (AsksToRunPlan words.now → ⊥) → keeps.new ≡ keeps.old }
     ensures keeps_refused { may_have_run result.verdict ≡ false → (result.verdict ≡ Verdict.WantOfMemory → ⊥) → keeps.new ≡ keeps.old }
     ensures keeps_later { (p : ℕ) → (K.stops keeps.old p ≤ K.stops keeps.new p) × (K.faults keeps.old p ≤ K.faults keeps.new p) }
     ensures keeps_tells { (p : ℕ) → KeepsTold (of_words K.Keeps) keeps.old keeps.new p }
     ensures keeps_others { IfSome (L.files lib.old) (λ files. AreLeftFrom (stores_used (work_of files words.now)) (of_words K.Keeps) keeps.old keeps.new) }
     ensures keeps_beyond { AreLeftFrom PROCESSES (of_words K.Keeps) keeps.old keeps.new }
-    ensures disks { ((plan : List ℕ) → asked_of words.now ≡ Some (ToRun plan) → ⊥) → disks.new ≡ disks.old }
+    ensures disks { (AsksToRunPlan words.now → ⊥) → disks.new ≡ disks.old }
     ensures disks_refused { may_have_run result.verdict ≡ false → (result.verdict ≡ Verdict.WantOfMemory → ⊥) → disks.new ≡ disks.old }
     ensures disks_later { (p : ℕ) → (D.stops disks.old p ≤ D.stops disks.new p) × (D.faults disks.old p ≤ D.faults disks.new p) }
     ensures disks_tells { (p : ℕ) → KeepsTold (of_disks D.Disks) disks.old disks.new p }
@@ -160,7 +173,7 @@ pub fn dc<L: Library, K: Keeps, D: Disks, O: Sink, R: Sink>(
     ensures disks_beyond { AreLeftFrom PROCESSES (of_disks D.Disks) disks.old disks.new }
 {
     match command_in(alloc, words) {
-        Ok(Asked::Run(plan)) => run_plan(alloc, plan, lib, keeps, disks, out, report),
+        Ok(Asked::Run(order)) => run_plan(alloc, &order, lib, keeps, disks, out, report),
         Ok(Asked::Check(names)) => check_output(alloc, &names, lib, out),
         Ok(Asked::Assemble(source)) => assemble_source(alloc, source, lib, out),
         Ok(Asked::Audit(journal)) => audit_journal(alloc, journal, lib, out),
@@ -190,27 +203,31 @@ fn verdict_at(ending: Ending) -> Verdict
         Ending::Device(p) => Verdict::DeviceFault(p),
         Ending::Store(p, fault) => Verdict::StoreRefused(p, fault),
         Ending::Sink => Verdict::SinkFault(Outlet::Out),
+        Ending::Stopped(p) => Verdict::DeviceStopped(p),
     }
 }
 
-/// The outcome of a run.
-fn outcome_of(course: Course) -> Outcome
-    ensures { result ≡ record { verdict = verdict_at course.ending; did = Did.Run; acts = course.acts; marks = course.marks; lines = course.lines; difference = None } }
+/// The outcome of a run, and its journal.
+fn outcome_of(course: Course) -> (Outcome, Journal)
+    ensures outcome { result.0 ≡ record { verdict = verdict_at course.ending; did = Did.Run; acts = course.acts; marks = course.marks; lines = course.lines; difference = None } }
+    ensures journal { result.1 ≡ course.journal }
 {
     let Course {
         acts,
         marks,
         lines,
+        journal,
         ending,
     } = course;
-    Outcome {
+    let outcome = Outcome {
         verdict: verdict_at(ending),
         did: Did::Run,
         acts,
         marks,
         lines,
         difference: None,
-    }
+    };
+    (outcome, journal)
 }
 
 /// What a run is answered that was not opened.
@@ -223,6 +240,13 @@ fn unopened(fault: OpenFault) -> Verdict
     }
 }
 
+/// Whether a run that is to write this keeps its journal.
+fn keeps_journal(ledger: Ledger) -> bool
+    ensures { result ≡ keeps_journal ledger }
+{
+    ledger == Ledger::Journal
+}
+
 /// Runs an opened plan on its medium.
 fn run_setting<K: Keeps, D: Disks, O: Sink>(
     alloc: Global,
@@ -232,6 +256,10 @@ fn run_setting<K: Keeps, D: Disks, O: Sink>(
     out: &mut O,
 ) -> Result<Course, OpenFault>
     ensures headline { IfOk result (λ run. IsKept (devices_of K.Keeps D.Disks setting.medium) (setting_of setting) (account_of run) run.ending (output (O.held out.old) (O.held out.new)) (loan (lent keeps.old disks.old) (lent keeps.new disks.new))) }
+    ensures stop { IfOk result (λ run. setting.stops.items ≡ [] → (p : ℕ) → run.ending ≡ endings.Stopped p → HasStopped (devices_of K.Keeps D.Disks setting.medium) (lent keeps.old disks.old) (lent keeps.new disks.new) p) }
+    ensures kept { IfOk result (λ run. run.journal.kept ≡ keeps_journal setting.ledger) }
+    ensures sixteen { IfOk result (λ run. All IsOfSixteen run.journal.lines.items) }
+    ensures unkept { IfOk result (λ run. keeps_journal setting.ledger ≡ false → (p : ℕ) → ¬ (run.ending ≡ endings.Stopped p)) }
     ensures device { IfOk result (λ run. (p : ℕ) → run.ending ≡ endings.Device p → HasFailed (devices_of K.Keeps D.Disks setting.medium) (lent keeps.old disks.old) (lent keeps.new disks.new) p) }
     ensures sink { IfOk result (λ run. run.ending ≡ endings.Sink → Rose (O.faults out.old) (O.faults out.new)) }
     ensures few { IfOk result (λ run. length run.marks.items < 2 ^ 32) }
@@ -251,6 +279,7 @@ fn run_setting<K: Keeps, D: Disks, O: Sink>(
     ensures other { IsOtherSame setting.medium (lent keeps.old disks.old) (lent keeps.new disks.new) }
 {
     let Setting {
+        ledger,
         protocol,
         medium,
         images,
@@ -263,41 +292,47 @@ fn run_setting<K: Keeps, D: Disks, O: Sink>(
         images,
         inputs,
     };
+    let kept = keeps_journal(ledger);
     match medium {
-        Medium::Rio => run_on_memory(alloc, setup, &schedule, stops, keeps, out),
-        Medium::Disk => run_on_disks(alloc, setup, &schedule, stops, disks, out),
+        Medium::Rio => run_on_memory(alloc, setup, &schedule, stops, kept, keeps, out),
+        Medium::Disk => run_on_disks(alloc, setup, &schedule, stops, kept, disks, out),
     }
 }
 
-/// Runs that plan.
+/// Runs the plan of an order, and writes what it asks for.
 fn run_plan<L: Library, K: Keeps, D: Disks, O: Sink, R: Sink>(
     alloc: Global,
-    plan: &str,
+    order: &Order,
     lib: &mut L,
     keeps: &mut K,
     disks: &mut D,
     out: &mut O,
     report: &mut R,
 ) -> Outcome
-    ensures refused { (refusal : Verdicts) → is_refusal refusal ≡ true → IfSome (L.files lib.old) (λ files. IsExact result.verdict refusal (as_verdict (opening_of files plan.now))) }
-    ensures opened { IfSome (L.files lib.old) (λ files. IsOpenedFor (λ setting v. may_have_run v) result.verdict (as_verdict (opening_of files plan.now))) }
+    ensures refused { (refusal : Verdicts) → is_refusal refusal ≡ true → IfSome (L.files lib.old) (λ files. IsExact result.verdict refusal (as_verdict (opening_of files (order_view order.now)))) }
+    ensures opened { IfSome (L.files lib.old) (λ files. IsOpenedFor (λ setting v. may_have_run v) result.verdict (as_verdict (opening_of files (order_view order.now)))) }
     ensures asked { ¬ (result.verdict ≡ Verdict.Usage) }
     ensures unsaved { (event line : ℕ) → ¬ (result.verdict ≡ Verdict.NotSaved event line) }
     ensures library_fault { (which : Whose) → result.verdict ≡ Verdict.LibraryFault which → Rose (L.faults lib.old) (L.faults lib.new) }
-    ensures library_asked { (which : Whose) → IfSome (L.files lib.old) (λ files. result.verdict ≡ Verdict.LibraryFault which → AsksToRun files plan.now which) }
+    ensures library_asked { (which : Whose) → IfSome (L.files lib.old) (λ files. result.verdict ≡ Verdict.LibraryFault which → AsksToRun files (order_view order.now) which) }
     ensures device_fault { (p : ℕ) → result.verdict ≡ Verdict.DeviceFault p → Rose (K.faults keeps.old p) (K.faults keeps.new p) ⊎ Rose (D.faults disks.old p) (D.faults disks.new p) }
-    ensures medium_fault { IfSome (L.files lib.old) (λ files. (p : ℕ) → result.verdict ≡ Verdict.DeviceFault p → HasFailed (devices_of K.Keeps D.Disks (medium_at files plan.now)) (lent keeps.old disks.old) (lent keeps.new disks.new) p) }
+    ensures medium_fault { IfSome (L.files lib.old) (λ files. (p : ℕ) → result.verdict ≡ Verdict.DeviceFault p → HasFailed (devices_of K.Keeps D.Disks (medium_at files order.now.plan.now)) (lent keeps.old disks.old) (lent keeps.new disks.new) p) }
     ensures wanting { result.verdict ≡ Verdict.WantOfMemory → (p : ℕ) → IsCalmUnlessStopped K.stops K.faults p keeps.old keeps.new × IsCalmUnlessStopped D.stops D.faults p disks.old disks.new }
+    ensures device_stop { (p : ℕ) → result.verdict ≡ Verdict.DeviceStopped p → Rose (K.stops keeps.old p) (K.stops keeps.new p) ⊎ Rose (D.stops disks.old p) (D.stops disks.new p) }
     ensures output_fault { result.verdict ≡ Verdict.SinkFault Outlet.Out → Rose (O.faults out.old) (O.faults out.new) }
     ensures report_fault { result.verdict ≡ Verdict.SinkFault Outlet.Report → Rose (R.faults report.old) (R.faults report.new) }
-    ensures headline { result.did ≡ Did.Run → IfSome (L.files lib.old) (λ files. IsOkAnd (as_verdict (opening_of files plan.now)) (λ setting.
-        IsReported (devices_of K.Keeps D.Disks (medium_at files plan.now)) setting result (loan (lent keeps.old disks.old) (lent keeps.new disks.new)) (course (O.held out.old) (O.held out.new) (O.faults out.old) (O.faults out.new))
+    ensures headline { result.did ≡ Did.Run → IfSome (L.files lib.old) (λ files. IsOkAnd (as_verdict (opening_of files (order_view order.now))) (λ setting.
+        IsReported order.now.ledger (devices_of K.Keeps D.Disks (medium_at files order.now.plan.now)) setting result (loan (lent keeps.old disks.old) (lent keeps.new disks.new)) (course (O.held out.old) (O.held out.new) (O.faults out.old) (O.faults out.new))
         (course (R.held report.old) (R.held report.new) (R.faults report.old) (R.faults report.new)))) }
-    ensures passes { result.did ≡ Did.Run → IfSome (L.files lib.old) (λ files. IsOkAnd (as_verdict (opening_of files plan.now)) (λ setting.
-        (devices_of K.Keeps D.Disks (medium_at files plan.now)).tell (length setting.images) (lent keeps.old disks.old) (lent keeps.new disks.new) → WritesPassing setting (course (O.held out.old) (O.held out.new) (O.faults out.old) (O.faults out.new))
+    ensures saves { result.did ≡ Did.Run → IfSome (L.files lib.old) (λ files. IsOkAnd (as_verdict (opening_of files (order_view order.now))) (λ setting.
+        order.now.ledger ≡ Ledger.Journal → (devices_of K.Keeps D.Disks (medium_at files order.now.plan.now)).tell (length setting.images) (lent keeps.old disks.old) (lent keeps.new disks.new) → is_used_up result.verdict ≡ true →
+        WritesSaved setting (course (R.held report.old) (R.held report.new) (R.faults report.old) (R.faults report.new)))) }
+    ensures stopped_alone { (p : ℕ) → result.verdict ≡ Verdict.DeviceStopped p → order.now.ledger ≡ Ledger.Journal }
+    ensures passes { result.did ≡ Did.Run → IfSome (L.files lib.old) (λ files. IsOkAnd (as_verdict (opening_of files (order_view order.now))) (λ setting.
+        order.now.ledger ≡ Ledger.Report → (devices_of K.Keeps D.Disks (medium_at files order.now.plan.now)).tell (length setting.images) (lent keeps.old disks.old) (lent keeps.new disks.new) → WritesPassing setting (course (O.held out.old) (O.held out.new) (O.faults out.old) (O.faults out.new))
         (course (R.held report.old) (R.held report.new) (R.faults report.old) (R.faults report.new)) result.acts.items)) }
-    ensures ran { result.did ≡ Did.Run → (medium : Media) × (setting : Settings) ×
-        IsReported (devices_of K.Keeps D.Disks medium) setting result (loan (lent keeps.old disks.old) (lent keeps.new disks.new)) (course (O.held out.old) (O.held out.new) (O.faults out.old) (O.faults out.new))
+    ensures ran { result.did ≡ Did.Run → (ledger : Ledgers) × (medium : Media) × (setting : Settings) ×
+        IsReported ledger (devices_of K.Keeps D.Disks medium) setting result (loan (lent keeps.old disks.old) (lent keeps.new disks.new)) (course (O.held out.old) (O.held out.new) (O.faults out.old) (O.faults out.new))
         (course (R.held report.old) (R.held report.new) (R.faults report.old) (R.faults report.new)) }
     ensures did { has_run result.verdict ≡ true → result.did ≡ Did.Run }
     ensures did_run { (result.did ≡ Did.Run) ⊎ (result.did ≡ Did.Nothing) }
@@ -309,25 +344,29 @@ fn run_plan<L: Library, K: Keeps, D: Disks, O: Sink, R: Sink>(
     ensures report_tells { TellsOn 0 (R.faults report.new) (R.held report.old) (R.held report.new) }
     ensures output_later { O.faults out.old ≤ O.faults out.new }
     ensures report_later { R.faults report.old ≤ R.faults report.new }
-    ensures other { IfSome (L.files lib.old) (λ files. IsOtherSame (medium_at files plan.now) (lent keeps.old disks.old) (lent keeps.new disks.new)) }
+    ensures other { IfSome (L.files lib.old) (λ files. IsOtherSame (medium_at files order.now.plan.now) (lent keeps.old disks.old) (lent keeps.new disks.new)) }
     ensures either { (keeps.new ≡ keeps.old) ⊎ (disks.new ≡ disks.old) }
     ensures keeps_refused { may_have_run result.verdict ≡ false → (result.verdict ≡ Verdict.WantOfMemory → ⊥) → keeps.new ≡ keeps.old }
     ensures keeps_later { (p : ℕ) → (K.stops keeps.old p ≤ K.stops keeps.new p) × (K.faults keeps.old p ≤ K.faults keeps.new p) }
     ensures keeps_tells { (p : ℕ) → KeepsTold (of_words K.Keeps) keeps.old keeps.new p }
-    ensures keeps_others { IfSome (L.files lib.old) (λ files. AreLeftFrom (stores_used (work_by files (ToRun plan.now))) (of_words K.Keeps) keeps.old keeps.new) }
+    ensures keeps_others { IfSome (L.files lib.old) (λ files. AreLeftFrom (stores_used (work_by files (ToRun (order_view order.now)))) (of_words K.Keeps) keeps.old keeps.new) }
     ensures keeps_beyond { AreLeftFrom PROCESSES (of_words K.Keeps) keeps.old keeps.new }
     ensures disks_refused { may_have_run result.verdict ≡ false → (result.verdict ≡ Verdict.WantOfMemory → ⊥) → disks.new ≡ disks.old }
     ensures disks_later { (p : ℕ) → (D.stops disks.old p ≤ D.stops disks.new p) × (D.faults disks.old p ≤ D.faults disks.new p) }
     ensures disks_tells { (p : ℕ) → KeepsTold (of_disks D.Disks) disks.old disks.new p }
-    ensures disks_others { IfSome (L.files lib.old) (λ files. AreLeftFrom (stores_used (work_by files (ToRun plan.now))) (of_disks D.Disks) disks.old disks.new) }
+    ensures disks_others { IfSome (L.files lib.old) (λ files. AreLeftFrom (stores_used (work_by files (ToRun (order_view order.now)))) (of_disks D.Disks) disks.old disks.new) }
     ensures disks_beyond { AreLeftFrom PROCESSES (of_disks D.Disks) disks.old disks.new }
 {
-    let setting = match open(alloc, plan, lib) {
+    let setting = match open(alloc, order, lib) {
         Ok(setting) => setting,
         Err(refusal) => return Outcome::idle(alloc, verdict_of(refusal)),
     };
+    let n = setting.images.len() as u32;
     match run_setting(alloc, setting, keeps, disks, out) {
-        Ok(course) => reported(outcome_of(course), report),
+        Ok(course) => {
+            let (outcome, journal) = outcome_of(course);
+            reported(outcome, &journal, n, report)
+        }
         Err(fault) => Outcome::idle(alloc, unopened(fault)),
     }
 }
@@ -343,10 +382,44 @@ fn unreported(verdict: Verdict) -> Verdict
     }
 }
 
-/// Writes the report of a run.
-fn reported<R: Sink>(outcome: Outcome, report: &mut R) -> Outcome
-    requires { length outcome.marks.items < 2 ^ 32 }
-    ensures reports { Reports outcome.verdict result.verdict (report_text (status_of outcome.verdict) (length outcome.marks.items) outcome.acts.items outcome.lines)
+/// Whether the schedule of a run that came to this was used up.
+fn is_used_up(verdict: Verdict) -> bool
+    ensures { result ≡ is_used_up verdict }
+{
+    matches!(verdict, Verdict::Done | Verdict::Unfinished)
+}
+
+/// Writes what a run leaves at its end: its journal, if it kept one, or its report.
+fn write_ledger<R: Sink>(
+    outcome: &Outcome,
+    journal: &Journal,
+    n: u32,
+    to: &mut R,
+) -> Result<(), SinkFailed>
+    requires few { length outcome.now.marks.items < 2 ^ 32 }
+    requires sixteen { All IsOfSixteen journal.now.lines.items }
+    ensures held { TakesWhole (ledger_text n outcome.now.verdict (outcome_account outcome.now (journal_in journal.now))) result (R.held to.old) (R.held to.new) }
+    ensures tells { TellsOn 0 (R.faults to.new) (R.held to.old) (R.held to.new) }
+    ensures cause { HasCause (R.faults to.old) (R.faults to.new) result }
+{
+    if journal.kept {
+        let whole = is_used_up(outcome.verdict);
+        return write_journal(to, n, false, journal.lines.as_slice(), whole);
+    }
+    write_report(
+        to,
+        u32::from(outcome.status()),
+        outcome.marks.as_slice().len() as u32,
+        &outcome.acts,
+        outcome.lines,
+    )
+}
+
+/// Writes the report of a run, or its journal.
+fn reported<R: Sink>(outcome: Outcome, journal: &Journal, n: u32, report: &mut R) -> Outcome
+    requires few { length outcome.marks.items < 2 ^ 32 }
+    requires sixteen { All IsOfSixteen journal.now.lines.items }
+    ensures reports { Reports outcome.verdict result.verdict (ledger_text n outcome.verdict (outcome_account outcome (journal_in journal.now)))
         (course (R.held report.old) (R.held report.new) (R.faults report.old) (R.faults report.new)) }
     ensures acts { result.acts ≡ outcome.acts }
     ensures marks { result.marks ≡ outcome.marks }
@@ -356,16 +429,9 @@ fn reported<R: Sink>(outcome: Outcome, report: &mut R) -> Outcome
     ensures later { R.faults report.old ≤ R.faults report.new }
     ensures tells { TellsOn 0 (R.faults report.new) (R.held report.old) (R.held report.new) }
 {
-    let written = write_report(
-        report,
-        u32::from(outcome.status()),
-        outcome.marks.as_slice().len() as u32,
-        &outcome.acts,
-        outcome.lines,
-    );
-    match written {
+    match write_ledger(&outcome, journal, n, report) {
         Ok(()) => outcome,
-        Err(_) => Outcome {
+        Err(SinkFailed) => Outcome {
             verdict: unreported(outcome.verdict),
             ..outcome
         },

@@ -5,6 +5,7 @@ ghost use Rattle.dc_schedule.specs.Entries.{IsSchedule};
 ghost use Rattle.dc_world.specs.Opened.{CanOpen};
 ghost use Rattle.dc_run.specs.Single.{IsSchedule-prop, all_can_open-prop};
 
+use dc_command::Ledger;
 use dc_elf::Image;
 use dc_links::Message;
 use dc_media::PlannedStop;
@@ -12,10 +13,11 @@ use dc_model::Entry;
 use dc_plan::Medium;
 use dc_protocols::Protocol;
 
-/// What a run is opened with: its protocol, the medium of its stores, the image of each guest, the records of each one's input, its schedule, and the stops
+/// What a run is opened with: what it writes at its end, its protocol, the medium of its stores, the image of each guest, the records of each one's input, its schedule, and the stops
 /// that are planned.
 #[derive(Drop)]
 pub struct Setting {
+    pub ledger: Ledger,
     pub protocol: Protocol,
     pub medium: Medium,
     pub images: Vec<Image>,

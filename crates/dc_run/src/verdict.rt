@@ -30,7 +30,7 @@ pub enum Which {
 pub enum Outlet {
     /// The sink of the lines, or of an assembled file.
     Out,
-    /// The sink of the report.
+    /// The sink of the report, or of the journal.
     Report,
 }
 
@@ -39,7 +39,7 @@ pub enum Outlet {
 pub enum Did {
     /// It came to no work.
     Nothing,
-    /// It ran a plan.
+    /// It ran a plan, and wrote its report or its journal.
     Run,
     /// It checked an output, and found so many visible records in it.
     Checked(u32),
@@ -69,6 +69,8 @@ pub enum Verdict {
     LibraryFault(Which),
     /// The device of that process failed.
     DeviceFault(u32),
+    /// The device of that process was stopped, in a run that was to leave its journal: it ended there.
+    DeviceStopped(u32),
     /// That sink failed.
     SinkFault(Outlet),
     /// The act at that position of the report, from 0 on, is the first that was not drawn at its turn or does not apply.

@@ -6,7 +6,7 @@
 //! which fetch, which write and which store call fail; the room of the output and the report.
 //!
 //! Of what comes of it: the line on standard error and the status; the output as text or as the file of code; the report by its close line,
-//! the turns of its acts and those that are not plain; the marks.
+//! the turns of its acts and those that are not plain, or the journal; the marks.
 //!
 //! A case of a table says with which statuses it may end, and is tried with each of the words that `each` and `first` offer in place of
 //! EACH and FIRST, at each call of a span.
@@ -20,7 +20,7 @@ mod planned;
 use cases::{
     ANSWERS, CALLS, CHECKS, COMMANDS, COMMITTED_TOGETHER, DECIDED_TOGETHER, DISKS, FAILING, GUESTS,
     JOURNALS, LONG, PLANS, RECOVERED_TOGETHER, RUNS, SCHEDULES, SOURCES, STOPPED, STOPS, TOGETHER,
-    TOO_LONG,
+    TOO_LONG, WRITTEN,
 };
 use dc_cases::{
     coded, holds, is_read, number, numbers, passing, says, text, value, wanted_report, words,
@@ -34,8 +34,8 @@ use std::alloc::Global;
 use std::test::Fail;
 
 const KEYS: &str =
-    "words plan protocol stops old new guests source copies journal code zeros place byte cut name schedule report output fetch write \
-device room report_room said status out elf close acts act marks each first ends";
+    "words plan protocol stops old new guests source copies journal code zeros offset byte cut name schedule report output fetch write \
+device room report_room said status out elf close acts act marks written each first ends";
 
 /// What a call left: its outcome and its two sinks.
 #[derive(Drop)]
@@ -73,12 +73,17 @@ fn marks_are(case: &str, marks: &[Mark]) -> Result<(), Fail> {
     Ok(())
 }
 
-/// The report is the one that the case says, cut off where there was no room; none where it says no close line.
-fn report_is(alloc: Global, case: &str, report: &MemSink) -> Result<(), Fail> {
-    if !says(case, "close") {
-        return holds(report.bytes().is_empty(), case, "no report");
+/// What a run leaves by its case: its report, its journal, or nothing.
+fn wanted(alloc: Global, case: &str) -> Result<String, Fail> {
+    if says(case, "close") {
+        return wanted_report(alloc, case);
     }
-    let want = wanted_report(alloc, case)?;
+    Ok(text(alloc, case, "written", "")?)
+}
+
+/// The report is the one that the case says, cut off where there was no room; none where it says no close line and no journal.
+fn report_is(alloc: Global, case: &str, report: &MemSink) -> Result<(), Fail> {
+    let want = wanted(alloc, case)?;
     let room = number(case, "report_room", "100000")?;
     let front = want.as_bytes().get(..room).unwrap_or(want.as_bytes());
     holds(report.bytes() == front, case, "the report")
@@ -117,7 +122,8 @@ fn ends_so(alloc: Global, case: &str, outcome: &Outcome) -> Result<(), Fail> {
 /// What comes of a call besides its status is what its case says.
 fn comes_to(alloc: Global, case: &str, left: &Left) -> Result<(), Fail> {
     let ran = left.outcome.did == Did::Run;
-    holds(ran == says(case, "close"), case, "whether it ran")?;
+    let runs = says(case, "close") || says(case, "written");
+    holds(ran == runs, case, "whether it ran")?;
     output_is(alloc, case, &left.out)?;
     report_is(alloc, case, &left.report)?;
     marks_are(case, left.outcome.marks.as_slice())
@@ -157,10 +163,13 @@ fn tried(alloc: Global, case: &str) -> Result<(), Fail> {
     }
     ends_so(alloc, case, &left.outcome)?;
     comes_to(alloc, case, &left)?;
-    if says(case, "close") && !fails(case) {
+    if fails(case) {
+        return Ok(());
+    }
+    if says(case, "close") {
         return passes(alloc, case, &mut library, &left);
     }
-    Ok(())
+    saved(alloc, case, &mut library, &left)
 }
 
 /// Whether a fetch or a sink of the case fails.
@@ -202,6 +211,19 @@ fn passes(alloc: Global, case: &str, library: &mut MemLibrary, left: &Left) -> R
     holds(is_same, case, "the line of the check")
 }
 
+/// A journal that was written whole is found to have Save-work.
+fn saved(alloc: Global, case: &str, library: &mut MemLibrary, left: &Left) -> Result<(), Fail> {
+    if !value(case, "written", "").ends_with("~end~") {
+        return Ok(());
+    }
+    let name = String::from_str(alloc, "written")?;
+    library.add(name, left.report.bytes().to_vec(alloc)?)?;
+    let mut out = MemSink::new(alloc, 100, Vec::new(alloc))?;
+    let words = words(alloc, "dc audit written")?;
+    let outcome = called_aside(alloc, &words, library, &mut out)?;
+    holds(outcome.status() == 0, case, "the journal is saved")
+}
+
 /// The status is one of those that the case says.
 fn status_is(alloc: Global, case: &str, outcome: &Outcome) -> Result<(), Fail> {
     let status = u64::from(outcome.status());
@@ -214,9 +236,21 @@ fn status_is(alloc: Global, case: &str, outcome: &Outcome) -> Result<(), Fail> {
 fn ends_well(alloc: Global, case: &str, library: &mut MemLibrary, left: &Left) -> Result<(), Fail> {
     status_is(alloc, case, &left.outcome)?;
     let shown = left.out.bytes();
-    if says(case, "write") {
+    if says(case, "out") {
         let whole = text(alloc, case, "out", "")?;
-        return holds(whole.as_bytes().starts_with(shown), case, "a front");
+        holds(whole.as_bytes().starts_with(shown), case, "a front")?;
+    }
+    if says(case, "written") {
+        let whole = text(alloc, case, "written", "")?;
+        let left = left.report.bytes();
+        return holds(
+            whole.as_bytes().starts_with(left),
+            case,
+            "a front of the journal",
+        );
+    }
+    if says(case, "write") {
+        return Ok(());
     }
     if left.outcome.did == Did::Run {
         let line = checked(alloc, case, library, left)?;
@@ -356,6 +390,11 @@ fn journals(rt: HostRuntime) -> Result<(), Fail> {
 }
 
 #[test]
+fn journals_of_runs(rt: HostRuntime) -> Result<(), Fail> {
+    all(rt.alloc(), WRITTEN)
+}
+
+#[test]
 fn calls_stopped(rt: HostRuntime) -> Result<(), Fail> {
     all(rt.alloc(), STOPPED)
 }
@@ -392,7 +431,7 @@ fn schedules_cut_off(rt: HostRuntime) -> Result<(), Fail> {
     fronts(rt.alloc(), "schedule", schedule, "0 1 11")
 }
 
-/// A file cut off at each place is refused for the first thing that is missing.
+/// A file cut off at each byte is refused for the first thing that is missing.
 #[test]
 fn files_cut_off(rt: HostRuntime) -> Result<(), Fail> {
     for cut in 0..116u32 {
@@ -470,8 +509,8 @@ fn checked_outputs_cut_off(rt: HostRuntime) -> Result<(), Fail> {
 #[test]
 fn checked_reports_changed(rt: HostRuntime) -> Result<(), Fail> {
     let report = "dc-report 1~act 0 0 plain~act 1 0 plain~close 1 2 2 0~";
-    for place in 0..report.len() {
-        let (Some(front), Some(rest)) = (report.get(..place), report.get(place + 1..)) else {
+    for at in 0..report.len() {
+        let (Some(front), Some(rest)) = (report.get(..at), report.get(at + 1..)) else {
             return Err(Fail::new("two parts"));
         };
         let line = front.split("~").count();

@@ -35,7 +35,7 @@ count_no test journal y e = count_more test journal y ∙ rw e refl
 count_yes : (test : Line → Bool) (journal : List Line) (y : Line) → test y ≡ true → count test (journal ++ y ∷ []) ≡ suc (count test journal)
 count_yes test journal y e = count_more test journal y ∙ rw e refl
 
-marks_long : (n : ℕ) (test : ℕ → Bool) → length (marks_by n test) ≡ n
+pub marks_long : (n : ℕ) (test : ℕ → Bool) → length (marks_by n test) ≡ n
 marks_long zero test = refl
 marks_long (suc n) test = ap suc (marks_long n (λ i. test (suc i)))
 

@@ -1,5 +1,5 @@
 -- The journal of a run that nothing stops: what each turn leaves in it, by the protocol's rule and the answer.
-use Rattle.std.specs.Prelude.{◌≡◌, ◌≢◌, ◌<◌, ◌&&◌, ℕ, zero, suc, Bool, true, false, not, List, [], ◌∷◌, ◌++◌, length, nat_lt}
+use Rattle.std.specs.Prelude.{◌≡◌, ◌≢◌, ◌<◌, ◌&&◌, ℕ, zero, suc, Bool, true, false, not, List, [], ◌∷◌, ◌++◌, if◌then◌else◌, length, nat_lt}
 use Rattle.dc_audit.specs.declared.journal.Deed.{Deed}
 use Rattle.dc_audit.specs.declared.journal.Deed.TheVariants.{Chance, Logged, Visible, Sends, Receives}
 use Rattle.dc_audit.specs.declared.journal.Line.{Line}
@@ -9,13 +9,16 @@ use Rattle.dc_model.specs.Guests.Answer.{ReceiveFrom}
 use Rattle.dc_model.specs.Guests.Event.{AtClock, AtRandom, AtInput, AtReceive, AtSend, AtVisible}
 use Rattle.dc_model.specs.Process.{Local, comes, local}
 use Rattle.dc_model.specs.Runs.{Given}
-use Rattle.dc_recovery.specs.Answers.{replays, rule_at}
+use Rattle.dc_model.specs.declared.entry.Entry.{Entry}
+use Rattle.dc_model.specs.declared.entry.Entry.TheVariants.{Turn}
+use Rattle.dc_recovery.specs.Answers.{answer, replays, rule_at}
 use Rattle.dc_recovery.specs.Core.{Core, opened_core, stands}
 use Rattle.dc_recovery.specs.Parts.{sets_unlogged}
 use Rattle.dc_recovery.specs.Parts.Place.{Nowhere}
 use Rattle.dc_recovery.specs.Systems.{System}
 use Rattle.dc_recovery.specs.Ties.{company}
 use Rattle.dc_recovery.specs.Turned.{after_turn}
+use Rattle.dc_recovery.specs.Unstopped.{entry_taken, is_taken}
 
 -- marks of the first n processes, by a test
 abbrev pub marks_by : ℕ → (ℕ → Bool) → List Bool
@@ -60,6 +63,11 @@ abbrev pub turn_lines : {Mc : Type 0} → System Mc → Core → ℕ → Answer 
 turn_lines S c p a = commit_lines (rule_at S c p a).before S.guests.count (company S c p a).before
     ++ event_lines (stands S.guests c p) p (is_chance_at S c p a) a (comes S.guests (stands S.guests c p) a)
     ++ commit_lines (rule_at S c p a).after S.guests.count (company S c p a).after
+
+-- what the entry of turn t leaves where nothing stops it: the lines of its turn, if that takes an event
+abbrev pub entry_lines : {Mc : Type 0} → System Mc → ℕ → Core → Entry → List Line
+entry_lines S t c (Turn turn) = if is_taken (entry_taken S t c (Turn turn)).0 then turn_lines S c turn.p (answer S.guests c turn.p turn.word turn.clock) else []
+entry_lines S t c _ = []
 
 -- what acts come to that nothing stopped; the last act first
 abbrev pub core_of : {Mc : Type 0} → System Mc → List Given → Core

@@ -343,7 +343,7 @@ fn found(
 fn named(alloc: Global, finding: &Finding) -> Result<String, Fail> {
     match finding {
         Finding::Passes(visibles) => Ok(format!(in alloc; "passes {visibles}")?),
-        Finding::NotARun(place) => Ok(format!(in alloc; "not a run {place}")?),
+        Finding::NotARun(act) => Ok(format!(in alloc; "not a run {act}")?),
         Finding::Differs(difference) => Ok(format!(in alloc; "differs {}", difference.line)?),
     }
 }

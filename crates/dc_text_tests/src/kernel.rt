@@ -1,4 +1,4 @@
-//! Kernels and their texts. A text of words is given by those that are not 0, each as `place=word`, the word in hexadecimal.
+//! Kernels and their texts. A text of words is given by those that are not 0, each as `index=word`, the word in hexadecimal.
 
 ghost use Rattle.std.specs.Prelude.{◌≤◌, ◌<◌};
 
@@ -37,7 +37,7 @@ const TWO: &str = "\
 /// Process 0 of 2, which sent three empty messages to process 1 and keeps them.
 const THREE: &str = "0=1 1=2 181=3 182=3";
 
-/// What is wrong with the text of two where other words stand at some places: a version; another number of processes, another process;
+/// What is wrong with the text of two where other words stand at some indexes: a version; another number of processes, another process;
 /// more kept than there are slots, than were sent; a message of 65 bytes, bytes past a length; a slot that is not used; the process's own
 /// entry; a status, a code, a cause and an address that are none.
 const FAULTS: &str = "\
@@ -117,30 +117,30 @@ fn set_word(words: &mut [u32], at: usize, word: u32) -> Result<(), Fail> {
             *slot = word;
             Ok(())
         }
-        None => Err(Fail::new("a place past the end")),
+        None => Err(Fail::new("an index past the end")),
     }
 }
 
-fn set_place(words: &mut [u32], place: &str) -> Result<(), Fail> {
-    let Some((at, word)) = place.split_once('=') else {
-        return Err(Fail::new(place));
+fn set_from(words: &mut [u32], text: &str) -> Result<(), Fail> {
+    let Some((at, word)) = text.split_once('=') else {
+        return Err(Fail::new(text));
     };
     set_word(words, at.parse::<usize>()?, word_of(word)?)
 }
 
-fn set(words: &mut [u32], places: &str) -> Result<(), Fail> {
-    for place in places.split_whitespace() {
-        set_place(words, place)?;
+fn set(words: &mut [u32], texts: &str) -> Result<(), Fail> {
+    for text in texts.split_whitespace() {
+        set_from(words, text)?;
     }
     Ok(())
 }
 
 /// As many words as a kernel of `n` has.
-fn words(alloc: Global, n: u32, places: &str) -> Result<Vec<u32>, Fail>
+fn words(alloc: Global, n: u32, texts: &str) -> Result<Vec<u32>, Fail>
     requires { n ≤ 8 }
 {
     let mut words = vec![in alloc; 0; kernel_words(n)]?;
-    set(&mut words, places)?;
+    set(&mut words, texts)?;
     Ok(words)
 }
 
@@ -151,13 +151,13 @@ fn encoded(alloc: Global, kernel: &Kernel) -> Result<Vec<u32>, AllocError> {
 }
 
 /// Fails where the kernel has another text.
-fn has_text(alloc: Global, kernel: &Kernel, places: &str) -> Result<(), Fail> {
-    let text = words(alloc, kernel.n(), places)?;
+fn has_text(alloc: Global, kernel: &Kernel, texts: &str) -> Result<(), Fail> {
+    let text = words(alloc, kernel.n(), texts)?;
     let written = encoded(alloc, kernel)?;
-    holds(written.as_slice() == text.as_slice(), places)
+    holds(written.as_slice() == text.as_slice(), texts)
 }
 
-/// Decodes a text that has other words at some places. Fails where that answers another fault, or none.
+/// Decodes a text that has other words at some indexes. Fails where that answers another fault, or none.
 fn answers(
     alloc: Global,
     kernel: &mut Kernel,
@@ -235,7 +235,7 @@ fn set_counts(kernel: &mut Kernel) {
     kernel.set_position(1000);
 }
 
-fn set_places(kernel: &mut Kernel) {
+fn set_progress(kernel: &mut Kernel) {
     kernel.set_visible(2);
     kernel.set_inputs_taken(5);
 }
@@ -243,7 +243,7 @@ fn set_places(kernel: &mut Kernel) {
 fn become_one(kernel: &mut Kernel) {
     kernel.set_status(Status::Exited(7));
     set_counts(kernel);
-    set_places(kernel);
+    set_progress(kernel);
     kernel.set_regs(Regs { x: X, pc: 0x104 });
 }
 
@@ -252,7 +252,7 @@ fn has_values_of_one(kernel: &Kernel) -> Result<(), Fail> {
     holds(kernel.commit() == 3, "commit")?;
     holds(kernel.position() == 1000, "position")?;
     holds(kernel.visible() == 2, "visible")?;
-    holds(kernel.inputs_taken() == 5, "place")?;
+    holds(kernel.inputs_taken() == 5, "inputs taken")?;
     holds(*kernel.regs() == Regs { x: X, pc: 0x104 }, "registers")
 }
 

@@ -90,7 +90,7 @@ fn is_unused(links: &Links, q: u32) -> Result<(), Fail>
     lacks(links, q, 0)?;
     is_full(links, q, false)?;
     counts(links, q, 0, 0)?;
-    holds(links.kept(q, 0).is_none(), "a message at the first place")
+    holds(links.kept(q, 0).is_none(), "a first message")
 }
 
 #[test]

@@ -9,3 +9,4 @@ pub mod Powered
 pub mod Joined
 pub mod Opens
 pub mod Partaking
+mod Leaves

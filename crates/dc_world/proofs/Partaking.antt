@@ -1,5 +1,5 @@
 -- Which processes take part in a turn, whose devices it leaves alone, and whose a stop in it is.
-use Rattle.std.proofs.Common.{◌≡◌, ◌<◌, ◌≤◌, ℕ, List, arith, IfOk, length, refl, true}
+use Rattle.std.proofs.Common.{◌≡◌, ◌<◌, ◌≤◌, ℕ, List, Option, arith, IfOk, IsSomeAnd, length, refl, true}
 use Rattle.std.proofs.lemmas.Option.{slice_get_within}
 use Rattle.dc_checkpoint.specs.declared.checkpoint.Checkpoint as checkpoint
 use Rattle.dc_model.specs.declared.entry.Entry.TheVariants as entry
@@ -11,7 +11,7 @@ use Rattle.dc_recovery.proofs.Parts.{with_all}
 use Rattle.dc_twophase.specs.Stores.{IsNoIndex}
 use Rattle.dc_twophase.specs.declared.faults.JointFault.{JointFault}
 use Rattle.dc_twophase.specs.declared.faults.JointFault.TheVariants as joint
-use Rattle.dc_world.specs.Faults.{fall_answer}
+use Rattle.dc_world.specs.Faults.{fall_answer, stopped_by}
 use Rattle.dc_together.specs.Joints.{AllBelong}
 use Rattle.dc_world.specs.Worlds.{TakesPart}
 
@@ -24,8 +24,14 @@ module _ {C D : Type 0} (g : checkpoint.Ghosts C D) (n : ℕ) (stores : List C) 
   pub no_index : (q : ℕ) → n ≤ q → IsNoIndex g stores q
   no_index q past i c at e = let less = slice_get_within stores i c at in let index = (belong i c at).index_is in omega (arith, less, index, e, past, long)
 
--- where an entry answers that it was stopped, its fault names a process
-pub answer_stopped : (P Q : ℕ → Type 0) (fault : JointFault) → ((p : ℕ) → fault ≡ joint.Stopped p → P p × Q p) → IfOk (fall_answer fault) (λ did. did ≡ mark.Stopped → (p : ℕ) × P p × Q p)
-answer_stopped P Q (joint.Stopped p) so = λ e. let is = so p refl in (p, is.0, is.1)
-answer_stopped P Q (joint.Failed p) so = tt
-answer_stopped P Q (joint.Refused p why) so = tt
+-- where an entry answers that it was stopped, its fault names the process
+pub answer_stopped : (P : ℕ → Type 0) (fault : JointFault) (before : Option ℕ) → ((p : ℕ) → fault ≡ joint.Stopped p → P p) → IfOk (fall_answer fault) (λ did. did ≡ mark.Stopped → IsSomeAnd (stopped_by fault before) P)
+answer_stopped P (joint.Stopped p) before so = λ e. so p refl
+answer_stopped P (joint.Failed p) before so = tt
+answer_stopped P (joint.Refused p why) before so = tt
+
+-- no other answer does
+pub answer_unstopped : (fault : JointFault) (before : Option ℕ) → IfOk (fall_answer fault) (λ did. (did ≡ mark.Stopped → ⊥) → stopped_by fault before ≡ before)
+answer_unstopped (joint.Stopped p) before = λ ne. absurd (ne refl)
+answer_unstopped (joint.Failed p) before = tt
+answer_unstopped (joint.Refused p why) before = tt

@@ -2,3 +2,4 @@ pub mod Faults
 pub mod Worlds
 pub mod Opened
 pub mod Ended
+pub mod Leaving

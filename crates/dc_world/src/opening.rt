@@ -1,6 +1,6 @@
 //! The opening of a world: each process before its first event, with a store for each.
 
-ghost use Rattle.std.specs.Prelude.{◌≡◌, ◌≢◌, ◌<◌, ◌≤◌, ◌+◌, ◌*◌, ◌%◌, ◌∷◌, ◌++◌, ℕ, [], Err, Some, All, IfOk, OnOk, false, true, length, map};
+ghost use Rattle.std.specs.Prelude.{◌≡◌, ◌≢◌, ◌<◌, ◌≤◌, ◌+◌, ◌*◌, ◌%◌, ◌∷◌, ◌++◌, ℕ, [], Err, None, Some, All, IfOk, IfSome, OnOk, false, true, length, map};
 ghost use Rattle.dc_checkpoint.specs.States.{IsText, form_in, number_in};
 ghost use Rattle.dc_kernel.specs.Layout.{kernel_words};
 ghost use Rattle.dc_kernel.specs.Texts.{text_of};
@@ -12,7 +12,8 @@ ghost use Rattle.dc_proc.specs.Processes.{form_of};
 ghost use Rattle.dc_protocols.specs.Rules.{is_causal, is_joint};
 ghost use Rattle.dc_recovery.specs.Core.{opened_core};
 ghost use Rattle.dc_recovery.specs.Parts.{is_with};
-ghost use Rattle.dc_together.specs.Joints.{whose};
+ghost use Rattle.dc_processes.specs.Processes.{IsWell};
+ghost use Rattle.dc_together.specs.Joints.{AreUp, FallTogether, whose};
 ghost use Rattle.dc_world.specs.Worlds.{IsReady};
 ghost use Rattle.dc_world.specs.Opened.{AreAlike, AreBegun, AreMadeFor, CanOpen, IsBegun, IsCalmUnlessStopped, IsOpened, IsUpFor, kernel_at};
 ghost use Rattle.dc_processes.specs.Stages.{IsTold, IsWorld, KeepsTelling, stage_of};
@@ -187,6 +188,39 @@ fn joint_for(alloc: Global, protocol: Protocol, n: u32) -> Result<Joint, AllocEr
     })
 }
 
+/// The first process that is down, if one is.
+fn first_down(processes: &Processes) -> Option<u32>
+    requires { length processes.now.slots.items ≤ PROCESSES }
+    ensures some { IfSome result (λ p. (p < length processes.now.slots.items) × (is_up (slot_at processes.now.slots.items p) ≡ false)) }
+    ensures none { result ≡ None → AreUp processes.now.slots.items }
+{
+    for p in 0..processes.count() {
+        if !processes.is_up(p) {
+            return Some(p);
+        }
+    }
+    None
+}
+
+/// The first process that is down, if one is: where all commit together, all fall then.
+fn fall_alike<C: Checkpoint>(processes: &mut Processes, stores: &mut [C]) -> Option<u32>
+    requires well { IsWell processes.old }
+    requires stores { length stores.old ≡ length processes.old.slots.items }
+    ensures rest { processes.new ≡ record processes.old { slots = processes.new.slots } }
+    ensures long { length processes.new.slots.items ≡ length processes.old.slots.items }
+    ensures well { IsWell processes.new }
+    ensures as_many { length stores.new ≡ length stores.old }
+    ensures together { FallTogether C.Checkpoint processes.old.protocol processes.old.slots.items processes.new.slots.items stores.old stores.new }
+    ensures down { IfSome result (λ p. (p < length processes.old.slots.items) × (is_up (slot_at processes.old.slots.items p) ≡ false)) }
+    ensures up { result ≡ None → AreUp processes.new.slots.items }
+{
+    let down = first_down(processes);
+    if down.is_some() {
+        fall_together(processes, stores);
+    }
+    down
+}
+
 impl<C: Checkpoint + Drop> World<C> {
     /// Each process at the beginning of its image, over a new store. All room for so many entries is taken here. A process whose store
     /// was stopped as it was made is down; where all commit together all are down then. It stands for the beginning of a run in each
@@ -209,6 +243,8 @@ impl<C: Checkpoint + Drop> World<C> {
         ensures alike { IfOk result (λ w. is_joint setup.protocol ≡ true → AreAlike w.processes.slots.items) }
         ensures stopped { IfOk result (λ w. (p : ℕ) → p < length setup.images.items → is_up (slot_at w.processes.slots.items p) ≡ false
             → (q : ℕ) × (q < length setup.images.items) × (is_with setup.protocol p q ≡ true) × Rose (C.stops dev.old q) (C.stops dev.new q)) }
+        ensures stopped_first { IfOk result (λ w. IfSome w.stopped (λ p. (p < length setup.images.items) × Rose (C.stops dev.old p) (C.stops dev.new p))) }
+        ensures unstopped { IfOk result (λ w. w.stopped ≡ None → AreUp w.processes.slots.items) }
         ensures calm { IfOk result (λ w. (p : ℕ) → p < length setup.images.items → is_up (slot_at w.processes.slots.items p) ≡ true
             → (C.stops dev.new p ≡ C.stops dev.old p) × (C.faults dev.new p ≡ C.faults dev.old p)) }
         ensures failed { (p : ℕ) → result ≡ Err (faults.Failed p) → (p < length setup.images.items) × Rose (C.faults dev.old p) (C.faults dev.new p) }
@@ -232,7 +268,11 @@ impl<C: Checkpoint + Drop> World<C> {
             left: entries,
             joint,
         };
-        fall_together(&mut processes, &mut stores);
-        Ok(World { processes, stores })
+        let stopped = fall_alike(&mut processes, &mut stores);
+        Ok(World {
+            processes,
+            stores,
+            stopped,
+        })
     }
 }

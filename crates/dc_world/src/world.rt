@@ -1,7 +1,9 @@
 //! A world over its stores: one entry of a schedule at a time.
 
-ghost use Rattle.std.specs.Prelude.{◌≡◌, ◌≢◌, ◌<◌, ◌≤◌, ◌+◌, ◌++◌, ◌-◌, ℕ, IfOk, IfSome, IsErrOf, IsSome, None, Some, OnErr, OnOk, Ok, Err, Option, false, true, length};
+ghost use Rattle.std.specs.Prelude.{◌≡◌, ◌≢◌, ◌<◌, ◌≤◌, ◌+◌, ◌++◌, ◌-◌, ℕ, IfOk, IfSome, IsErrOf, IsSome, IsSomeAnd, None, Some, OnErr, OnOk, Ok, Err, Option, false, true, length, take};
+ghost use Rattle.std.specs.List.{All};
 ghost use Rattle.dc_acts.specs.Lines.{text_of};
+ghost use Rattle.dc_audit.specs.Journals.{IsOfSixteen};
 ghost use Rattle.dc_checkpoint.specs.Calls.{IsCounted};
 ghost use Rattle.dc_checkpoint.specs.Handles.{showing_of};
 ghost use Rattle.dc_checkpoint.specs.declared.faults.StoreFault as stores;
@@ -15,16 +17,19 @@ ghost use Rattle.dc_model.specs.declared.visible.Visible.{Visible as Visibles};
 ghost use Rattle.dc_processes.specs.Processes.{IsWell, counted};
 ghost use Rattle.dc_processes.specs.Stages.{KeepsTelling};
 ghost use Rattle.dc_world.specs.Ended.{TellsEnd};
+ghost use Rattle.dc_world.specs.Leaving.{EntryLeaves};
 ghost use Rattle.dc_processes.specs.Slots.{have_ended};
 ghost use Rattle.dc_processes.specs.Turns.{GoesOn, HasNoRun, later, lines_of};
 ghost use Rattle.dc_world.specs.Worlds.{IsCutOff, IsOfProcesses, IsPartOf, IsReady, MayRun, stage_in};
 ghost use Rattle.dc_twophase.specs.declared.faults.JointFault.TheVariants as joint;
 ghost use Rattle.dc_world.specs.declared.faults.TurnFault.TheVariants as faults;
 
-use crate::faults::{TurnFault, answer_to};
-use dc_acts::{Acts, line_of};
+use crate::faults::{TurnFault, answer_to, stopped_by};
+use dc_acts::{Acts, Reserved, line_of};
 use dc_alone::turn_alone;
+use dc_audit::Line;
 use dc_checkpoint::{CheckFault, Checkpoint};
+use dc_deeds::leave_lines;
 use dc_media::{Sink, SinkFailed, write_whole};
 use dc_model::{Entry, Mark, Turn, Visible};
 use dc_processes::Processes;
@@ -54,6 +59,8 @@ fn write_shown<O: Sink>(shown: &Option<Visible>, out: &mut O) -> Result<u32, Sin
 pub struct World<C: Drop> {
     pub(crate) processes: Processes,
     pub(crate) stores: Vec<C>,
+    /// The process whose device was stopped last, if one was.
+    pub(crate) stopped: Option<u32>,
 }
 
 impl<C: Checkpoint + Drop> World<C> {
@@ -78,6 +85,7 @@ impl<C: Checkpoint + Drop> World<C> {
         ensures later { (p : ℕ) → (C.stops dev.old p ≤ C.stops dev.new p) × (C.faults dev.old p ≤ C.faults dev.new p) }
         ensures continues { C.continues dev.old dev.new }
         ensures whole { IfOk result (λ mark. mark ≡ marks.Stopped → ⊥) }
+        ensures kept { self.new.stopped ≡ self.old.stopped }
         ensures shows { IfOk result (λ mark. IfSome shown.new (λ visible. mark ≡ marks.Showed visible.k)) }
         ensures unshown { OnErr result (shown.new ≡ None) }
         ensures refused { (fault : stores.StoreFault) → IsErrOf result (CheckFault.Refused fault) → HasNoRun C.Checkpoint (stage_in self.old dev.old) (later 0 (stage_in self.new dev.new)) }
@@ -112,6 +120,7 @@ impl<C: Checkpoint + Drop> World<C> {
         ensures failed { (p : ℕ) → IsErrOf result (joint.Failed p) → (p < length self.old.processes.slots.items) × Rose (C.faults dev.old p) (C.faults dev.new p) }
         ensures calm { OnOk result ((p : ℕ) → (C.stops dev.new p ≡ C.stops dev.old p) × (C.faults dev.new p ≡ C.faults dev.old p)) }
         ensures whole { IfOk result (λ mark. mark ≡ marks.Stopped → ⊥) }
+        ensures kept { self.new.stopped ≡ self.old.stopped }
         ensures shows { IfOk result (λ mark. IfSome shown.new (λ visible. mark ≡ marks.Showed visible.k)) }
         ensures unshown { OnErr result (shown.new ≡ None) }
         ensures refused { (p : ℕ) (fault : stores.StoreFault) → IsErrOf result (joint.Refused p fault) → HasNoRun C.Checkpoint (stage_in self.old dev.old) (later 0 (stage_in self.new dev.new)) }
@@ -143,6 +152,7 @@ impl<C: Checkpoint + Drop> World<C> {
         ensures failed { (p : ℕ) → IsErrOf result (joint.Failed p) → IsPartOf self.old p (entries.Turn turn.now) × Rose (C.faults dev.old p) (C.faults dev.new p) }
         ensures calm { OnOk result ((p : ℕ) → IsPartOf self.old p (entries.Turn turn.now) → (C.stops dev.new p ≡ C.stops dev.old p) × (C.faults dev.new p ≡ C.faults dev.old p)) }
         ensures whole { IfOk result (λ mark. mark ≡ marks.Stopped → ⊥) }
+        ensures kept { self.new.stopped ≡ self.old.stopped }
         ensures shows { IfOk result (λ mark. IfSome shown.new (λ visible. mark ≡ marks.Showed visible.k)) }
         ensures unshown { OnErr result (shown.new ≡ None) }
         ensures refused { (p : ℕ) (fault : stores.StoreFault) → IsErrOf result (joint.Refused p fault) → HasNoRun C.Checkpoint (stage_in self.old dev.old) (later 0 (stage_in self.new dev.new)) }
@@ -165,6 +175,7 @@ impl<C: Checkpoint + Drop> World<C> {
         requires stores { length self.old.stores.items ≡ length self.old.processes.slots.items }
         ensures ready { (dev : C.Device) → MayRun C.Checkpoint self.old dev → 0 < self.old.processes.left → IsReady C.Checkpoint self.new.stores.items dev (counted self.new.processes) }
         ensures rest { self.new.processes ≡ record self.old.processes { slots = self.new.processes.slots } }
+        ensures kept { self.new.stopped ≡ self.old.stopped }
         ensures long { length self.new.processes.slots.items ≡ length self.old.processes.slots.items }
         ensures turned { (dev : C.Device) → MayRun C.Checkpoint self.old dev → 0 < self.old.processes.left → GoesOn C.Checkpoint (stage_in self.old dev) (later 0 (stage_in self.new dev)) (entries.Stop p) marks.Marked None }
     {
@@ -180,6 +191,7 @@ impl<C: Checkpoint + Drop> World<C> {
         requires stores { length self.old.stores.items ≡ length self.old.processes.slots.items }
         ensures ready { (dev : C.Device) → MayRun C.Checkpoint self.old dev → 0 < self.old.processes.left → IsReady C.Checkpoint self.new.stores.items dev (counted self.new.processes) }
         ensures rest { self.new.processes ≡ record self.old.processes { slots = self.new.processes.slots } }
+        ensures kept { self.new.stopped ≡ self.old.stopped }
         ensures long { length self.new.processes.slots.items ≡ length self.old.processes.slots.items }
         ensures turned { (dev : C.Device) → MayRun C.Checkpoint self.old dev → 0 < self.old.processes.left → GoesOn C.Checkpoint (stage_in self.old dev) (later 0 (stage_in self.new dev)) entries.Power marks.Marked None }
     {
@@ -204,7 +216,8 @@ impl<C: Checkpoint + Drop> World<C> {
         ensures others { (q : ℕ) → (IsPartOf self.old q entry.now → ⊥) → C.untouched dev.old dev.new q }
         ensures later { (p : ℕ) → (C.stops dev.old p ≤ C.stops dev.new p) × (C.faults dev.old p ≤ C.faults dev.new p) }
         ensures continues { C.continues dev.old dev.new }
-        ensures stopped { IfOk result (λ mark. mark ≡ marks.Stopped → (p : ℕ) × IsPartOf self.old p entry.now × Rose (C.stops dev.old p) (C.stops dev.new p)) }
+        ensures stopped { IfOk result (λ mark. mark ≡ marks.Stopped → IsSomeAnd self.new.stopped (λ p. IsPartOf self.old p entry.now × Rose (C.stops dev.old p) (C.stops dev.new p))) }
+        ensures unstopped { IfOk result (λ mark. (mark ≡ marks.Stopped → ⊥) → self.new.stopped ≡ self.old.stopped) }
         ensures calm { IfOk result (λ mark. (mark ≡ marks.Stopped → ⊥) → (p : ℕ) → IsPartOf self.old p entry.now → (C.stops dev.new p ≡ C.stops dev.old p) × (C.faults dev.new p ≡ C.faults dev.old p)) }
         ensures device { (p : ℕ) → IsErrOf result (faults.Device p) → IsPartOf self.old p entry.now × Rose (C.faults dev.old p) (C.faults dev.new p) }
         ensures store { (p : ℕ) (fault : stores.StoreFault) → IsErrOf result (faults.Store p fault) → HasNoRun C.Checkpoint (stage_in self.old dev.old) (later 0 (stage_in self.new dev.new)) }
@@ -217,7 +230,10 @@ impl<C: Checkpoint + Drop> World<C> {
         match *entry {
             Entry::Turn(turn) => match self.take_turn(&turn, dev, shown) {
                 Ok(mark) => Ok(mark),
-                Err(fault) => answer_to(fault),
+                Err(fault) => {
+                    self.stopped = stopped_by(fault, self.stopped);
+                    answer_to(fault)
+                }
             },
             Entry::Stop(p) => {
                 self.stop(p);
@@ -255,7 +271,8 @@ impl<C: Checkpoint + Drop> World<C> {
         ensures continues { C.continues dev.old dev.new }
         ensures out_tells { TellsOn 0 (O.faults out.new) (O.held out.old) (O.held out.new) }
         ensures out_later { O.faults out.old ≤ O.faults out.new }
-        ensures stopped { IfOk result (λ mark. mark ≡ marks.Stopped → (p : ℕ) × IsPartOf self.old p entry.now × Rose (C.stops dev.old p) (C.stops dev.new p)) }
+        ensures stopped { IfOk result (λ mark. mark ≡ marks.Stopped → IsSomeAnd self.new.stopped (λ p. IsPartOf self.old p entry.now × Rose (C.stops dev.old p) (C.stops dev.new p))) }
+        ensures unstopped { IfOk result (λ mark. (mark ≡ marks.Stopped → ⊥) → self.new.stopped ≡ self.old.stopped) }
         ensures calm { IfOk result (λ mark. (mark ≡ marks.Stopped → ⊥) → (p : ℕ) → IsPartOf self.old p entry.now → (C.stops dev.new p ≡ C.stops dev.old p) × (C.faults dev.new p ≡ C.faults dev.old p)) }
         ensures device { (p : ℕ) → IsErrOf result (faults.Device p) → IsPartOf self.old p entry.now × Rose (C.faults dev.old p) (C.faults dev.new p) }
         ensures store { (p : ℕ) (fault : stores.StoreFault) → IsErrOf result (faults.Store p fault) → HasNoRun C.Checkpoint (stage_in self.old dev.old) (stage_in self.new dev.new) }
@@ -281,6 +298,22 @@ impl<C: Checkpoint + Drop> World<C> {
         }
     }
 
+    /// Adds the lines that an entry leaves in the journal of its run where nothing stops it: at most two. The entry is not run.
+    pub fn leave_lines(&self, entry: &Entry, dev: &C::Device, lines: &mut Reserved<Line>)
+        requires ready { MayRun C.Checkpoint self.now dev.now }
+        requires process { IsOfProcesses (length self.now.processes.slots.items) entry.now }
+        requires room { length lines.old.items + 2 ≤ lines.old.room }
+        ensures room { lines.old.room ≤ lines.new.room }
+        ensures few { length lines.new.items ≤ length lines.old.items + 2 }
+        ensures behind { take (length lines.old.items) lines.new.items ≡ lines.old.items }
+        ensures sixteen { All IsOfSixteen lines.old.items → All IsOfSixteen lines.new.items }
+        ensures left { EntryLeaves C.Checkpoint (stage_in self.now dev.now) entry.now lines.old.items lines.new.items }
+    {
+        if let Entry::Turn(turn) = entry {
+            leave_lines(&self.processes, turn, &self.stores, dev, lines);
+        }
+    }
+
     /// The acts of the run so far.
     pub fn acts(&self) -> &Acts
         ensures { result.now ≡ self.now.processes.acts }
@@ -293,6 +326,13 @@ impl<C: Checkpoint + Drop> World<C> {
         ensures { result ≡ self.now.processes.lines }
     {
         self.processes.lines
+    }
+
+    /// The process whose device was stopped last, if one was: as its store was made, or in an entry.
+    pub fn stopped(&self) -> Option<u32>
+        ensures { result ≡ self.now.stopped }
+    {
+        self.stopped
     }
 
     /// Whether every process is up and has ended.
@@ -310,6 +350,7 @@ impl<C: Checkpoint + Drop> World<C> {
         let World {
             processes,
             stores: _,
+            stopped: _,
         } = self;
         processes.into_acts()
     }

@@ -62,7 +62,7 @@ pub fn run_refused(
     let keeps = MemKeeps::new(alloc, refused.to_vec(alloc)?)?;
     let mut dev = Armed::new(keeps, Vec::new(alloc));
     let answer = run::<OnWords<Segment<Armed<MemKeeps>>>, MemSink>(
-        alloc, setup, entries, &mut dev, &mut out,
+        alloc, setup, entries, false, &mut dev, &mut out,
     );
     Ok(Ran {
         answer,
@@ -83,6 +83,6 @@ pub fn run_lent(
     let mut out = output_of(alloc, case)?;
     let mut keeps = MemKeeps::new(alloc, refused.to_vec(alloc)?)?;
     let stops = stops.to_vec(alloc)?;
-    let answer = run_on_memory(alloc, setup, entries, stops, &mut keeps, &mut out);
+    let answer = run_on_memory(alloc, setup, entries, stops, false, &mut keeps, &mut out);
     Ok(Ran { answer, keeps, out })
 }

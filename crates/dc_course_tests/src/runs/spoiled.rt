@@ -68,7 +68,15 @@ pub fn run_spoiled(alloc: Global, case: &str, entries: &[Entry]) -> Result<Ran, 
     let mut dev = Spoiled {
         keeps: MemKeeps::new(alloc, Vec::new(alloc))?,
     };
-    let answer = run_on_memory(alloc, setup, entries, Vec::new(alloc), &mut dev, &mut out);
+    let answer = run_on_memory(
+        alloc,
+        setup,
+        entries,
+        Vec::new(alloc),
+        false,
+        &mut dev,
+        &mut out,
+    );
     let Spoiled { keeps } = dev;
     Ok(Ran { answer, keeps, out })
 }

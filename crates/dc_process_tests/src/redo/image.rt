@@ -1,6 +1,6 @@
 //! The bytes of a disk for one process and a memory of a page, as a text says them.
 //!
-//! A word of the text moves to a place, or lays something there and moves behind it: `low` and `high` are where the halves begin, `at-N` is
+//! A word of the text moves to an offset, or lays something there and moves behind it: `low` and `high` are where the halves begin, `at-N` is
 //! byte `N`; `.N` is a byte, `N` a word, `N*C` so many words alike; `(` opens a record, with its gate, three zeros and the room of a length,
 //! and `)` sets the length and closes the next gate. `text-K` is the text of the kernel of commit `K`, `memory` the memory, `head-K` the line
 //! that tells the commit `K`, `whole-K` the record of a whole state and `prepared-K` of one that is prepared; `lines-K-C` is a record of `C`
@@ -13,7 +13,7 @@ use std::test::Fail;
 /// The bytes of a half: 8 for each of 1024 words of memory and 180 of a kernel's text, and 12368.
 pub const HALF: usize = 22000;
 
-/// The bytes of a disk, the place where the next ones go, and that of the record that was opened last.
+/// The bytes of a disk, the offset where the next ones go, and that of the record that was opened last.
 #[derive(Drop)]
 pub struct Image {
     pub bytes: Vec<u8>,

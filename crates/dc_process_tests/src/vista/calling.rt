@@ -101,7 +101,7 @@ fn log_of(rig: &Rig, list: &mut Vec<u64>) -> Result<(), Fail> {
     Ok(())
 }
 
-/// Each word of memory that is not 0, with its place before it.
+/// Each word of memory that is not 0, with its index before it.
 fn memory_of(rig: &Rig, list: &mut Vec<u64>) -> Result<(), Fail>
     requires { ⟦<Rig as Trial>⟧.fits rig.now }
 {

@@ -8,7 +8,7 @@ commit 2 = ok
 log 21 3 1 0 2 = ok
 ";
 
-/// A row has the words that are written, each as its part, its place there and its value, with `*` as many from there on; the decided number;
+/// A row has the words that are written, each as its part, its index there and its value, with `*` as many from there on; the decided number;
 /// and what is read under that.
 /// A line that begins with `#` says what the rows below it try.
 pub const ROWS: &str = "\

@@ -20,7 +20,7 @@ fn part(letter: &str) -> Result<u32, Fail> {
     }
 }
 
-/// The place of a word that is told as its part and its place there.
+/// The index of a word that is told as its part and its index there.
 fn index(at: &str) -> Result<u64, Fail> {
     let (letter, i) = at.split_at_checked(1).unwrap_or(("", ""));
     Ok(u64::from(part(letter)?) + u64::from(i.parse::<u32>()?))

@@ -14,6 +14,7 @@ mod sources;
 mod stops;
 mod tables;
 mod together;
+mod written;
 
 pub use answers::ANSWERS;
 pub use calls::CALLS;
@@ -29,3 +30,4 @@ pub use sources::SOURCES;
 pub use stops::STOPS;
 pub use tables::{FAILING, STOPPED};
 pub use together::{COMMITTED_TOGETHER, DECIDED_TOGETHER, RECOVERED_TOGETHER, TOGETHER};
+pub use written::WRITTEN;

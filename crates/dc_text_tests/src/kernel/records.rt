@@ -28,52 +28,52 @@ const NONE: &str = "\
 /// What is behind the bytes of a body counts for nothing.
 const BEHIND: &str = "1=3 2=1 4=1 5=ffffff61 20=ffffffff";
 
-fn text_of(places: &str) -> Result<[u32; RECORD_WORDS], Fail> {
+fn text_of(words: &str) -> Result<[u32; RECORD_WORDS], Fail> {
     let mut text = [0; RECORD_WORDS];
-    set(&mut text, places)?;
+    set(&mut text, words)?;
     Ok(text)
 }
 
 /// The position of the event that a text tells, and what it was told.
-fn decoded(places: &str) -> Result<Option<(u32, Reply)>, Fail> {
-    match LogRecord::decode(2, &text_of(places)?) {
+fn decoded(words: &str) -> Result<Option<(u32, Reply)>, Fail> {
+    match LogRecord::decode(2, &text_of(words)?) {
         Some(LogRecord { position, told }) => Ok(Some((position, told))),
         None => Ok(None),
     }
 }
 
 /// The event that a text tells, whose text is this one again.
-fn there_and_back(places: &str) -> Result<(), Fail> {
-    let Some((position, told)) = decoded(places)? else {
-        return Err(Fail::new(places));
+fn there_and_back(words: &str) -> Result<(), Fail> {
+    let Some((position, told)) = decoded(words)? else {
+        return Err(Fail::new(words));
     };
     let rec = LogRecord { position, told };
     let mut text = [9; RECORD_WORDS];
     rec.encode(&mut text);
-    holds(text == text_of(places)?, places)
+    holds(text == text_of(words)?, words)
 }
 
 #[test]
 fn texts_are_read_as_written() -> Result<(), Fail> {
-    for places in TEXTS.lines() {
-        there_and_back(places)?;
+    for words in TEXTS.lines() {
+        there_and_back(words)?;
     }
     Ok(())
 }
 
 #[test]
 fn other_words_are_no_events() -> Result<(), Fail> {
-    for places in NONE.lines() {
-        holds(decoded(places)?.is_none(), places)?;
+    for words in NONE.lines() {
+        holds(decoded(words)?.is_none(), words)?;
     }
     Ok(())
 }
 
 /// Whether a text tells an input at a position.
-fn is_input(places: &str, at: u32, body: Message) -> Result<bool, Fail> {
-    match decoded(places)? {
+fn is_input(words: &str, at: u32, body: Message) -> Result<bool, Fail> {
+    match decoded(words)? {
         Some((position, told)) => Ok(position == at && told == Reply::InputNext(body)),
-        None => Err(Fail::new(places)),
+        None => Err(Fail::new(words)),
     }
 }
 

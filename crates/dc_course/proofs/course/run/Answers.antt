@@ -1,14 +1,23 @@
-use Rattle.std.proofs.Common.{◌≡◌, ◌∙◌, ◌≤◌, ◌<◌, ◌+◌, ◌-◌, ◌^◌, ℕ, Bool, true, false, Err, ap, arith, inl, length, refl, reverse, subst, sym}
+use Rattle.std.proofs.Common.{◌≡◌, ◌⊎◌, ◌∙◌, inr, [], None, Some, IfSome, ⊎_elim, ◌≤◌, ◌<◌, ◌+◌, ◌-◌, ◌^◌, ℕ, Bool, true, false, Err, ap, arith, inl, length, refl, reverse, subst, sym}
+use Rattle.std.proofs.lemmas.Bool.{cases_lt, true≢false}
 use Rattle.std.proofs.lemmas.List.{length-map}
 use Rattle.dc_course.proofs.Between.{tells_on}
 use Rattle.dc_course.proofs.Counting.{sum_later, sum_rises}
 use Rattle.dc_course.proofs.Ups.{up_in, up_past, up_there, up_together}
 use Rattle.dc_course.proofs.Steps.{now_world, sound}
 use Rattle.dc_course.proofs.Tracing.{moment_is}
-use Rattle.dc_course.proofs.Whole.{course_is, ending_broken, ending_whole, begun_running, told_at, up_as}
+use Rattle.dc_course.proofs.Partaking.{cut_none, cut_some, said_of}
+use Rattle.dc_course.proofs.Journaling.{if_kept}
+use Rattle.dc_course.proofs.Whole.{course_is, ending_broken, ending_cut, ending_whole, begun_running, told_at, up_as}
+use Rattle.dc_course.specs.Journals.{AreCutAtStop, AreUpUnless, IsJournalOf, IsUncut, unstopped_front}
+use Rattle.dc_media.specs.Causes.{Rose}
+use Rattle.dc_recovery.specs.Turned.{LeadsTo}
+use Rattle.dc_recovery.specs.Unstopped.{AreTurns, Unstopped}
+use Rattle.dc_course.specs.declared.ending.Ending.TheVariants as ending
+use Rattle.dc_world.specs.declared.faults.TurnFault.{TurnFault}
+use Rattle.dc_world.specs.declared.faults.TurnFault.TheVariants as fault
 use Rattle.dc_course.specs.Headline.{AreUpAlike, IsEnding, Last, Setting, StopsTold, counted_with, late, system_in, unplanned}
-use Rattle.dc_course.specs.Headline.Last.{Whole}
-use Rattle.dc_course.specs.Courses.{IsCourse, PlannedCome, StoresLeft, TellsThroughout, account_of, counts_of, setting_of}
+use Rattle.dc_course.specs.Courses.{IsCourse, PlannedCome, StoresLeft, TellsThroughout, account_of, counts_of, ending_by, ending_of, journal_in, setting_of}
 use Rattle.dc_course.specs.Moments.{IsMoment, Moments}
 use Rattle.dc_course.specs.Running.{CanBegin, IsEnded, IsRunning, IsSettingOf, moment_of, output}
 use Rattle.dc_course.specs.declared.course.Course.{Course}
@@ -22,7 +31,7 @@ use Rattle.dc_processes.specs.Slots.{is_up, slot_at}
 use Rattle.dc_processes.specs.Stages.{IsTold}
 use Rattle.dc_world.specs.Worlds.{stage_in}
 use Rattle.dc_world.specs.declared.faults.OpenFault.TheVariants as opening
-use Rattle.dc_course.proofs.course.run.Goals.{in-Ok-run, in-Err-run}
+use Rattle.dc_course.proofs.course.run.Goals.{in-Ok-run+in-None, in-Ok-run+in-Some, in-Err-run}
 use Rattle.dc_course.proofs.course.run.Given.{Over}
 use Rattle.dc_course.proofs.course.run.Goals as goal
 
@@ -129,7 +138,7 @@ late_told g c tells p less false is =
     (length (given g c).images) (subst (λ n. q < n) (sym (length-map c.args.setup.images.items seen_image)) stop.1) in omega (arith, rises)
 
 -- the run that was opened is one of what it was given
-setting_is : (g : Over) (c : goal.After-course g) → IsSettingOf (record { world = c.in-Ok.world; marks = c.in_ok-marks.marks; from = 0 }) (given g c)
+setting_is : (g : Over) (c : goal.After-course g) → IsSettingOf (record { world = c.in-Ok.world; marks = c.in_ok-marks.marks; journal = c.in_ok-journal.journal; from = 0 }) (given g c)
 setting_is g c = record { protocol_is = sym c.in-Ok.ensures.begins.protocol_is; images_long = length-map c.args.setup.images.items seen_image ∙ sym c.in-Ok.ensures.begins.slots_long; from_is = refl }
 
 -- the stops that no plan lists
@@ -156,24 +165,72 @@ first_moment g c tells =
 pub record Traced (g : Over) (c : goal.After-course g) (last : Last) : Type 0 where
   pub come : PlannedCome (given g c) (opening (up g c)) (λ core d. StoresLeft g.C.Checkpoint (given g c) core d) (counts_of g.C.Planned.unplanned g.C.Planned.calls c.args.dev.now c.run.new.dev) last c.run.new.self.marks.items
 
+-- each process is up when the run begins, unless one was stopped
+up_unless : (g : Over) (c : goal.After-course g) → AreUpUnless c.in-Ok.world.stopped (up g c)
+up_unless g c none p =
+    let n = length c.args.setup.images.items in
+    let slots = c.in-Ok.world.processes.slots.items in
+    let below : (q : ℕ) → q < n → up g c q ≡ true = (λ q less. up_is g c q less ∙ c.in-Ok.ensures.unstopped none q (subst (λ m. q < m) (sym c.in-Ok.ensures.begins.slots_long) less)) in
+    ⊎_elim (λ (less : p < n). below p less) (λ (high : n ≤ p). up_past c.args.setup.protocol n slots (up_is g c 0 c.requires.some) (below 0 c.requires.some) p high) (cases_lt p n)
+
+-- the journal begins with nothing
+journal_begins : (g : Over) (c : goal.After-course g) → IsJournalOf (given g c) (up g c) c.in_ok-marks.marks.items c.in_ok-journal.journal.lines.items
+journal_begins g c = record {
+  core = start g c;
+  led = subst (λ ms. LeadsTo (system_in (given g c)) (given g c).schedule (opening (up g c)) (reverse (unstopped_front ms)) (start g c)) (sym c.in_ok-marks.ensures.items) refl;
+  lines_are = c.in_ok-journal.ensures.lines;
+}
+
+-- a journal that is kept is what its entries left
+noted : (g : Over) (c : goal.After-course g) (ending : Ending) → (c.in_ok-journal.journal.kept ≡ true → IsUncut ending (up g c) c.run.new.self.marks.items)
+    → TellsThroughout g.C.Checkpoint (length c.args.setup.images.items) c.args.dev.now c.run.new.dev → AreTurns (given g c).schedule
+    → IfSome (journal_in c.run.new.self.journal) (λ lines. AreCutAtStop c.run.new.self.marks.items × IsUncut ending (up g c) c.run.new.self.marks.items × IsJournalOf (given g c) (up g c) c.run.new.self.marks.items lines)
+noted g c ending uncut tells turns =
+    if_kept c.run.new.self.journal (λ lines. AreCutAtStop c.run.new.self.marks.items × IsUncut ending (up g c) c.run.new.self.marks.items × IsJournalOf (given g c) (up g c) c.run.new.self.marks.items lines) (λ keeps.
+    let kept : c.in_ok-journal.journal.kept ≡ true = sym c.run.ensures.kept ∙ keeps in (
+      c.run.ensures.cut kept,
+      uncut kept,
+      c.run.ensures.journal kept (given g c) (up g c) (g.O.Sink.held c.args.out.now) (can_begin g c) refl refl turns (told_opened g c tells) (told_ended g c tells) (begun g c tells) (up_unless g c) (journal_begins g c),
+    ))
+
+-- it was not stopped, where its schedule was used up
+uncut_whole : (g : Over) (c : goal.After-course g) (b : Bool) → (c.in-Ok.world.stopped ≡ None) × Unstopped c.run.new.self.marks.items → IsUncut (ending_of b) (up g c) c.run.new.self.marks.items
+uncut_whole g c true whole = (up_unless g c whole.0, whole.1)
+uncut_whole g c false whole = (up_unless g c whole.0, whole.1)
+
+-- nor where a fault ended it
+uncut_broken : (g : Over) (c : goal.After-course g) (f : TurnFault) → (c.in-Ok.world.stopped ≡ None) × Unstopped c.run.new.self.marks.items → IsUncut (ending_by f) (up g c) c.run.new.self.marks.items
+uncut_broken g c (fault.Device p) whole = (up_unless g c whole.0, whole.1)
+uncut_broken g c (fault.Store p why) whole = (up_unless g c whole.0, whole.1)
+uncut_broken g c fault.Sink whole = (up_unless g c whole.0, whole.1)
+
+-- whose device was stopped, by where
+abbrev Stop : (g : Over) → goal.After-course g → ℕ → Type 0
+Stop g c p = (c.in-Ok.world.stopped ≡ Some p) ⊎ ((p < length c.in-Ok.world.processes.slots.items) × Rose (g.C.Checkpoint.stops c.open.new.dev p) (g.C.Checkpoint.stops c.run.new.dev p))
+
+-- it is that of a process that is there
+stop_inside : (g : Over) (c : goal.After-course g) (p : ℕ) → Stop g c p → p < length c.args.setup.images.items
+stop_inside g c p (inl first) = (said_of c.in-Ok.world.stopped p _ first c.in-Ok.ensures.stopped_first).0
+stop_inside g c p (inr then) = subst (λ n. p < n) c.in-Ok.ensures.begins.slots_long then.0
+
 -- its last entry went so, and it ended so
 course : (g : Over) (c : goal.After-course g) (tells : TellsThroughout g.C.Checkpoint (length c.args.setup.images.items) c.args.dev.now c.run.new.dev) (ending : Ending) → c.match-run.ending ≡ ending → (last : Last)
     (ended : IsEnded g.C.Checkpoint (given g c) (start g c) (stage_in c.run.new.self.world c.run.new.dev) c.run.new.self.marks.items last (output (g.O.Sink.held c.args.out.now) (g.O.Sink.held c.run.new.out)))
-    → IsEnding (given g c) ending c.run.new.self.marks.items last ended.core → Traced g c last
+    → IsEnding (given g c) ending c.run.new.self.marks.items last ended.core → (c.in_ok-journal.journal.kept ≡ true → IsUncut ending (up g c) c.run.new.self.marks.items) → Traced g c last
     → IsCourse (given g c) (account_of c.course.result) c.course.result.ending (output (g.O.Sink.held c.args.out.now) (g.O.Sink.held c.run.new.out)) (counts_of g.C.Planned.unplanned g.C.Planned.calls c.args.dev.now c.run.new.dev)
     (λ core d. StoresLeft g.C.Checkpoint (given g c) core d)
-course g c tells ending same last ended is traced =
+course g c tells ending same last ended is uncut traced =
     let out = output (g.O.Sink.held c.args.out.now) (g.O.Sink.held c.run.new.out) in
     let counts = counts_of g.C.Planned.unplanned g.C.Planned.calls c.args.dev.now c.run.new.dev in
     let w = c.run.new.self.world in
     subst (λ (o : Course). IsCourse (given g c) (account_of o) o.ending out counts (λ core d. StoresLeft g.C.Checkpoint (given g c) core d)) (sym c.course.ensures)
-    (subst (λ e. IsCourse (given g c) (record { acts = w.processes.acts.items; marks = c.run.new.self.marks.items; lines = w.processes.lines }) e out counts (λ core d. StoresLeft g.C.Checkpoint (given g c) core d)) (sym same)
+    (subst (λ e. IsCourse (given g c) (record { acts = w.processes.acts.items; marks = c.run.new.self.marks.items; lines = w.processes.lines; journal = journal_in c.run.new.self.journal }) e out counts (λ core d. StoresLeft g.C.Checkpoint (given g c) core d)) (sym same)
     (course_is g.C.Checkpoint (given g c) (up g c) (up_alike g c) refl w.stores.items c.run.new.dev w.processes c.run.new.self.marks.items last out ended c.run.ensures.ready
-    (c.run.ensures.long ∙ c.in-Ok.ensures.begins.slots_long ∙ sym (length-map c.args.setup.images.items seen_image)) (up_beyond g c) counts ending refl is (stops_told g c tells) traced.come))
+    (c.run.ensures.long ∙ c.in-Ok.ensures.begins.slots_long ∙ sym (length-map c.args.setup.images.items seen_image)) (up_beyond g c) counts ending refl is (stops_told g c tells) traced.come (journal_in c.run.new.self.journal) (noted g c ending uncut tells)))
 
 pub returns-clause-headline : goal.returns-clause-headline
 returns-clause-headline g c tells = elim c.match-run.branch [
-  | in-Ok-run w ↦ (
+  | in-Ok-run+in-None w ↦ (
       let x = stage_in c.run.new.self.world c.run.new.dev in
       let out = output (g.O.Sink.held c.args.out.now) (g.O.Sink.held c.run.new.out) in
       let marks = c.run.new.self.marks.items in
@@ -181,15 +238,71 @@ returns-clause-headline g c tells = elim c.match-run.branch [
       let r : IsRunning g.C.Checkpoint (given g c) (start g c) x marks out = w.in-Ok-run.ensures.runs_on (given g c) (start g c) (g.O.Sink.held c.args.out.now) (can_begin g c) refl (told_opened g c tells) (told_ended g c tells) (begun g c tells) in
       let have = w.ended.ensures.core c.run.new.dev images r.core c.run.ensures.ready (now_world g.C.Checkpoint (given g c) (start g c) (can_begin g c) x marks out r) in
       let came = ending_whole g.C.Checkpoint (given g c) (start g c) (moment_of c.run.new.self c.run.new.dev (g.O.Sink.held c.run.new.out)) (g.O.Sink.held c.args.out.now) w.ended.result r
-      (subst (λ i. HaveEnded w.ended.result (guests_of images i) r.core) r.of.inputs_are have) (let used = w.in-Ok-run.ensures.used in omega (arith, used)) in
-      course g c tells _ (w.ending-is ∙ w.ended-ending.ensures) came.last came.ended came.is
+      (subst (λ i. HaveEnded w.ended.result (guests_of images i) r.core) r.of.inputs_are have) (let used = w.in-Ok-run.ensures.used (sym w.cut_by.ensures ∙ w.in-None.is) in omega (arith, used)) in
+      course g c tells _ (w.ending-is ∙ w.ended-in-None.ensures) came.last came.ended came.is
+      (λ kept. uncut_whole g c w.ended.result (w.in-Ok-run.ensures.whole (cut_none c.run.new.self (c.run.ensures.kept ∙ kept) (sym w.cut_by.ensures ∙ w.in-None.is))))
+      (let come = w.in-Ok-run.ensures.come (given g c) (start g c) (can_begin g c) (setting_is g c) (plan_kept g c) refl c.args.dev.now (g.O.Sink.held c.args.out.now) (told_opened g c tells) (told_ended g c tells) (begun g c tells) (first_moment g c tells) in record { come = record { now = come.0; moments = come.1; later = come.2; whole = λ e. come.3 refl } }))
+  | in-Ok-run+in-Some w ↦ (
+      let x = stage_in c.run.new.self.world c.run.new.dev in
+      let out = output (g.O.Sink.held c.args.out.now) (g.O.Sink.held c.run.new.out) in
+      let marks = c.run.new.self.marks.items in
+      let r : IsRunning g.C.Checkpoint (given g c) (start g c) x marks out = w.in-Ok-run.ensures.runs_on (given g c) (start g c) (g.O.Sink.held c.args.out.now) (can_begin g c) refl (told_opened g c tells) (told_ended g c tells) (begun g c tells) in
+      let came = ending_cut g.C.Checkpoint (given g c) (start g c) (moment_of c.run.new.self c.run.new.dev (g.O.Sink.held c.run.new.out)) (g.O.Sink.held c.args.out.now) w.in-Some.p r (subst (λ n. w.in-Some.p < n) (sym (length-map c.args.setup.images.items seen_image)) (stop_inside g c w.in-Some.p (said_of c.run.new.self.world.stopped w.in-Some.p _ (cut_some c.run.new.self w.in-Some.p (sym w.cut_by.ensures ∙ w.in-Some.is)).1 w.in-Ok-run.ensures.stop))) in
+      course g c tells _ w.ending-is came.last came.ended came.is (λ kept. tt)
       (let come = w.in-Ok-run.ensures.come (given g c) (start g c) (can_begin g c) (setting_is g c) (plan_kept g c) refl c.args.dev.now (g.O.Sink.held c.args.out.now) (told_opened g c tells) (told_ended g c tells) (begun g c tells) (first_moment g c tells) in record { come = record { now = come.0; moments = come.1; later = come.2; whole = λ e. come.3 refl } }))
   | in-Err-run w ↦ (
       let came = ending_broken g.C.Checkpoint (given g c) (start g c) (moment_of c.run.new.self c.run.new.dev (g.O.Sink.held c.run.new.out)) (g.O.Sink.held c.args.out.now) w.in-Err-run.fault
       (w.in-Err-run.ensures.runs_off w.in-Err-run.fault refl (given g c) (start g c) (g.O.Sink.held c.args.out.now) (can_begin g c) refl (told_opened g c tells) (told_ended g c tells) (begun g c tells)) in
       course g c tells _ (w.ending-is ∙ w.ended_by-ending.ensures) came.last came.ended came.is
+      (λ kept. uncut_broken g c w.in-Err-run.fault (w.in-Err-run.ensures.broken kept))
       (let come = w.in-Err-run.ensures.come (given g c) (start g c) (can_begin g c) (setting_is g c) (plan_kept g c) refl c.args.dev.now (g.O.Sink.held c.args.out.now) (told_opened g c tells) (told_ended g c tells) (begun g c tells) (first_moment g c tells) in record { come = record { now = come.0; moments = come.1; later = come.2; whole = λ e. absurd (came.broken e) } }))
 ]
 
 pub returns-clause-planned : goal.returns-clause-planned
 returns-clause-planned g c p = let first = g.met.C.Planned.idle_none c.args.dev.now c.open.new.dev p c.requires.idle c.open.ensures.continues in let rest = c.run.ensures.planned p in omega (arith, first, rest)
+
+-- where none was planned, and none had come, it is one of the device that was lent
+stop_rose : (g : Over) (c : goal.After-course g) (p : ℕ) → g.C.Planned.planned c.args.dev.now ≡ [] → g.C.Checkpoint.stops c.args.dev.now p ≡ g.C.Planned.unplanned c.args.dev.now p → Stop g c p
+    → Rose (g.C.Planned.unplanned c.args.dev.now p) (g.C.Planned.unplanned c.run.new.dev p)
+stop_rose g c p none same stop =
+    let lasts = g.met.C.Planned.lasts_within c.args.dev.now c.open.new.dev c.open.ensures.continues in
+    let opened = g.met.C.Planned.idle_none c.args.dev.now c.open.new.dev p c.requires.idle c.open.ensures.continues in
+    let before = g.met.C.Planned.unplanned_later c.args.dev.now c.open.new.dev p lasts in
+    let after = g.met.C.Planned.unplanned_later c.open.new.dev c.run.new.dev p c.run.ensures.lasts in
+    let rest = c.run.ensures.alone (g.met.C.Planned.planned_same c.args.dev.now c.open.new.dev lasts ∙ none) p in
+    ⊎_elim
+    (λ (first : c.in-Ok.world.stopped ≡ Some p). let rose = (said_of c.in-Ok.world.stopped p _ first c.in-Ok.ensures.stopped_first).1 in omega (arith, rose, same, opened, after))
+    (λ (then : (p < length c.in-Ok.world.processes.slots.items) × Rose (g.C.Checkpoint.stops c.open.new.dev p) (g.C.Checkpoint.stops c.run.new.dev p)). let rose = then.1 in omega (arith, rose, rest, same, opened, before))
+    stop
+
+-- no fault ends a run so
+no_stop : (f : TurnFault) (p : ℕ) → ending_by f ≡ ending.Stopped p → ⊥
+no_stop (fault.Device q) p e = let off : ending.Device q ≡ ending.Stopped p = e in cc
+no_stop (fault.Store q why) p e = let off : ending.Store q why ≡ ending.Stopped p = e in cc
+no_stop fault.Sink p e = let off : ending.Sink ≡ ending.Stopped p = e in cc
+
+-- nor does the end of its schedule
+no_stop_ended : (b : Bool) (p : ℕ) → ending_of b ≡ ending.Stopped p → ⊥
+no_stop_ended true p e = let off : ending.Done ≡ ending.Stopped p = e in cc
+no_stop_ended false p e = let off : ending.Unfinished ≡ ending.Stopped p = e in cc
+
+pub returns-clause-stop : goal.returns-clause-stop
+returns-clause-stop g c = λ p e. elim c.match-run.branch [
+  | in-Ok-run+in-None w ↦ absurd (no_stop_ended w.ended.result p (sym w.ended-in-None.ensures ∙ sym w.ending-is ∙ sym (ap (λ (o : Course). o.ending) c.course.ensures) ∙ e))
+  | in-Ok-run+in-Some w ↦ (
+      let is : ending.Stopped w.in-Some.p ≡ ending.Stopped p = sym w.ending-is ∙ sym (ap (λ (o : Course). o.ending) c.course.ensures) ∙ e in
+      let same : w.in-Some.p ≡ p = cc in
+      let cut = cut_some c.run.new.self w.in-Some.p (sym w.cut_by.ensures ∙ w.in-Some.is) in
+      let stop : Stop g c p = subst (Stop g c) same (said_of c.run.new.self.world.stopped w.in-Some.p _ cut.1 w.in-Ok-run.ensures.stop) in
+      (stop_inside g c p stop, λ none now. stop_rose g c p none now stop))
+  | in-Err-run w ↦ absurd (no_stop w.in-Err-run.fault p (sym w.ended_by-ending.ensures ∙ sym w.ending-is ∙ sym (ap (λ (o : Course). o.ending) c.course.ensures) ∙ e))
+]
+
+pub returns-clause-unkept : goal.returns-clause-unkept
+returns-clause-unkept g c = λ off p e. elim c.match-run.branch [
+  | in-Ok-run+in-None w ↦ no_stop_ended w.ended.result p (sym w.ended-in-None.ensures ∙ sym w.ending-is ∙ sym (ap (λ (o : Course). o.ending) c.course.ensures) ∙ e)
+  | in-Ok-run+in-Some w ↦ (
+      let cut = cut_some c.run.new.self w.in-Some.p (sym w.cut_by.ensures ∙ w.in-Some.is) in
+      true≢false (sym cut.0 ∙ c.run.ensures.kept ∙ c.in_ok-journal.ensures.kept ∙ off))
+  | in-Err-run w ↦ no_stop w.in-Err-run.fault p (sym w.ended_by-ending.ensures ∙ sym w.ending-is ∙ sym (ap (λ (o : Course). o.ending) c.course.ensures) ∙ e)
+]

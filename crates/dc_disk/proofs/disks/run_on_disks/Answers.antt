@@ -1,4 +1,4 @@
-use Rattle.std.proofs.Common.{◌≡◌, ◌∙◌, ◌≤◌, ◌<◌, IfOk, IsSome, ap, arith, length, refl, rules, subst, sym}
+use Rattle.std.proofs.Common.{◌≡◌, ◌∙◌, ◌≤◌, ◌<◌, [], ℕ, IfOk, IsSome, ap, arith, length, refl, rules, subst, sym}
 use Rattle.std.proofs.lemmas.Result.{IfOk-weaker}
 use Rattle.dc_course.proofs.Within.{calm_within}
 use Rattle.dc_disk.proofs.Logs.{disk_course}
@@ -9,6 +9,7 @@ use Rattle.dc_course.specs.Running.{output}
 use Rattle.dc_course.specs.Lent.{IsLeftAlone, KeepsTold, TellsStores, capped_by}
 use Rattle.dc_media.specs.Devices.{of_disks}
 use Rattle.dc_disk.specs.Logs.{LogsLeft}
+use Rattle.dc_course.specs.declared.ending.Ending.TheVariants as ending
 use Rattle.dc_media.specs.Causes.{Rose}
 use Rattle.dc_world.specs.Opened.{IsCalmUnlessStopped}
 use Rattle.dc_disk.proofs.disks.run_on_disks.Goals as goal
@@ -71,3 +72,13 @@ returns-clause-wanting g c e p =
     (calm_within (g.D.Disks.stops armed.device.now p) (g.D.Disks.stops dev.device.now p) (all_stops (λ d. g.D.Disks.stops d.now) armed p) (all_stops (λ d. g.D.Disks.stops d.now) dev p)
     (g.D.Disks.faults armed.device.now p) (g.D.Disks.faults dev.device.now p) (omega (arith, none)) (c.run-course.ensures.lasts.stopped p) (omega arith)
     (c.run-course.ensures.unplanned e p) (c.run-course.ensures.wanting e p)))
+
+pub returns-clause-stop : goal.returns-clause-stop
+returns-clause-stop g c =
+    let lent : c.new-armed.result.device.now ≡ c.args.disks.now = ap (λ b. b.now) c.new-armed.ensures.device in
+    subst (λ k. IfOk c.run-course.result (λ course. c.args.stops.items ≡ [] → (p : ℕ) → course.ending ≡ ending.Stopped p → (p < length c.args.setup.images.items) × Rose (g.D.Disks.stops c.args.disks.now p) (g.D.Disks.stops k p))) {x = c.run-course.new.dev.device.now} (search rules)
+    (IfOk-weaker c.run-course.result _ _ (λ course says none p e.
+    let stop = says p e in
+    let zero = c.new-armed.ensures.came p in
+    let rose = stop.1 (c.new-armed.ensures.stops ∙ none) (omega (arith, zero)) in
+    (stop.0, subst (λ k. Rose (g.D.Disks.stops k p) (g.D.Disks.stops c.run-course.new.dev.device.now p)) lent rose)) c.run-course.ensures.stop)

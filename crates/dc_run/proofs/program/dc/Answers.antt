@@ -1,18 +1,19 @@
-use Rattle.std.proofs.Common.{◌≡◌, ◌∙◌, ℕ, Err, Some, ap, inl, length, refl, rules}
+use Rattle.std.proofs.Common.{◌≡◌, ◌∙◌, ℕ, Err, Some, true, ap, inl, inr, length, refl, rules}
 use Rattle.dc_audit.specs.Reading.{IsVerdict}
 use Rattle.dc_audit.specs.declared.verdict.Verdict.TheVariants as found
 use Rattle.dc_command.specs.Command.{asked_of}
-use Rattle.dc_command.specs.Command.{names_view}
+use Rattle.dc_command.specs.Command.{names_view, order_view}
+use Rattle.dc_command.specs.declared.command.Ledger.TheVariants as Ledger
 use Rattle.dc_command.specs.Command.Asked.{ToRun, ToCheck, ToAssemble, ToAudit}
 use Rattle.dc_run.specs.Checking.{Checked, IsChecked}
 use Rattle.dc_run.proofs.Checks.{check_asks, check_exact, check_passes}
-use Rattle.dc_run.proofs.Commands.{assembly_asks, assembly_exact, assembly_opened, audit_asks, audit_exact, audit_opened, audit_says, check_opened, run_exact, run_asks, run_opened, unasked_opened}
-use Rattle.dc_run.proofs.Ends.{never_refused, opened_with, other_complete, run_complete, run_of_words}
+use Rattle.dc_run.proofs.Commands.{assembly_asks, assembly_exact, assembly_opened, audit_asks, audit_exact, audit_opened, audit_says, check_opened, run_exact, run_asks, run_opened, unasked_opened, unasked_work}
+use Rattle.dc_run.proofs.Ends.{never_refused, not_stopped, opened_with, other_complete, run_complete, run_of_words}
 use Rattle.dc_media.specs.Devices.{of_disks, of_words}
 use Rattle.dc_run.proofs.OnMedia.{each_so, medium_asked, other_same}
 use Rattle.dc_run.specs.Media.{HasFailed, IsOtherSame, devices_of, lent}
-use Rattle.dc_run.specs.Headline.{IsReported, course, loan}
-use Rattle.dc_run.specs.Passing.{WritesPassing}
+use Rattle.dc_run.specs.Headline.{IsReported, course, is_used_up, keeps_journal, loan}
+use Rattle.dc_run.specs.Passing.{WritesPassing, WritesSaved}
 use Rattle.dc_run.specs.Settings.{has_run}
 use Rattle.dc_run.specs.declared.verdict.Verdict.TheVariants.{DeviceFault}
 use Rattle.dc_run.proofs.Leaving.{asked_left, left_same}
@@ -20,11 +21,11 @@ use Rattle.dc_run.specs.Commands.{medium_of, stores_used, work_of}
 use Rattle.dc_run.proofs.program.dc.Goals as goal
 
 pub returns-in-Ok-Run-clause-refused : goal.returns-in-Ok-Run-clause-refused
-returns-in-Ok-Run-clause-refused g c refusal is = let asked : asked_of c.args.words.now ≡ Some (ToRun c.in-Ok-Run.plan.now) = search rules in
+returns-in-Ok-Run-clause-refused g c refusal is = let asked : asked_of c.args.words.now ≡ Some (ToRun (order_view c.in-Ok-Run.order)) = search rules in
     run_exact _ c.args.words.now _ asked _ refusal (c.run_plan.ensures.refused refusal is)
 
 pub returns-in-Ok-Run-clause-library_asked : goal.returns-in-Ok-Run-clause-library_asked
-returns-in-Ok-Run-clause-library_asked g c which = let asked : asked_of c.args.words.now ≡ Some (ToRun c.in-Ok-Run.plan.now) = search rules in
+returns-in-Ok-Run-clause-library_asked g c which = let asked : asked_of c.args.words.now ≡ Some (ToRun (order_view c.in-Ok-Run.order)) = search rules in
     run_asks _ c.args.words.now _ asked _ which (c.run_plan.ensures.library_asked which)
 
 pub returns-in-Ok-Assemble-clause-refused : goal.returns-in-Ok-Assemble-clause-refused
@@ -52,7 +53,7 @@ returns-in-Ok-Check-clause-checked g c = λ opened. let asked : asked_of c.args.
     (λ checked is. (is, refl)) (c.check_output.ensures.checked opened)
 
 pub returns-in-Ok-Run-clause-opened : goal.returns-in-Ok-Run-clause-opened
-returns-in-Ok-Run-clause-opened g c = let asked : asked_of c.args.words.now ≡ Some (ToRun c.in-Ok-Run.plan.now) = search rules in
+returns-in-Ok-Run-clause-opened g c = let asked : asked_of c.args.words.now ≡ Some (ToRun (order_view c.in-Ok-Run.order)) = search rules in
     run_opened c.args.words.now c.run_plan.result.verdict _ _ asked c.run_plan.ensures.opened
 
 pub returns-in-Ok-Check-clause-opened : goal.returns-in-Ok-Check-clause-opened
@@ -64,17 +65,17 @@ returns-in-Ok-Assemble-clause-opened g c = let asked : asked_of c.args.words.now
     assembly_opened c.args.words.now c.assemble_source.result.verdict _ _ asked c.assemble_source.ensures.opened
 
 pub returns-in-Ok-Run-clause-complete : goal.returns-in-Ok-Run-clause-complete
-returns-in-Ok-Run-clause-complete g c = let asked : asked_of c.args.words.now ≡ Some (ToRun c.in-Ok-Run.plan.now) = search rules in
+returns-in-Ok-Run-clause-complete g c = let asked : asked_of c.args.words.now ≡ Some (ToRun (order_view c.in-Ok-Run.order)) = search rules in
     let out = course (g.O.Sink.held c.args.out.now) (g.O.Sink.held c.run_plan.new.out) (g.O.Sink.faults c.args.out.now) (g.O.Sink.faults c.run_plan.new.out) in
     let report = course (g.R.Sink.held c.args.report.now) (g.R.Sink.held c.run_plan.new.report) (g.R.Sink.faults c.args.report.now) (g.R.Sink.faults c.run_plan.new.report) in
     let before = lent c.args.keeps.now c.args.disks.now in
     let after = lent c.run_plan.new.keeps c.run_plan.new.disks in
     let known = g.L.Library.files c.args.lib.now in
     run_complete c.args.words.now c.run_plan.result.verdict before after (g.L.Library.faults c.args.lib.now) (g.L.Library.faults c.run_plan.new.lib) out report
-    c.run_plan.ensures.library_fault c.run_plan.ensures.output_fault c.run_plan.ensures.report_fault (devices_of g.K.Keeps g.D.Disks) known c.in-Ok-Run.plan.now asked c.run_plan.ensures.medium_fault c.run_plan.ensures.opened
-    (λ p fault e. opened_with known c.in-Ok-Run.plan.now (λ m setting. IsReported (devices_of g.K.Keeps g.D.Disks m) setting c.run_plan.result (loan before after) out report)
+    c.run_plan.ensures.library_fault c.run_plan.ensures.output_fault c.run_plan.ensures.report_fault (devices_of g.K.Keeps g.D.Disks) known (order_view c.in-Ok-Run.order) asked (λ p e. ap keeps_journal (c.run_plan.ensures.stopped_alone p e)) c.run_plan.ensures.medium_fault c.run_plan.ensures.opened
+    (λ p fault e. opened_with known (order_view c.in-Ok-Run.order) (λ m setting. IsReported c.in-Ok-Run.order.ledger (devices_of g.K.Keeps g.D.Disks m) setting c.run_plan.result (loan before after) out report)
     (λ m setting. (devices_of g.K.Keeps g.D.Disks m).tell (length setting.images) before after → ⊥)
-    (λ m setting is. never_refused (devices_of g.K.Keeps g.D.Disks m) setting c.run_plan.result (loan before after) out report p fault e is) (c.run_plan.ensures.headline (c.run_plan.ensures.did (ap has_run e))))
+    (λ m setting is. never_refused c.in-Ok-Run.order.ledger (devices_of g.K.Keeps g.D.Disks m) setting c.run_plan.result (loan before after) out report p fault e is) (c.run_plan.ensures.headline (c.run_plan.ensures.did (ap has_run e))))
 
 pub returns-in-Ok-Check-clause-complete : goal.returns-in-Ok-Check-clause-complete
 returns-in-Ok-Check-clause-complete g c = let asked : asked_of c.args.words.now ≡ Some (ToCheck (names_view c.in-Ok-Check.names)) = search rules in
@@ -95,15 +96,15 @@ returns-in-Ok-Assemble-clause-complete g c = let asked : asked_of c.args.words.n
     (devices_of g.K.Keeps g.D.Disks) (λ m p e. absurd (c.assemble_source.ensures.device p e)) known (assembly_opened c.args.words.now c.assemble_source.result.verdict known c.in-Ok-Assemble.source.now asked c.assemble_source.ensures.opened) c.assemble_source.ensures.runs
 
 pub returns-in-Ok-Run-clause-passes : goal.returns-in-Ok-Run-clause-passes
-returns-in-Ok-Run-clause-passes g c ran = let asked : asked_of c.args.words.now ≡ Some (ToRun c.in-Ok-Run.plan.now) = search rules in
+returns-in-Ok-Run-clause-passes g c ran = let asked : asked_of c.args.words.now ≡ Some (ToRun (order_view c.in-Ok-Run.order)) = search rules in
     let out = course (g.O.Sink.held c.args.out.now) (g.O.Sink.held c.run_plan.new.out) (g.O.Sink.faults c.args.out.now) (g.O.Sink.faults c.run_plan.new.out) in
     let report = course (g.R.Sink.held c.args.report.now) (g.R.Sink.held c.run_plan.new.report) (g.R.Sink.faults c.args.report.now) (g.R.Sink.faults c.run_plan.new.report) in
-    run_of_words (g.L.Library.files c.args.lib.now) c.args.words.now c.in-Ok-Run.plan.now
-    (λ m setting. (devices_of g.K.Keeps g.D.Disks m).tell (length setting.images) (lent c.args.keeps.now c.args.disks.now) (lent c.run_plan.new.keeps c.run_plan.new.disks) → WritesPassing setting out report c.run_plan.result.acts.items) asked (c.run_plan.ensures.passes ran)
+    run_of_words (g.L.Library.files c.args.lib.now) c.args.words.now (order_view c.in-Ok-Run.order)
+    (λ m ledger setting. ledger ≡ Ledger.Report → (devices_of g.K.Keeps g.D.Disks m).tell (length setting.images) (lent c.args.keeps.now c.args.disks.now) (lent c.run_plan.new.keeps c.run_plan.new.disks) → WritesPassing setting out report c.run_plan.result.acts.items) asked (c.run_plan.ensures.passes ran)
 
 pub returns-in-Ok-Run-clause-keeps_others : goal.returns-in-Ok-Run-clause-keeps_others
-returns-in-Ok-Run-clause-keeps_others g c = let asked : asked_of c.args.words.now ≡ Some (ToRun c.in-Ok-Run.plan.now) = search rules in
-    asked_left (of_words g.K.Keeps) (g.L.Library.files c.args.lib.now) c.args.words.now c.in-Ok-Run.plan.now c.args.keeps.now c.run_plan.new.keeps asked c.run_plan.ensures.keeps_others
+returns-in-Ok-Run-clause-keeps_others g c = let asked : asked_of c.args.words.now ≡ Some (ToRun (order_view c.in-Ok-Run.order)) = search rules in
+    asked_left (of_words g.K.Keeps) (g.L.Library.files c.args.lib.now) c.args.words.now (order_view c.in-Ok-Run.order) c.args.keeps.now c.run_plan.new.keeps asked c.run_plan.ensures.keeps_others
 
 pub returns-in-Ok-Check-clause-keeps_others : goal.returns-in-Ok-Check-clause-keeps_others
 returns-in-Ok-Check-clause-keeps_others g c = left_same (of_words g.K.Keeps) (g.L.Library.files c.args.lib.now) (λ files. stores_used (work_of files c.args.words.now)) c.args.keeps.now
@@ -124,8 +125,8 @@ pub returns-in-Err-clause-wanting : goal.returns-in-Err-clause-wanting
 returns-in-Err-clause-wanting g c e p = (inl (refl, refl), inl (refl, refl))
 
 pub returns-in-Ok-Run-clause-disks_others : goal.returns-in-Ok-Run-clause-disks_others
-returns-in-Ok-Run-clause-disks_others g c = let asked : asked_of c.args.words.now ≡ Some (ToRun c.in-Ok-Run.plan.now) = search rules in
-    asked_left (of_disks g.D.Disks) (g.L.Library.files c.args.lib.now) c.args.words.now c.in-Ok-Run.plan.now c.args.disks.now c.run_plan.new.disks asked c.run_plan.ensures.disks_others
+returns-in-Ok-Run-clause-disks_others g c = let asked : asked_of c.args.words.now ≡ Some (ToRun (order_view c.in-Ok-Run.order)) = search rules in
+    asked_left (of_disks g.D.Disks) (g.L.Library.files c.args.lib.now) c.args.words.now (order_view c.in-Ok-Run.order) c.args.disks.now c.run_plan.new.disks asked c.run_plan.ensures.disks_others
 
 pub returns-in-Ok-Check-clause-disks_others : goal.returns-in-Ok-Check-clause-disks_others
 returns-in-Ok-Check-clause-disks_others g c = left_same (of_disks g.D.Disks) (g.L.Library.files c.args.lib.now) (λ files. stores_used (work_of files c.args.words.now)) c.args.disks.now
@@ -154,13 +155,13 @@ returns-in-Ok-Assemble-clause-medium_fault g c = each_so (g.L.Library.files c.ar
     (λ m. (p : ℕ) → c.assemble_source.result.verdict ≡ DeviceFault p → HasFailed (devices_of g.K.Keeps g.D.Disks m) (lent c.args.keeps.now c.args.disks.now) (lent c.args.keeps.now c.args.disks.now) p) (λ m p e. absurd (c.assemble_source.ensures.device p e))
 
 pub returns-in-Ok-Run-clause-medium_fault : goal.returns-in-Ok-Run-clause-medium_fault
-returns-in-Ok-Run-clause-medium_fault g c = let asked : asked_of c.args.words.now ≡ Some (ToRun c.in-Ok-Run.plan.now) = search rules in
-    medium_asked (g.L.Library.files c.args.lib.now) c.args.words.now c.in-Ok-Run.plan.now
+returns-in-Ok-Run-clause-medium_fault g c = let asked : asked_of c.args.words.now ≡ Some (ToRun (order_view c.in-Ok-Run.order)) = search rules in
+    medium_asked (g.L.Library.files c.args.lib.now) c.args.words.now (order_view c.in-Ok-Run.order)
     (λ m. (p : ℕ) → c.run_plan.result.verdict ≡ DeviceFault p → HasFailed (devices_of g.K.Keeps g.D.Disks m) (lent c.args.keeps.now c.args.disks.now) (lent c.run_plan.new.keeps c.run_plan.new.disks) p) asked c.run_plan.ensures.medium_fault
 
 pub returns-in-Ok-Run-clause-other : goal.returns-in-Ok-Run-clause-other
-returns-in-Ok-Run-clause-other g c = let asked : asked_of c.args.words.now ≡ Some (ToRun c.in-Ok-Run.plan.now) = search rules in
-    medium_asked (g.L.Library.files c.args.lib.now) c.args.words.now c.in-Ok-Run.plan.now (λ m. IsOtherSame m (lent c.args.keeps.now c.args.disks.now) (lent c.run_plan.new.keeps c.run_plan.new.disks)) asked c.run_plan.ensures.other
+returns-in-Ok-Run-clause-other g c = let asked : asked_of c.args.words.now ≡ Some (ToRun (order_view c.in-Ok-Run.order)) = search rules in
+    medium_asked (g.L.Library.files c.args.lib.now) c.args.words.now (order_view c.in-Ok-Run.order) (λ m. IsOtherSame m (lent c.args.keeps.now c.args.disks.now) (lent c.run_plan.new.keeps c.run_plan.new.disks)) asked c.run_plan.ensures.other
 
 pub returns-in-Ok-Audit-clause-refused : goal.returns-in-Ok-Audit-clause-refused
 returns-in-Ok-Audit-clause-refused g c refusal is = let asked : asked_of c.args.words.now ≡ Some (ToAudit c.in-Ok-Audit.journal.now) = search rules in
@@ -202,3 +203,37 @@ returns-in-Ok-Audit-clause-medium_fault g c = each_so (g.L.Library.files c.args.
 pub returns-in-Ok-Audit-clause-unsaved : goal.returns-in-Ok-Audit-clause-unsaved
 returns-in-Ok-Audit-clause-unsaved g c event line e = let asked : asked_of c.args.words.now ≡ Some (ToAudit c.in-Ok-Audit.journal.now) = search rules in
     audit_says (g.L.Library.files c.args.lib.now) c.args.words.now c.in-Ok-Audit.journal.now (λ said. IsVerdict said (found.NotSaved event line)) asked (c.audit_journal.ensures.unsaved event line e)
+
+pub returns-in-Ok-Run-clause-saves : goal.returns-in-Ok-Run-clause-saves
+returns-in-Ok-Run-clause-saves g c ran = let asked : asked_of c.args.words.now ≡ Some (ToRun (order_view c.in-Ok-Run.order)) = search rules in
+    let report = course (g.R.Sink.held c.args.report.now) (g.R.Sink.held c.run_plan.new.report) (g.R.Sink.faults c.args.report.now) (g.R.Sink.faults c.run_plan.new.report) in
+    run_of_words (g.L.Library.files c.args.lib.now) c.args.words.now (order_view c.in-Ok-Run.order)
+    (λ m ledger setting. ledger ≡ Ledger.Journal → (devices_of g.K.Keeps g.D.Disks m).tell (length setting.images) (lent c.args.keeps.now c.args.disks.now) (lent c.run_plan.new.keeps c.run_plan.new.disks) → is_used_up c.run_plan.result.verdict ≡ true → WritesSaved setting report) asked (c.run_plan.ensures.saves ran)
+
+pub returns-in-Ok-Check-clause-stopped_alone : goal.returns-in-Ok-Check-clause-stopped_alone
+returns-in-Ok-Check-clause-stopped_alone g c p e = absurd (not_stopped c.check_output.result.verdict p c.check_output.ensures.runs e)
+
+pub returns-in-Ok-Check-clause-device_stop : goal.returns-in-Ok-Check-clause-device_stop
+returns-in-Ok-Check-clause-device_stop g c p e = absurd (not_stopped c.check_output.result.verdict p c.check_output.ensures.runs e)
+
+pub returns-in-Ok-Assemble-clause-stopped_alone : goal.returns-in-Ok-Assemble-clause-stopped_alone
+returns-in-Ok-Assemble-clause-stopped_alone g c p e = absurd (not_stopped c.assemble_source.result.verdict p c.assemble_source.ensures.runs e)
+
+pub returns-in-Ok-Assemble-clause-device_stop : goal.returns-in-Ok-Assemble-clause-device_stop
+returns-in-Ok-Assemble-clause-device_stop g c p e = absurd (not_stopped c.assemble_source.result.verdict p c.assemble_source.ensures.runs e)
+
+pub returns-in-Ok-Audit-clause-stopped_alone : goal.returns-in-Ok-Audit-clause-stopped_alone
+returns-in-Ok-Audit-clause-stopped_alone g c p e = absurd (not_stopped c.audit_journal.result.verdict p c.audit_journal.ensures.runs e)
+
+pub returns-in-Ok-Audit-clause-device_stop : goal.returns-in-Ok-Audit-clause-device_stop
+returns-in-Ok-Audit-clause-device_stop g c p e = absurd (not_stopped c.audit_journal.result.verdict p c.audit_journal.ensures.runs e)
+
+pub returns-in-Ok-Run-clause-headline : goal.returns-in-Ok-Run-clause-headline
+returns-in-Ok-Run-clause-headline g c ran = let asked : asked_of c.args.words.now ≡ Some (ToRun (order_view c.in-Ok-Run.order)) = search rules in
+    let out = course (g.O.Sink.held c.args.out.now) (g.O.Sink.held c.run_plan.new.out) (g.O.Sink.faults c.args.out.now) (g.O.Sink.faults c.run_plan.new.out) in
+    let report = course (g.R.Sink.held c.args.report.now) (g.R.Sink.held c.run_plan.new.report) (g.R.Sink.faults c.args.report.now) (g.R.Sink.faults c.run_plan.new.report) in
+    run_of_words (g.L.Library.files c.args.lib.now) c.args.words.now (order_view c.in-Ok-Run.order)
+    (λ m ledger setting. IsReported ledger (devices_of g.K.Keeps g.D.Disks m) setting c.run_plan.result (loan (lent c.args.keeps.now c.args.disks.now) (lent c.run_plan.new.keeps c.run_plan.new.disks)) out report) asked (c.run_plan.ensures.headline ran)
+
+pub returns-in-Err-clause-complete : goal.returns-in-Err-clause-complete
+returns-in-Err-clause-complete g c = unasked_work _ c.args.words.now c.in-Err.fault _ (c.idle.ensures.verdict ∙ c.unasked.ensures.meant) (λ is. c.in-Err.ensures.usage (ap Err is)) _ (λ e files work calm told. inr e)

@@ -1,4 +1,4 @@
-use Rattle.std.proofs.Common.{All, length, subst, sym}
+use Rattle.std.proofs.Common.{◌∙◌, All, length, subst, sym}
 use Rattle.std.proofs.lemmas.List.{length-map}
 use Rattle.std.proofs.lemmas.Result.{IfOk-weaker}
 use Rattle.dc_course.specs.Courses.{IsCourse, account_of, counts_of}
@@ -45,3 +45,9 @@ returns-clause-headline g c =
     (kept_on_disks g.K.Keeps g.D.Disks setting (account_of run) run.ending out old new c.args.keeps.now (λ tells.
     subst (λ es. IsCourse (record setting { schedule = es }) (account_of run) run.ending out (counts_of g.D.Disks.stops (capped_by g.D.Disks.calls) old new) (λ core d. LogsLeft g.D.Disks (record setting { schedule = es }) core d)) c.deref-in-Disk.ensures.value
     (says (subst (λ n. TellsStores (of_disks g.D.Disks) n old new) (length-map c.args.setting.images.items seen_image) tells))))) c.run_on_disks.ensures.headline
+
+pub returns-in-Rio-clause-unkept : goal.returns-in-Rio-clause-unkept
+returns-in-Rio-clause-unkept g c = IfOk-weaker c.run_on_memory.result _ _ (λ run never keeps. never (c.keeps_journal-kept.ensures ∙ keeps)) c.run_on_memory.ensures.unkept
+
+pub returns-clause-unkept : goal.returns-clause-unkept
+returns-clause-unkept g c = IfOk-weaker c.run_on_disks.result _ _ (λ run never keeps. never (c.keeps_journal-kept.ensures ∙ keeps)) c.run_on_disks.ensures.unkept

@@ -1,52 +1,52 @@
 /// Guests: their files, what they compute and how they trap.
 pub const GUESTS: &str = "\
 * a file refused for magic
-place=3
+offset=3
 byte=69
 status=4
 said=dc: guest 0 refused: magic~
 * a file refused for class
-place=4
+offset=4
 byte=2
 status=4
 said=dc: guest 0 refused: class~
 * a file refused for order
-place=5
+offset=5
 byte=2
 status=4
 said=dc: guest 0 refused: order~
 * a file refused for file type
-place=16
+offset=16
 byte=3
 status=4
 said=dc: guest 0 refused: file type~
 * a file refused for machine
-place=18
+offset=18
 byte=242
 status=4
 said=dc: guest 0 refused: machine~
 * a file refused for flags
-place=36
+offset=36
 byte=1
 status=4
 said=dc: guest 0 refused: flags~
 * a file refused for headers
-place=42
+offset=42
 byte=31
 status=4
 said=dc: guest 0 refused: headers~
 * a file refused for segment 0
-place=68
+offset=68
 byte=33
 status=4
 said=dc: guest 0 refused: segment 0~
 * a file refused for entry
-place=24
+offset=24
 byte=2
 status=4
 said=dc: guest 0 refused: entry~
 * a guest begins at its entry
-place=24
+offset=24
 byte=16
 out=end 0 0 0~
 said=dc: done 3 acts 1 lines~

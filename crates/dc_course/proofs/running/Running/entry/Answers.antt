@@ -3,7 +3,7 @@ use Rattle.dc_course.proofs.Steps.{steps_on}
 use Rattle.dc_armed.specs.Stops.{first_stop}
 use Rattle.dc_course.proofs.Counting.{at_turn, counted_on, sum_later, sum_rises, unplanned_parts, unstopped_is}
 use Rattle.dc_course.proofs.Breaking.{Broke, ended_by}
-use Rattle.dc_course.proofs.Partaking.{next_is, part_below, part_set}
+use Rattle.dc_course.proofs.Partaking.{next_is, part_below, part_set, someone, someone_so, unplanned_none}
 use Rattle.dc_media.specs.Causes.{Rose}
 use Rattle.dc_words.specs.Lists.{lists_of}
 use Rattle.dc_course.proofs.Still.{running_still, told_still}
@@ -83,12 +83,12 @@ returns-in-Ok-clause-stops g c setting p of planned at below =
     subst (λ ms. counted_with setting.protocol p before n + unplanned setting p (reverse ms) ≤ counted_with setting.protocol p after n + unplanned setting p (reverse marks)) (sym c.push.ensures.items)
     (counted_on setting marks c.in-Ok.mark p (counted_with setting.protocol p before n) (counted_with setting.protocol p after n) (sum_later setting.protocol p before after later n)
     (λ is. let parts = unplanned_parts setting (turn_after setting marks) c.args.entry.now p c.in-Ok.mark at is in
-    let stop = c.in-Ok.ensures.stopped parts.stopped in
+    let stop = someone c.turn.new.self.stopped _ (c.in-Ok.ensures.stopped parts.stopped) in
     let q = stop.0 in
-    let here = parts.here q (part_set c.args.self.now setting q c.args.entry.now of stop.1) in
+    let here = parts.here q (part_set c.args.self.now setting q c.args.entry.now of stop.2.0) in
     sum_rises setting.protocol p before after later q here.0
     (c.begin.ensures.stopped c.turn.new.dev q c.turn.ensures.continues (subst (λ t. is_planned (g.C.Planned.planned c.args.dev.now) t q ≡ false) (next_is c.args.self.now setting c.next_turn.result of c.next_turn.ensures) (subst (λ ss. is_planned ss (turn_after setting marks) q ≡ false) planned (parts.free q here.0 here.1)))
-    (subst (λ m. Rose m (g.C.Checkpoint.stops c.turn.new.dev q)) (c.begin.ensures.same q).0 stop.2) (below q here.1)) n here.1))
+    (subst (λ m. Rose m (g.C.Checkpoint.stops c.turn.new.dev q)) (c.begin.ensures.same q).0 stop.2.1) (below q here.1)) n here.1))
 
 pub returns-in-Err-clause-stops : goal.returns-in-Err-clause-stops
 returns-in-Err-clause-stops g c setting p of planned at below =
@@ -115,17 +115,21 @@ pub returns-in-Err-clause-punctual : goal.returns-in-Err-clause-punctual
 returns-in-Err-clause-punctual g c p stop is = c.begin.ensures.punctual c.turn.new.dev p stop c.turn.ensures.continues (subst (λ n. first_stop (g.C.Planned.planned c.args.dev.now) n p ≡ Some stop) (sym c.next_turn.ensures) is)
 
 pub returns-in-Ok-clause-stopped : goal.returns-in-Ok-clause-stopped
-returns-in-Ok-clause-stopped g c e =
-    let stop = c.in-Ok.ensures.stopped e in
-    (stop.0, stop.1, subst (λ m. Rose m (g.C.Checkpoint.stops c.turn.new.dev stop.0)) (c.begin.ensures.same stop.0).0 stop.2)
+returns-in-Ok-clause-stopped g c e = someone_so c.turn.new.self.stopped _ _ (λ p stop. (stop.0, subst (λ m. Rose m (g.C.Checkpoint.stops c.turn.new.dev p)) (c.begin.ensures.same p).0 stop.1)) (c.in-Ok.ensures.stopped e)
 
 pub returns-in-Ok-clause-unplanned : goal.returns-in-Ok-clause-unplanned
 returns-in-Ok-clause-unplanned g c e free =
-    let stop = c.in-Ok.ensures.stopped e in
-    let here = free stop.0 stop.1 in (
+    let stop = someone c.turn.new.self.stopped _ (c.in-Ok.ensures.stopped e) in
+    let here = free stop.0 stop.2.0 in (
       stop.0,
-      stop.1,
+      stop.2.0,
       c.begin.ensures.stopped c.turn.new.dev stop.0 c.turn.ensures.continues
           (subst (λ n. is_planned (g.C.Planned.planned c.args.dev.now) n stop.0 ≡ false) (sym c.next_turn.ensures) here.0)
-          (subst (λ m. Rose m (g.C.Checkpoint.stops c.turn.new.dev stop.0)) (c.begin.ensures.same stop.0).0 stop.2) here.1,
+          (subst (λ m. Rose m (g.C.Checkpoint.stops c.turn.new.dev stop.0)) (c.begin.ensures.same stop.0).0 stop.2.1) here.1,
     )
+
+pub returns-in-Ok-clause-alone : goal.returns-in-Ok-clause-alone
+returns-in-Ok-clause-alone g c none p = c.begin.ensures.alone c.turn.new.dev p c.turn.ensures.continues (unplanned_none (g.C.Planned.planned c.args.dev.now) c.next_turn.result p none)
+
+pub returns-in-Err-clause-alone : goal.returns-in-Err-clause-alone
+returns-in-Err-clause-alone g c none p = c.begin.ensures.alone c.turn.new.dev p c.turn.ensures.continues (unplanned_none (g.C.Planned.planned c.args.dev.now) c.next_turn.result p none)

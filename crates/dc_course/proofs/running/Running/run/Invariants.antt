@@ -1,4 +1,8 @@
-use Rattle.std.proofs.Common.{◌≡◌, ◌-◌, ◌^◌, ◌≤◌, ◌<◌, ◌+◌, ℕ, List, Option, length}
+use Rattle.std.proofs.Common.{◌≡◌, ◌⊎◌, ◌*◌, ◌-◌, ◌^◌, ◌≤◌, ◌<◌, ◌+◌, ℕ, All, List, [], Option, None, Some, IfSome, true, length}
+use Rattle.dc_audit.specs.Journals.{IsOfSixteen}
+use Rattle.dc_course.specs.Journals.{AreCutAtStop, KeepsJournal, noted_of}
+use Rattle.dc_media.specs.Causes.{Rose}
+use Rattle.dc_recovery.specs.Unstopped.{Unstopped}
 use Rattle.dc_course.proofs.Between.{Later}
 use Rattle.dc_course.specs.Headline.{IsCountedOn, Setting}
 use Rattle.dc_course.specs.Running.{CanBegin, IsRest, IsRunning, IsSettingOf, RunsOn, moment_of, output}
@@ -32,4 +36,13 @@ invariant-loop-entry g l = let O = g.O.Sink in let C = g.C.Checkpoint in record 
   others : (q : ℕ) → length l.fn.self.world.processes.slots.items ≤ q → C.untouched l.fn.dev l.dev q;
   out_tells : TellsOn 0 (O.faults l.out) (O.held l.fn.out) (O.held l.out);
   out_later : O.faults l.fn.out ≤ O.faults l.out;
+  kept : l.self.journal.kept ≡ l.fn.self.journal.kept;
+  journal_room : l.fn.self.journal.lines.room ≤ l.self.journal.lines.room;
+  journal_few : length l.self.journal.lines.items ≤ length l.fn.self.journal.lines.items + 2 * l.entry-index;
+  sixteen : All IsOfSixteen l.fn.self.journal.lines.items → All IsOfSixteen l.self.journal.lines.items;
+  whole : l.self.world.stopped ≡ None → (l.fn.self.world.stopped ≡ None) × Unstopped l.self.marks.items;
+  cut : l.fn.self.journal.kept ≡ true → AreCutAtStop l.self.marks.items;
+  stop : IfSome l.self.world.stopped (λ p. (l.fn.self.world.stopped ≡ Some p) ⊎ ((p < length l.fn.self.world.processes.slots.items) × Rose (C.stops l.fn.dev p) (C.stops l.dev p)));
+  journal : l.fn.self.journal.kept ≡ true → KeepsJournal C l.schedule (noted_of l.fn.self l.fn.dev (O.held l.fn.out)) (noted_of l.self l.dev (O.held l.out));
+  alone : g.C.Planned.planned l.fn.dev ≡ [] → (p : ℕ) → C.stops l.dev p + g.C.Planned.unplanned l.fn.dev p ≤ g.C.Planned.unplanned l.dev p + C.stops l.fn.dev p;
 }

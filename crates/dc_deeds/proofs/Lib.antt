@@ -1,0 +1,5 @@
+mod Marks
+mod Ruled
+mod Taken
+mod Happening
+mod Left
