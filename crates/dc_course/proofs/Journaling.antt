@@ -26,7 +26,7 @@ use Rattle.dc_course.specs.declared.leaving.Journal.{Journal}
 use Rattle.dc_course.specs.Headline.{Setting, is_stopped, start_at, system_in, turn_after}
 use Rattle.dc_course.proofs.Between.{Later, entry_at, told_between}
 use Rattle.dc_course.proofs.Promised.{led_opened}
-use Rattle.dc_course.specs.Journals.{AreCutAtStop, IsJournalOf, KeepsJournal, Noted, unstopped_front}
+use Rattle.dc_course.specs.Journals.{IsJournalOf, KeepsJournal, Noted, unstopped_front}
 use Rattle.dc_course.specs.Running.{CanBegin, IsRunning, Output, RunsOn, StepsOn, output}
 
 -- an entry was stopped, or it was not
@@ -53,7 +53,7 @@ unstopped_more [] m all ne = (ne, tt)
 unstopped_more (x ∷ marks) m all ne = (all.0, unstopped_more marks m all.1 ne)
 
 -- turned round
-unstopped_round : (marks : List Mark) → Unstopped marks → Unstopped (reverse marks)
+pub unstopped_round : (marks : List Mark) → Unstopped marks → Unstopped (reverse marks)
 unstopped_round [] all = tt
 unstopped_round (m ∷ marks) all = subst Unstopped (sym (reverse-append (m ∷ []) marks)) (unstopped_more (reverse marks) m (unstopped_round marks all.1) all.0)
 
@@ -66,12 +66,6 @@ front_whole (m ∷ marks) all = rw (not_stopped m all.0) (ap (λ ms. m ∷ ms) (
 pub front_stop : (marks : List Mark) → Unstopped marks → unstopped_front (marks ++ mark.Stopped ∷ []) ≡ marks
 front_stop [] all = refl
 front_stop (m ∷ marks) all = rw (not_stopped m all.0) (ap (λ ms. m ∷ ms) (front_stop marks all.1))
-
--- whatever comes behind them, none but the last was stopped
-pub cut_more : (marks : List Mark) (m : Mark) → Unstopped marks → AreCutAtStop (marks ++ m ∷ [])
-cut_more [] m all = tt
-cut_more (x ∷ []) m all = (all.0, tt)
-cut_more (x ∷ y ∷ marks) m all = (all.0, cut_more (y ∷ marks) m all.1)
 
 -- what an entry leaves, where each process is up
 leaves_lines : {C D : Type 0} (g : checkpoint.Ghosts C D) (x : Stage C D) (entry : Entry) (before after : List Line) → EntryLeaves g x entry before after → (images : List Image) (schedule : List Entry) (core : Core) → IsTold g x

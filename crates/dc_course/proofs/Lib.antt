@@ -10,4 +10,4 @@ mod Ups
 mod Whole
 mod Tracing
 pub mod Within
-mod Journaling
+pub mod Journaling

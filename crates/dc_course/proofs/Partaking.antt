@@ -97,10 +97,6 @@ pub one_stopped : (o : Option ℕ) (P Q : ℕ → Type 0) → ((p : ℕ) → P p
 one_stopped None P Q so is = tt
 one_stopped (Some p) P Q so is = so p is
 
-pub if_some_so : (o : Option ℕ) (P Q : ℕ → Type 0) → ((p : ℕ) → P p → Q p) → IfSome o P → IfSome o Q
-if_some_so None P Q so is = tt
-if_some_so (Some p) P Q so is = so p is
-
 -- whoever takes part is there
 pub part_inside : (protocol : Protocol) (n p : ℕ) (entry : Entry) → TakesPart protocol n p entry → p < n
 part_inside protocol n p (Turn turn) part = part.1
@@ -114,11 +110,6 @@ cut_none r keeps none = sym (ap (λ b. if b then r.world.stopped else None) keep
 -- a count that rose since later rose since earlier
 pub rose_from : (a b c : ℕ) → a ≤ b → Rose b c → Rose a c
 rose_from a b c later rose = omega (arith, later, rose)
-
--- and one that had risen has
-pub stop_later : {A : Type 0} (n p a b c : ℕ) → b ≤ c → A ⊎ ((p < n) × Rose a b) → A ⊎ ((p < n) × Rose a c)
-stop_later n p a b c later (inl x) = inl x
-stop_later n p a b c later (inr rose) = let r = rose.1 in inr (rose.0, omega (arith, later, r))
 
 -- one that was cut off keeps its journal, and was stopped
 pub cut_some : {C : Type 0} (r : Running C) (p : ℕ) → cut_by r ≡ Some p → (r.journal.kept ≡ true) × (r.world.stopped ≡ Some p)

@@ -5,7 +5,7 @@ use Rattle.std.proofs.lemmas.List.{append-nil}
 use Rattle.dc_acts.specs.Lines.{text_of}
 use Rattle.dc_audit.specs.declared.journal.Line.{Line}
 use Rattle.dc_checkpoint.specs.declared.checkpoint.Checkpoint as checkpoint
-use Rattle.dc_course.specs.Journals.{AreCutAtStop, IsJournalOf, IsUncut}
+use Rattle.dc_course.specs.Journals.{EndsAtFirstStop, IsJournalOf}
 use Rattle.dc_recovery.specs.Unstopped.{AreTurns}
 use Rattle.dc_media.specs.Told.{Becomes}
 use Rattle.dc_model.specs.declared.mark.Mark.{Mark}
@@ -173,7 +173,7 @@ module _ {C D : Type 0} (g : checkpoint.Ghosts C D) (setting : Setting) (up : �
   -- it keeps what it promises
   pub course_is : (counts : Counts D) (ending : Ending) → dev ≡ counts.after → IsEnding setting ending marks last ended.core → StopsTold setting up marks (counts.stops counts.before) (counts.stops counts.after)
       → PlannedCome setting (opening up) (λ core d. StoresLeft g setting core d) counts last marks
-      → (journal : Option (List Line)) → (AreTurns setting.schedule → IfSome journal (λ lines. AreCutAtStop marks × IsUncut ending up marks × IsJournalOf setting up marks lines))
+      → (journal : Option (List Line)) → (AreTurns setting.schedule → IfSome journal (λ lines. EndsAtFirstStop ending up marks × IsJournalOf setting up marks lines))
       → IsCourse setting (record { acts = w.acts.items; marks = marks; lines = w.lines; journal = journal }) ending out counts (λ core d. StoresLeft g setting core d)
   course_is counts ending same is told come journal noted = record {
     last = last;

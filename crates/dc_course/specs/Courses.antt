@@ -16,7 +16,7 @@ use Rattle.dc_processes.specs.Stages.{decided_by}
 use Rattle.dc_world.specs.declared.opening.Setup.{Setup}
 use Rattle.dc_course.specs.Headline.{Account, AreUpAlike, IsEnding, IsHeadline, Last, Setting, StopsTold, marks_at, system_in}
 use Rattle.dc_course.specs.Headline.Last.{Whole}
-use Rattle.dc_course.specs.Journals.{AreCutAtStop, IsJournalOf, IsUncut}
+use Rattle.dc_course.specs.Journals.{EndsAtFirstStop, IsJournalOf}
 use Rattle.dc_course.specs.Moments.{AreCalledOn, Moments}
 use Rattle.dc_course.specs.Running.{Output}
 use Rattle.dc_course.specs.declared.course.Course.{Course}
@@ -85,8 +85,8 @@ pub record IsCourse {D : Type 0} (setting : Setting) (run : Account) (ending : E
   -- where nothing was stopped, and only turns were given, marks, acts and lines have no choice
   pub determined : ((p : ℕ) → p < length setting.images → up p ≡ true) → AreTurns setting.schedule → Unstopped (marks_at last run.marks)
       → IsDetermined (system_in setting) setting.schedule (marks_at last run.marks) core
-  -- of a run of turns that keeps its journal, that is what its entries left in it, and no entry but the last was stopped, nor that unless the run ended by it
-  pub journal : AreTurns setting.schedule → IfSome run.journal (λ lines. AreCutAtStop run.marks × IsUncut ending up run.marks × IsJournalOf setting up run.marks lines)
+  -- a run of turns that keeps its journal ends at its first stop, and its journal is what its entries left in it
+  pub journal : AreTurns setting.schedule → IfSome run.journal (λ lines. EndsAtFirstStop ending up run.marks × IsJournalOf setting up run.marks lines)
 
 -- what a fault of the world ends a run with
 abbrev pub ending_by : TurnFault → Ending

@@ -1,5 +1,5 @@
 -- The journal that a run keeps: what its entries left in it, up to the first that was stopped.
-use Rattle.std.specs.Prelude.{◌≡◌, ◌≢◌, ℕ, Bool, true, List, [], ◌∷◌, Option, None, if◌then◌else◌, reverse}
+use Rattle.std.specs.Prelude.{◌≡◌, ◌⊎◌, ◌++◌, ℕ, Bool, false, true, List, [], ◌∷◌, Option, None, if◌then◌else◌, reverse}
 use Rattle.dc_audit.specs.declared.journal.Line.{Line}
 use Rattle.dc_checkpoint.specs.declared.checkpoint.Checkpoint as checkpoint
 use Rattle.dc_model.specs.declared.entry.Entry.{Entry}
@@ -21,16 +21,15 @@ abbrev pub unstopped_front : List Mark → List Mark
 unstopped_front [] = []
 unstopped_front (m ∷ marks) = if is_stopped m then [] else m ∷ unstopped_front marks
 
--- no entry but the last was stopped
+-- the last of these entries was stopped, and no other
 abbrev pub AreCutAtStop : List Mark → Type 0
-AreCutAtStop [] = Unit {0}
-AreCutAtStop (m ∷ []) = Unit {0}
-AreCutAtStop (m ∷ marks) = (m ≢ mark.Stopped) × AreCutAtStop marks
+AreCutAtStop marks = (front : List Mark) × (marks ≡ front ++ mark.Stopped ∷ []) × Unstopped front
 
--- a run that did not end by a stop was not stopped: each of these processes was up, and no entry was stopped
-abbrev pub IsUncut : Ending → (ℕ → Bool) → List Mark → Type 0
-IsUncut (Stopped p) up marks = Unit {0}
-IsUncut _ up marks = ((p : ℕ) → up p ≡ true) × Unstopped marks
+-- Where a run ends that keeps its journal, by which processes are up at its opening: at its first stop. Where one was stopped in the opening no entry is run; where one
+-- was stopped later all were up, and the last entry alone was stopped. A run that ends otherwise was stopped nowhere.
+abbrev pub EndsAtFirstStop : Ending → (ℕ → Bool) → List Mark → Type 0
+EndsAtFirstStop (Stopped p) up marks = ((up p ≡ false) × (marks ≡ [])) ⊎ (((q : ℕ) → up q ≡ true) × AreCutAtStop marks)
+EndsAtFirstStop _ up marks = ((q : ℕ) → up q ≡ true) × Unstopped marks
 
 -- lines are what the acts left to which a run came by these marks, at whose opening these processes are up, up to the first entry that was stopped
 pub record IsJournalOf (setting : Setting) (up : ℕ → Bool) (marks : List Mark) (lines : List Line) : Type 0 where

@@ -140,7 +140,7 @@ impl<C: Planned + Drop> Running<C> {
         out: &mut O,
     ) -> Result<(), TurnFault>
         requires ready { MayRun C.Checkpoint self.old.world dev.old }
-        requires begun { length self.old.marks.items ≡ 0 }
+        requires begun { self.old.marks.items ≡ [] }
         requires left { length schedule.now ≤ self.old.world.processes.left }
         requires processes { All (IsOfProcesses (length self.old.world.processes.slots.items)) schedule.now }
         requires room { length schedule.now ≤ self.old.marks.room }
@@ -149,10 +149,10 @@ impl<C: Planned + Drop> Running<C> {
         ensures ready { MayRun C.Checkpoint self.new.world dev.new }
         ensures long { length self.new.world.processes.slots.items ≡ length self.old.world.processes.slots.items }
         ensures used { OnOk result (cut_by self.new ≡ None → length self.new.marks.items ≡ length schedule.now) }
-        ensures cut { self.old.journal.kept ≡ true → AreCutAtStop self.new.marks.items }
         ensures whole { OnOk result (self.new.world.stopped ≡ None → (self.old.world.stopped ≡ None) × Unstopped self.new.marks.items) }
         ensures broken { OnErr result (self.old.journal.kept ≡ true → (self.old.world.stopped ≡ None) × Unstopped self.new.marks.items) }
-        ensures stop { OnOk result (IfSome self.new.world.stopped (λ p. (self.old.world.stopped ≡ Some p) ⊎ ((p < length self.old.world.processes.slots.items) × Rose (C.stops dev.old p) (C.stops dev.new p)))) }
+        ensures stop { OnOk result (self.old.journal.kept ≡ true → IfSome self.new.world.stopped (λ p. ((self.old.world.stopped ≡ Some p) × (self.new.marks.items ≡ []))
+            ⊎ ((self.old.world.stopped ≡ None) × (p < length self.old.world.processes.slots.items) × Rose (C.stops dev.old p) (C.stops dev.new p) × AreCutAtStop self.new.marks.items))) }
         ensures kept { self.new.journal.kept ≡ self.old.journal.kept }
         ensures sixteen { All IsOfSixteen self.old.journal.lines.items → All IsOfSixteen self.new.journal.lines.items }
         ensures journal { self.old.journal.kept ≡ true → KeepsJournal C.Checkpoint schedule.now (noted_of self.old dev.old (O.held out.old)) (noted_of self.new dev.new (O.held out.new)) }

@@ -1,7 +1,9 @@
 -- How what a command was answered follows from what its work was.
-use Rattle.std.proofs.Common.{◌≡◌, inl, inr, ℕ, List, Option, None, Some, IfOk, IfSome, IsOkAnd, IsSome, Result, Ok, Err, String, refl, sym, subst}
+use Rattle.std.proofs.Common.{◌≡◌, ◌∙◌, inl, inr, true, ℕ, List, Option, None, Some, IfOk, IfSome, IsOkAnd, IsSome, Result, Ok, Err, String, refl, sym, subst}
+use Rattle.std.proofs.lemmas.Bool.{true≢false}
 use Rattle.std.specs.declared.alloc.Global.{Global}
 use Rattle.dc_audit.specs.Reading.{Journal as Said}
+use Rattle.dc_course.specs.Headline.{Setting}
 use Rattle.dc_words.specs.Results.{◌>>=◌}
 use Rattle.dc_command.specs.declared.command.CommandFault.{CommandFault}
 use Rattle.dc_command.specs.declared.command.CommandFault.TheVariants as command
@@ -19,7 +21,7 @@ use Rattle.dc_run.specs.declared.verdict.Verdict.{Verdict}
 use Rattle.dc_run.specs.declared.verdict.Verdict.TheVariants.{LibraryFault, Usage, WantOfMemory}
 use Rattle.dc_run.specs.declared.verdict.Which.{Which}
 use Rattle.dc_run.specs.declared.verdict.Which.TheVariants.{Journal, Source}
-use Rattle.dc_run.proofs.Works.{exact_named, for_known, opened_named, refused_work}
+use Rattle.dc_run.proofs.Works.{exact_named, for_known, opened_may, opened_named, refused_work}
 
 pub run_exact : (known : Option Files) (words : List (String Global)) (order : Order) → asked_of words ≡ Some (ToRun order) → (v refusal : Verdict)
     → IfSome known (λ files. IsExact v refusal (as_verdict (opening_of files order))) → IfSome known (λ files. IsExact v refusal (work_of files words))
@@ -60,6 +62,16 @@ audit_says (Some files) words journal P asked is = rw asked (by (journal_in file
     by : (r : Result Said Verdict) → IsOkAnd r P → IsOkAnd (r >>= (λ said. Ok (Audit said))) (λ work. IfAudit work P)
     by (Ok said) holds = holds
     by (Err v) holds = holds
+
+-- a run that was opened is the words' work, and no other
+pub run_is_work : (known : Option Files) (words : List (String Global)) (order : Order) (v : Verdict) → asked_of words ≡ Some (ToRun order) → was_opened v ≡ true
+    → IfSome known (λ files. IsOpenedFor (λ setting u. may_have_run u) v (as_verdict (opening_of files order))) → (P : Work → Type 0) → ((setting : Setting) → P (Run order.ledger setting)) → IfSome known (λ files. IsOkAnd (work_of files words) P)
+run_is_work None words order v asked opened is P holds = tt
+run_is_work (Some files) words order v asked opened is P holds = rw asked (by (as_verdict (opening_of files order)) is)
+  where
+    by : (told : Result Setting Verdict) → IsOpenedFor (λ setting u. may_have_run u) v told → IsOkAnd (told >>= (λ setting. Ok (Run order.ledger setting))) P
+    by (Ok setting) ends = holds setting
+    by (Err refusal) idle = absurd (true≢false (sym (opened_may v opened) ∙ idle))
 
 -- words that ask for nothing, or no memory to read them
 pub unasked_opened : (known : Option Files) (words : List (String Global)) (fault : CommandFault) (answered : Verdict) → answered ≡ unasked_by fault → (fault ≡ command.Usage → asked_of words ≡ None)

@@ -1,7 +1,7 @@
 -- What a run wrote passes the check.
 use Rattle.std.proofs.Common.{◌≡◌, ◌∙◌, ◌+◌, ◌<◌, ◌≤◌, inl, inr, ℕ, suc, All, Bool, true, false, List, [], ◌∷◌, ◌++◌, Option, None, Some, IfSome, Ok, ap, arith, if◌then◌else◌, is_some, length, refl, reverse, slice_get, subst, sym}
 use Rattle.std.proofs.lemmas.Bool.{true≢false}
-use Rattle.std.proofs.lemmas.List.{append-nil, length-map, length-reverse, reverse-append}
+use Rattle.std.proofs.lemmas.List.{append-nil, length-map, length-reverse}
 use Rattle.std.proofs.lemmas.Option.{slice_get_within}
 use Rattle.dc_acts.specs.Lines.{text_of}
 use Rattle.dc_report.specs.Reading.{is_status, report_of}
@@ -11,9 +11,10 @@ use Rattle.dc_check.specs.Findings.Finding.{Passes}
 use Rattle.dc_audit.specs.Journals.{HasSaveWork}
 use Rattle.dc_audit.specs.Keeping.{HasMembers, IsJournal}
 use Rattle.dc_audit.specs.Reading.{journal_of}
+use Rattle.dc_course.proofs.Journaling.{front_whole, unstopped_round}
 use Rattle.dc_course.specs.Courses.{IsCourse, counts_of}
-use Rattle.dc_course.specs.Headline.{Account, IsEnding, IsHeadline, Last, Setting, Shows, is_stopped, marks_at, system_in, takes_part, torn_at, turn_after}
-use Rattle.dc_course.specs.Journals.{AreCutAtStop, IsJournalOf, IsUncut, unstopped_front}
+use Rattle.dc_course.specs.Headline.{Account, IsEnding, IsHeadline, Last, Setting, Shows, marks_at, system_in, takes_part, torn_at, turn_after}
+use Rattle.dc_course.specs.Journals.{EndsAtFirstStop, IsJournalOf}
 use Rattle.dc_course.specs.Running.{output}
 use Rattle.dc_journal.proofs.JournalTexts.{text_again}
 use Rattle.dc_journal.specs.Texts.{journal_text, whole_text}
@@ -251,7 +252,7 @@ stop_ending (ending.Stopped q) v text sink p (inr cut) e = let same : DeviceStop
 -- a run that used up its schedule ended so
 record EndsUsed (e : Ending) : Type 0 where
   used : is_used_up (verdict_at e) ≡ true
-  uncut : (up : ℕ → Bool) (marks : List Mark) → IsUncut e up marks → ((p : ℕ) → up p ≡ true) × Unstopped marks
+  uncut : (up : ℕ → Bool) (marks : List Mark) → EndsAtFirstStop e up marks → ((p : ℕ) → up p ≡ true) × Unstopped marks
   marked : (setting : Setting) (marks : List Mark) (last : Last) (core : Core) → IsEnding setting e marks last core → length marks ≤ length setting.schedule
 
 ends_used : (e : Ending) (v : Verdict) (text : List ℕ) (sink : SinkCourse) → Reports (verdict_at e) v text sink → is_used_up v ≡ true → EndsUsed e
@@ -280,28 +281,6 @@ taken_few (m ∷ marks) = let less = taken_few marks in by (is_taken m) less
     by true less = omega (arith, less)
     by false less = omega (arith, less)
 
--- marks that were not stopped, the last first
-unstopped_behind : (marks : List Mark) (m : Mark) → Unstopped marks → (m ≡ mark.Stopped → ⊥) → Unstopped (marks ++ m ∷ [])
-unstopped_behind [] m all ne = (ne, tt)
-unstopped_behind (x ∷ marks) m all ne = (all.0, unstopped_behind marks m all.1 ne)
-
-unstopped_back : (marks : List Mark) → Unstopped marks → Unstopped (reverse marks)
-unstopped_back [] all = tt
-unstopped_back (m ∷ marks) all = subst Unstopped (sym (reverse-append (m ∷ []) marks)) (unstopped_behind (reverse marks) m (unstopped_back marks all.1) all.0)
-
--- all are in front of the first stop
-front_all : (marks : List Mark) → Unstopped marks → unstopped_front marks ≡ marks
-front_all [] all = refl
-front_all (m ∷ marks) all = rw (unstopped_is m all.0) (ap (λ ms. m ∷ ms) (front_all marks all.1))
-  where
-    unstopped_is : (x : Mark) → (x ≡ mark.Stopped → ⊥) → is_stopped x ≡ false
-    unstopped_is mark.Stopped ne = absurd (ne refl)
-    unstopped_is (mark.Idle why) ne = refl
-    unstopped_is mark.Stepped ne = refl
-    unstopped_is (mark.Showed k) ne = refl
-    unstopped_is (mark.Recovered y) ne = refl
-    unstopped_is mark.Marked ne = refl
-
 module _ {S : Type 0} (on : Devices S) (setting : Setting) (o : Outcome) (lent : Loan S) (out report : SinkCourse) (given : IsGivenRun setting.images setting.inputs setting.schedule)
     (some : 0 < length setting.images) (seven : is_causal setting.protocol ≡ false) (is : IsReported ledger.Journal on setting o lent out report) (tells : on.tell (length setting.images) lent.before lent.after)
     (used : is_used_up o.verdict ≡ true) where
@@ -322,25 +301,25 @@ module _ {S : Type 0} (on : Devices S) (setting : Setting) (o : Outcome) (lent :
   journal_lines = (some_is is.journal is.journal_is).1
 
   -- of which is known
-  known_journal : AreCutAtStop o.marks.items × IsUncut is.ending kept_is.up o.marks.items × IsJournalOf setting kept_is.up o.marks.items lines
-  known_journal = subst (λ j. IfSome j (λ ls. AreCutAtStop o.marks.items × IsUncut is.ending kept_is.up o.marks.items × IsJournalOf setting kept_is.up o.marks.items ls)) journal_lines (kept_is.journal (is.turns refl).0)
+  known_journal : EndsAtFirstStop is.ending kept_is.up o.marks.items × IsJournalOf setting kept_is.up o.marks.items lines
+  known_journal = subst (λ j. IfSome j (λ ls. EndsAtFirstStop is.ending kept_is.up o.marks.items × IsJournalOf setting kept_is.up o.marks.items ls)) journal_lines (kept_is.journal (is.turns refl).0)
 
   -- that it was not stopped
   whole : ((p : ℕ) → kept_is.up p ≡ true) × Unstopped o.marks.items
-  whole = ends.uncut kept_is.up o.marks.items known_journal.1
+  whole = ends.uncut kept_is.up o.marks.items known_journal.0
 
   -- the core that its entries led to
   abbrev core : Core
-  core = known_journal.2.core
+  core = known_journal.1.core
 
   -- from where all are up
   led : LeadsTo (system_in setting) setting.schedule (opening (λ p. true)) (reverse o.marks.items) core
   led = subst (λ (u : ℕ → Bool). LeadsTo (system_in setting) setting.schedule (opening u) (reverse o.marks.items) core) (λ i p. whole.0 p i)
-      (subst (λ ms. LeadsTo (system_in setting) setting.schedule (opening kept_is.up) (reverse ms) core) (front_all o.marks.items whole.1) known_journal.2.led)
+      (subst (λ ms. LeadsTo (system_in setting) setting.schedule (opening kept_is.up) (reverse ms) core) (front_whole o.marks.items whole.1) known_journal.1.led)
 
   -- none of its marks, the last first, is a stop
   back : Unstopped (reverse o.marks.items)
-  back = unstopped_back o.marks.items whole.1
+  back = unstopped_round o.marks.items whole.1
 
   -- the system is sound
   sound : IsSound (system_in setting)
@@ -352,22 +331,22 @@ module _ {S : Type 0} (on : Devices S) (setting : Setting) (o : Outcome) (lent :
 
   -- so they have Save-work
   saved : HasSaveWork false lines
-  saved = subst (HasSaveWork false) (sym known_journal.2.lines_are) (led_work (system_in setting) sound few setting.schedule (is.turns refl).0 (reverse o.marks.items) core led back seven)
+  saved = subst (HasSaveWork false) (sym known_journal.1.lines_are) (led_work (system_in setting) sound few setting.schedule (is.turns refl).0 (reverse o.marks.items) core led back seven)
 
   -- and are a journal
   journal_is : IsJournal (length setting.images) lines
-  journal_is = subst (IsJournal (length setting.images)) (sym known_journal.2.lines_are)
+  journal_is = subst (IsJournal (length setting.images)) (sym known_journal.1.lines_are)
       (led_journal (system_in setting) sound few (λ p q message answers at. addressed setting.images setting.inputs p q message answers at) setting.schedule (is.turns refl).0 (reverse o.marks.items) core led back)
 
   -- each commit of which is of somebody
   members : All HasMembers lines
-  members = subst (All HasMembers) (sym known_journal.2.lines_are)
+  members = subst (All HasMembers) (sym known_journal.1.lines_are)
       (λ i x within. (plain_all (system_in setting) sound few setting.schedule (is.turns refl).0 (reverse o.marks.items) core led back i x within).1)
 
   -- there are not too many
   short : length lines + 2 ≤ 4000000
   short =
-      let two = ap (λ ls. length ls) known_journal.2.lines_are in
+      let two = ap (λ ls. length ls) known_journal.1.lines_are in
       let acts = journal_short (system_in setting) core.acts in
       let turns = ap (λ ts. length ts) (lead (system_in setting) setting.schedule (is.turns refl).0 (reverse o.marks.items) core led back).turns in
       let mapped = length-map core.acts (λ (x : Given). x.t) in

@@ -37,6 +37,28 @@ opened_ended (ReportRefused fault) e = e
 opened_ended (AsmRefused fault) e = e
 opened_ended (JournalRefused fault) e = e
 
+-- and may have been run
+pub opened_may : (v : Verdict) → was_opened v ≡ true → may_have_run v ≡ true
+opened_may (NotSaved event line) e = e
+opened_may Done e = e
+opened_may Unfinished e = e
+opened_may Usage e = e
+opened_may (PlanRefused fault) e = e
+opened_may (GuestRefused p fault) e = e
+opened_may (Missing which) e = e
+opened_may (LibraryFault which) e = e
+opened_may (DeviceFault p) e = refl
+opened_may (DeviceStopped p) e = refl
+opened_may (SinkFault outlet) e = e
+opened_may (NotARun position) e = e
+opened_may (Differs line) e = e
+opened_may WantOfMemory e = e
+opened_may (ScheduleRefused fault) e = e
+opened_may (StoreRefused p fault) e = refl
+opened_may (ReportRefused fault) e = e
+opened_may (AsmRefused fault) e = e
+opened_may (JournalRefused fault) e = e
+
 -- a refusal is no free verdict, and none of work that was carried out
 refusal_bound : (free opened : Bool) → (not free && not opened) ≡ true → (free ≡ false) × (opened ≡ false)
 refusal_bound true opened e = absurd (true≢false (sym e))

@@ -20,7 +20,7 @@ ghost use Rattle.dc_run.specs.Assembling.{IsAssembled};
 ghost use Rattle.dc_run.specs.Auditing.{IsAudited};
 ghost use Rattle.dc_run.specs.Checking.{Checked, IsChecked, TellsDifference, TellsLine};
 ghost use Rattle.dc_command.specs.Command.{Names, asked_of, order_view, to_run};
-ghost use Rattle.dc_command.specs.declared.command.Ledger.{Ledger as Ledgers};
+ghost use Rattle.dc_command.specs.Command.{Order as Orders};
 ghost use Rattle.dc_command.specs.Command.Asked.{ToAssemble, ToAudit, ToCheck, ToRun};
 ghost use Rattle.dc_run.specs.Commands.{AreCalm, Asks, AsksToRunPlan, IfAssembly, IfAudit, IfCheck, IfFound, IfRun, IsCarriedOut, IsExact, IsOpenedFor, TellsFor, may_end, medium_of, stores_used, unasked_by, work_by, work_of};
 ghost use Rattle.dc_run.specs.Headline.{account_of as outcome_account};
@@ -57,13 +57,13 @@ use std::alloc::Global;
 /// Carries out the command that the words give; the first word is the program's name.
 ///
 /// `run PLAN` fetches the plan, its guests and its schedule from the library, or draws the schedule from a seed, makes a store for each
-/// guest in `keeps` or on `disks`, as the plan's medium says, runs the entries in order, lets processes stop where the plan or the schedule says so and recover, writes the lines
-/// of their visible records to `out`, and last the report of the run to `report`. `journal PLAN` does the same with the journal of the run in place of its report: it
-/// takes turns alone, of a schedule without stops, and ends at the first stop of a device. `check PLAN REPORT OUT` fetches what a run is opened
-/// with, then a report and an output, plays the report's acts in the failure-free world, compares the output's lines with those that they
-/// show, and writes `ok`, the counts of acts and of visible records to `out` where both belong together. `asm SOURCE` fetches the source,
-/// assembles it and writes the ELF file to `out`. `audit JOURNAL` fetches the journal, and writes `ok` and the count of its events to `out` where it
-/// has Save-work.
+/// guest in `keeps` or on `disks`, as the plan's medium says, runs the entries in order, lets processes stop where the plan or the schedule
+/// says so and recover, writes the lines of their visible records to `out`, and last the report of the run to `report`. `journal PLAN` does
+/// the same with the journal of the run in place of its report: it takes turns alone, of a schedule without stops, and ends at the first
+/// stop of a device. `check PLAN REPORT OUT` fetches what a run is opened with, then a report and an output, plays the report's acts in the
+/// failure-free world, compares the output's lines with those that they show, and writes `ok`, the counts of acts and of visible records to
+/// `out` where both belong together. `asm SOURCE` fetches the source, assembles it and writes the ELF file to `out`. `audit JOURNAL`
+/// fetches the journal, and writes `ok` and the count of its events to `out` where it has Save-work.
 pub fn dc<L: Library, K: Keeps, D: Disks, O: Sink, R: Sink>(
     alloc: Global,
     words: &[String],
@@ -94,6 +94,7 @@ pub fn dc<L: Library, K: Keeps, D: Disks, O: Sink, R: Sink>(
     ensures stopped_alone { (p : ℕ) → result.verdict ≡ Verdict.DeviceStopped p → (plan : List ℕ) × (asked_of words.now ≡ Some (to_run Ledger.Journal plan)) }
     ensures wanting { result.verdict ≡ Verdict.WantOfMemory → (p : ℕ) → IsCalmUnlessStopped K.stops K.faults p keeps.old keeps.new × IsCalmUnlessStopped D.stops D.faults p disks.old disks.new }
     ensures device_stop { (p : ℕ) → result.verdict ≡ Verdict.DeviceStopped p → Rose (K.stops keeps.old p) (K.stops keeps.new p) ⊎ Rose (D.stops disks.old p) (D.stops disks.new p) }
+    ensures medium_stop { IfSome (L.files lib.old) (λ files. (p : ℕ) → result.verdict ≡ Verdict.DeviceStopped p → HasStopped (devices_of K.Keeps D.Disks (medium_of files words.now)) (lent keeps.old disks.old) (lent keeps.new disks.new) p) }
     ensures output_fault { result.verdict ≡ Verdict.SinkFault Outlet.Out → Rose (O.faults out.old) (O.faults out.new) }
     ensures report_fault { result.verdict ≡ Verdict.SinkFault Outlet.Report → Rose (R.faults report.old) (R.faults report.new) }
 
@@ -114,8 +115,8 @@ pub fn dc<L: Library, K: Keeps, D: Disks, O: Sink, R: Sink>(
 
     // The same where the files are not told: there is a medium and a setting of which it holds. Words that ask to run a plan do a run or nothing: a
     // run wherever the verdict is one of a run and no fault of a device. No other words come to a run, or to a verdict that only runs have.
-    ensures ran { result.did ≡ Did.Run → (ledger : Ledgers) × (medium : Media) × (setting : Settings) ×
-        IsReported ledger (devices_of K.Keeps D.Disks medium) setting result (loan (lent keeps.old disks.old) (lent keeps.new disks.new)) (course (O.held out.old) (O.held out.new) (O.faults out.old) (O.faults out.new))
+    ensures ran { result.did ≡ Did.Run → (order : Orders) × (asked_of words.now ≡ Some (ToRun order)) × (medium : Media) × (setting : Settings) ×
+        IsReported order.ledger (devices_of K.Keeps D.Disks medium) setting result (loan (lent keeps.old disks.old) (lent keeps.new disks.new)) (course (O.held out.old) (O.held out.new) (O.faults out.old) (O.faults out.new))
         (course (R.held report.old) (R.held report.new) (R.faults report.old) (R.faults report.new)) }
     ensures did { AsksToRunPlan words.now → has_run result.verdict ≡ true → result.did ≡ Did.Run }
     ensures did_run { AsksToRunPlan words.now → (result.did ≡ Did.Run) ⊎ (result.did ≡ Did.Nothing) }
@@ -319,6 +320,7 @@ fn run_plan<L: Library, K: Keeps, D: Disks, O: Sink, R: Sink>(
     ensures medium_fault { IfSome (L.files lib.old) (λ files. (p : ℕ) → result.verdict ≡ Verdict.DeviceFault p → HasFailed (devices_of K.Keeps D.Disks (medium_at files order.now.plan.now)) (lent keeps.old disks.old) (lent keeps.new disks.new) p) }
     ensures wanting { result.verdict ≡ Verdict.WantOfMemory → (p : ℕ) → IsCalmUnlessStopped K.stops K.faults p keeps.old keeps.new × IsCalmUnlessStopped D.stops D.faults p disks.old disks.new }
     ensures device_stop { (p : ℕ) → result.verdict ≡ Verdict.DeviceStopped p → Rose (K.stops keeps.old p) (K.stops keeps.new p) ⊎ Rose (D.stops disks.old p) (D.stops disks.new p) }
+    ensures medium_stop { IfSome (L.files lib.old) (λ files. (p : ℕ) → result.verdict ≡ Verdict.DeviceStopped p → HasStopped (devices_of K.Keeps D.Disks (medium_at files order.now.plan.now)) (lent keeps.old disks.old) (lent keeps.new disks.new) p) }
     ensures output_fault { result.verdict ≡ Verdict.SinkFault Outlet.Out → Rose (O.faults out.old) (O.faults out.new) }
     ensures report_fault { result.verdict ≡ Verdict.SinkFault Outlet.Report → Rose (R.faults report.old) (R.faults report.new) }
     ensures headline { result.did ≡ Did.Run → IfSome (L.files lib.old) (λ files. IsOkAnd (as_verdict (opening_of files (order_view order.now))) (λ setting.
@@ -331,8 +333,8 @@ fn run_plan<L: Library, K: Keeps, D: Disks, O: Sink, R: Sink>(
     ensures passes { result.did ≡ Did.Run → IfSome (L.files lib.old) (λ files. IsOkAnd (as_verdict (opening_of files (order_view order.now))) (λ setting.
         order.now.ledger ≡ Ledger.Report → (devices_of K.Keeps D.Disks (medium_at files order.now.plan.now)).tell (length setting.images) (lent keeps.old disks.old) (lent keeps.new disks.new) → WritesPassing setting (course (O.held out.old) (O.held out.new) (O.faults out.old) (O.faults out.new))
         (course (R.held report.old) (R.held report.new) (R.faults report.old) (R.faults report.new)) result.acts.items)) }
-    ensures ran { result.did ≡ Did.Run → (ledger : Ledgers) × (medium : Media) × (setting : Settings) ×
-        IsReported ledger (devices_of K.Keeps D.Disks medium) setting result (loan (lent keeps.old disks.old) (lent keeps.new disks.new)) (course (O.held out.old) (O.held out.new) (O.faults out.old) (O.faults out.new))
+    ensures ran { result.did ≡ Did.Run → (medium : Media) × (setting : Settings) ×
+        IsReported order.now.ledger (devices_of K.Keeps D.Disks medium) setting result (loan (lent keeps.old disks.old) (lent keeps.new disks.new)) (course (O.held out.old) (O.held out.new) (O.faults out.old) (O.faults out.new))
         (course (R.held report.old) (R.held report.new) (R.faults report.old) (R.faults report.new)) }
     ensures did { has_run result.verdict ≡ true → result.did ≡ Did.Run }
     ensures did_run { (result.did ≡ Did.Run) ⊎ (result.did ≡ Did.Nothing) }

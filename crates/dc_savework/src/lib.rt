@@ -7,4 +7,7 @@
 
 mod laws;
 
-pub use laws::{causal_journals_have_save_work, journals_grow, lines_are_few, runs_have_save_work};
+pub use laws::{
+    causal_journals_have_save_work, guests_are_addressed, journals_grow, lines_are_few,
+    runs_have_save_work,
+};

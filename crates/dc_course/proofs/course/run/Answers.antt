@@ -1,5 +1,5 @@
 use Rattle.std.proofs.Common.{◌≡◌, ◌⊎◌, ◌∙◌, inr, [], None, Some, IfSome, ⊎_elim, ◌≤◌, ◌<◌, ◌+◌, ◌-◌, ◌^◌, ℕ, Bool, true, false, Err, ap, arith, inl, length, refl, reverse, subst, sym}
-use Rattle.std.proofs.lemmas.Bool.{cases_lt, true≢false}
+use Rattle.std.proofs.lemmas.Bool.{cases_Bool, cases_lt, true≢false}
 use Rattle.std.proofs.lemmas.List.{length-map}
 use Rattle.dc_course.proofs.Between.{tells_on}
 use Rattle.dc_course.proofs.Counting.{sum_later, sum_rises}
@@ -9,7 +9,7 @@ use Rattle.dc_course.proofs.Tracing.{moment_is}
 use Rattle.dc_course.proofs.Partaking.{cut_none, cut_some, said_of}
 use Rattle.dc_course.proofs.Journaling.{if_kept}
 use Rattle.dc_course.proofs.Whole.{course_is, ending_broken, ending_cut, ending_whole, begun_running, told_at, up_as}
-use Rattle.dc_course.specs.Journals.{AreCutAtStop, AreUpUnless, IsJournalOf, IsUncut, unstopped_front}
+use Rattle.dc_course.specs.Journals.{AreCutAtStop, AreUpUnless, EndsAtFirstStop, IsJournalOf, unstopped_front}
 use Rattle.dc_media.specs.Causes.{Rose}
 use Rattle.dc_recovery.specs.Turned.{LeadsTo}
 use Rattle.dc_recovery.specs.Unstopped.{AreTurns, Unstopped}
@@ -182,51 +182,67 @@ journal_begins g c = record {
 }
 
 -- a journal that is kept is what its entries left
-noted : (g : Over) (c : goal.After-course g) (ending : Ending) → (c.in_ok-journal.journal.kept ≡ true → IsUncut ending (up g c) c.run.new.self.marks.items)
+noted : (g : Over) (c : goal.After-course g) (ending : Ending) → (c.in_ok-journal.journal.kept ≡ true → EndsAtFirstStop ending (up g c) c.run.new.self.marks.items)
     → TellsThroughout g.C.Checkpoint (length c.args.setup.images.items) c.args.dev.now c.run.new.dev → AreTurns (given g c).schedule
-    → IfSome (journal_in c.run.new.self.journal) (λ lines. AreCutAtStop c.run.new.self.marks.items × IsUncut ending (up g c) c.run.new.self.marks.items × IsJournalOf (given g c) (up g c) c.run.new.self.marks.items lines)
-noted g c ending uncut tells turns =
-    if_kept c.run.new.self.journal (λ lines. AreCutAtStop c.run.new.self.marks.items × IsUncut ending (up g c) c.run.new.self.marks.items × IsJournalOf (given g c) (up g c) c.run.new.self.marks.items lines) (λ keeps.
+    → IfSome (journal_in c.run.new.self.journal) (λ lines. EndsAtFirstStop ending (up g c) c.run.new.self.marks.items × IsJournalOf (given g c) (up g c) c.run.new.self.marks.items lines)
+noted g c ending ends tells turns =
+    if_kept c.run.new.self.journal (λ lines. EndsAtFirstStop ending (up g c) c.run.new.self.marks.items × IsJournalOf (given g c) (up g c) c.run.new.self.marks.items lines) (λ keeps.
     let kept : c.in_ok-journal.journal.kept ≡ true = sym c.run.ensures.kept ∙ keeps in (
-      c.run.ensures.cut kept,
-      uncut kept,
+      ends kept,
       c.run.ensures.journal kept (given g c) (up g c) (g.O.Sink.held c.args.out.now) (can_begin g c) refl refl turns (told_opened g c tells) (told_ended g c tells) (begun g c tells) (up_unless g c) (journal_begins g c),
     ))
 
 -- it was not stopped, where its schedule was used up
-uncut_whole : (g : Over) (c : goal.After-course g) (b : Bool) → (c.in-Ok.world.stopped ≡ None) × Unstopped c.run.new.self.marks.items → IsUncut (ending_of b) (up g c) c.run.new.self.marks.items
-uncut_whole g c true whole = (up_unless g c whole.0, whole.1)
-uncut_whole g c false whole = (up_unless g c whole.0, whole.1)
+ends_whole : (g : Over) (c : goal.After-course g) (b : Bool) → (c.in-Ok.world.stopped ≡ None) × Unstopped c.run.new.self.marks.items → EndsAtFirstStop (ending_of b) (up g c) c.run.new.self.marks.items
+ends_whole g c true whole = (up_unless g c whole.0, whole.1)
+ends_whole g c false whole = (up_unless g c whole.0, whole.1)
 
 -- nor where a fault ended it
-uncut_broken : (g : Over) (c : goal.After-course g) (f : TurnFault) → (c.in-Ok.world.stopped ≡ None) × Unstopped c.run.new.self.marks.items → IsUncut (ending_by f) (up g c) c.run.new.self.marks.items
-uncut_broken g c (fault.Device p) whole = (up_unless g c whole.0, whole.1)
-uncut_broken g c (fault.Store p why) whole = (up_unless g c whole.0, whole.1)
-uncut_broken g c fault.Sink whole = (up_unless g c whole.0, whole.1)
+ends_broken : (g : Over) (c : goal.After-course g) (f : TurnFault) → (c.in-Ok.world.stopped ≡ None) × Unstopped c.run.new.self.marks.items → EndsAtFirstStop (ending_by f) (up g c) c.run.new.self.marks.items
+ends_broken g c (fault.Device p) whole = (up_unless g c whole.0, whole.1)
+ends_broken g c (fault.Store p why) whole = (up_unless g c whole.0, whole.1)
+ends_broken g c fault.Sink whole = (up_unless g c whole.0, whole.1)
 
--- whose device was stopped, by where
+-- whose device was stopped, and when: in the opening, and no entry was run, or in the last entry
 abbrev Stop : (g : Over) → goal.After-course g → ℕ → Type 0
-Stop g c p = (c.in-Ok.world.stopped ≡ Some p) ⊎ ((p < length c.in-Ok.world.processes.slots.items) × Rose (g.C.Checkpoint.stops c.open.new.dev p) (g.C.Checkpoint.stops c.run.new.dev p))
+Stop g c p = ((c.in-Ok.world.stopped ≡ Some p) × (c.run.new.self.marks.items ≡ []))
+    ⊎ ((c.in-Ok.world.stopped ≡ None) × (p < length c.in-Ok.world.processes.slots.items) × Rose (g.C.Checkpoint.stops c.open.new.dev p) (g.C.Checkpoint.stops c.run.new.dev p) × AreCutAtStop c.run.new.self.marks.items)
 
 -- it is that of a process that is there
 stop_inside : (g : Over) (c : goal.After-course g) (p : ℕ) → Stop g c p → p < length c.args.setup.images.items
-stop_inside g c p (inl first) = (said_of c.in-Ok.world.stopped p _ first c.in-Ok.ensures.stopped_first).0
-stop_inside g c p (inr then) = subst (λ n. p < n) c.in-Ok.ensures.begins.slots_long then.0
+stop_inside g c p (inl first) = (said_of c.in-Ok.world.stopped p _ first.0 c.in-Ok.ensures.stopped_first).0
+stop_inside g c p (inr then) = subst (λ n. p < n) c.in-Ok.ensures.begins.slots_long then.1
+
+-- one whose device was stopped in the opening is down
+down_first : (g : Over) (c : goal.After-course g) (p : ℕ) → TellsThroughout g.C.Checkpoint (length c.args.setup.images.items) c.args.dev.now c.run.new.dev → c.in-Ok.world.stopped ≡ Some p → up g c p ≡ false
+down_first g c p tells first =
+    let stopped = said_of c.in-Ok.world.stopped p _ first c.in-Ok.ensures.stopped_first in
+    let small = tells.stops p stopped.0 in
+    let later = (c.run.ensures.later p).0 in
+    let rose = stopped.1 in
+    up_is g c p stopped.0 ∙ ⊎_elim
+    (λ (on : is_up (slot_at c.in-Ok.world.processes.slots.items p) ≡ true). let calm = (c.in-Ok.ensures.calm p stopped.0 on).0 in absurd (omega (arith, small, later, rose, calm)))
+    (λ off. off) (cases_Bool (is_up (slot_at c.in-Ok.world.processes.slots.items p)))
+
+-- where one was stopped it ends there
+ends_cut : (g : Over) (c : goal.After-course g) (p : ℕ) → TellsThroughout g.C.Checkpoint (length c.args.setup.images.items) c.args.dev.now c.run.new.dev → Stop g c p → EndsAtFirstStop (ending.Stopped p) (up g c) c.run.new.self.marks.items
+ends_cut g c p tells (inl first) = inl (down_first g c p tells first.0, first.1)
+ends_cut g c p tells (inr then) = inr (up_unless g c then.0, then.3)
 
 -- its last entry went so, and it ended so
 course : (g : Over) (c : goal.After-course g) (tells : TellsThroughout g.C.Checkpoint (length c.args.setup.images.items) c.args.dev.now c.run.new.dev) (ending : Ending) → c.match-run.ending ≡ ending → (last : Last)
     (ended : IsEnded g.C.Checkpoint (given g c) (start g c) (stage_in c.run.new.self.world c.run.new.dev) c.run.new.self.marks.items last (output (g.O.Sink.held c.args.out.now) (g.O.Sink.held c.run.new.out)))
-    → IsEnding (given g c) ending c.run.new.self.marks.items last ended.core → (c.in_ok-journal.journal.kept ≡ true → IsUncut ending (up g c) c.run.new.self.marks.items) → Traced g c last
+    → IsEnding (given g c) ending c.run.new.self.marks.items last ended.core → (c.in_ok-journal.journal.kept ≡ true → EndsAtFirstStop ending (up g c) c.run.new.self.marks.items) → Traced g c last
     → IsCourse (given g c) (account_of c.course.result) c.course.result.ending (output (g.O.Sink.held c.args.out.now) (g.O.Sink.held c.run.new.out)) (counts_of g.C.Planned.unplanned g.C.Planned.calls c.args.dev.now c.run.new.dev)
     (λ core d. StoresLeft g.C.Checkpoint (given g c) core d)
-course g c tells ending same last ended is uncut traced =
+course g c tells ending same last ended is ends traced =
     let out = output (g.O.Sink.held c.args.out.now) (g.O.Sink.held c.run.new.out) in
     let counts = counts_of g.C.Planned.unplanned g.C.Planned.calls c.args.dev.now c.run.new.dev in
     let w = c.run.new.self.world in
     subst (λ (o : Course). IsCourse (given g c) (account_of o) o.ending out counts (λ core d. StoresLeft g.C.Checkpoint (given g c) core d)) (sym c.course.ensures)
     (subst (λ e. IsCourse (given g c) (record { acts = w.processes.acts.items; marks = c.run.new.self.marks.items; lines = w.processes.lines; journal = journal_in c.run.new.self.journal }) e out counts (λ core d. StoresLeft g.C.Checkpoint (given g c) core d)) (sym same)
     (course_is g.C.Checkpoint (given g c) (up g c) (up_alike g c) refl w.stores.items c.run.new.dev w.processes c.run.new.self.marks.items last out ended c.run.ensures.ready
-    (c.run.ensures.long ∙ c.in-Ok.ensures.begins.slots_long ∙ sym (length-map c.args.setup.images.items seen_image)) (up_beyond g c) counts ending refl is (stops_told g c tells) traced.come (journal_in c.run.new.self.journal) (noted g c ending uncut tells)))
+    (c.run.ensures.long ∙ c.in-Ok.ensures.begins.slots_long ∙ sym (length-map c.args.setup.images.items seen_image)) (up_beyond g c) counts ending refl is (stops_told g c tells) traced.come (journal_in c.run.new.self.journal) (noted g c ending ends tells)))
 
 pub returns-clause-headline : goal.returns-clause-headline
 returns-clause-headline g c tells = elim c.match-run.branch [
@@ -240,21 +256,23 @@ returns-clause-headline g c tells = elim c.match-run.branch [
       let came = ending_whole g.C.Checkpoint (given g c) (start g c) (moment_of c.run.new.self c.run.new.dev (g.O.Sink.held c.run.new.out)) (g.O.Sink.held c.args.out.now) w.ended.result r
       (subst (λ i. HaveEnded w.ended.result (guests_of images i) r.core) r.of.inputs_are have) (let used = w.in-Ok-run.ensures.used (sym w.cut_by.ensures ∙ w.in-None.is) in omega (arith, used)) in
       course g c tells _ (w.ending-is ∙ w.ended-in-None.ensures) came.last came.ended came.is
-      (λ kept. uncut_whole g c w.ended.result (w.in-Ok-run.ensures.whole (cut_none c.run.new.self (c.run.ensures.kept ∙ kept) (sym w.cut_by.ensures ∙ w.in-None.is))))
+      (λ kept. ends_whole g c w.ended.result (w.in-Ok-run.ensures.whole (cut_none c.run.new.self (c.run.ensures.kept ∙ kept) (sym w.cut_by.ensures ∙ w.in-None.is))))
       (let come = w.in-Ok-run.ensures.come (given g c) (start g c) (can_begin g c) (setting_is g c) (plan_kept g c) refl c.args.dev.now (g.O.Sink.held c.args.out.now) (told_opened g c tells) (told_ended g c tells) (begun g c tells) (first_moment g c tells) in record { come = record { now = come.0; moments = come.1; later = come.2; whole = λ e. come.3 refl } }))
   | in-Ok-run+in-Some w ↦ (
       let x = stage_in c.run.new.self.world c.run.new.dev in
       let out = output (g.O.Sink.held c.args.out.now) (g.O.Sink.held c.run.new.out) in
       let marks = c.run.new.self.marks.items in
       let r : IsRunning g.C.Checkpoint (given g c) (start g c) x marks out = w.in-Ok-run.ensures.runs_on (given g c) (start g c) (g.O.Sink.held c.args.out.now) (can_begin g c) refl (told_opened g c tells) (told_ended g c tells) (begun g c tells) in
-      let came = ending_cut g.C.Checkpoint (given g c) (start g c) (moment_of c.run.new.self c.run.new.dev (g.O.Sink.held c.run.new.out)) (g.O.Sink.held c.args.out.now) w.in-Some.p r (subst (λ n. w.in-Some.p < n) (sym (length-map c.args.setup.images.items seen_image)) (stop_inside g c w.in-Some.p (said_of c.run.new.self.world.stopped w.in-Some.p _ (cut_some c.run.new.self w.in-Some.p (sym w.cut_by.ensures ∙ w.in-Some.is)).1 w.in-Ok-run.ensures.stop))) in
-      course g c tells _ w.ending-is came.last came.ended came.is (λ kept. tt)
+      let cut = cut_some c.run.new.self w.in-Some.p (sym w.cut_by.ensures ∙ w.in-Some.is) in
+      let stop : Stop g c w.in-Some.p = said_of c.run.new.self.world.stopped w.in-Some.p _ cut.1 (w.in-Ok-run.ensures.stop (sym c.run.ensures.kept ∙ cut.0)) in
+      let came = ending_cut g.C.Checkpoint (given g c) (start g c) (moment_of c.run.new.self c.run.new.dev (g.O.Sink.held c.run.new.out)) (g.O.Sink.held c.args.out.now) w.in-Some.p r (subst (λ n. w.in-Some.p < n) (sym (length-map c.args.setup.images.items seen_image)) (stop_inside g c w.in-Some.p stop)) in
+      course g c tells _ w.ending-is came.last came.ended came.is (λ kept. ends_cut g c w.in-Some.p tells stop)
       (let come = w.in-Ok-run.ensures.come (given g c) (start g c) (can_begin g c) (setting_is g c) (plan_kept g c) refl c.args.dev.now (g.O.Sink.held c.args.out.now) (told_opened g c tells) (told_ended g c tells) (begun g c tells) (first_moment g c tells) in record { come = record { now = come.0; moments = come.1; later = come.2; whole = λ e. come.3 refl } }))
   | in-Err-run w ↦ (
       let came = ending_broken g.C.Checkpoint (given g c) (start g c) (moment_of c.run.new.self c.run.new.dev (g.O.Sink.held c.run.new.out)) (g.O.Sink.held c.args.out.now) w.in-Err-run.fault
       (w.in-Err-run.ensures.runs_off w.in-Err-run.fault refl (given g c) (start g c) (g.O.Sink.held c.args.out.now) (can_begin g c) refl (told_opened g c tells) (told_ended g c tells) (begun g c tells)) in
       course g c tells _ (w.ending-is ∙ w.ended_by-ending.ensures) came.last came.ended came.is
-      (λ kept. uncut_broken g c w.in-Err-run.fault (w.in-Err-run.ensures.broken kept))
+      (λ kept. ends_broken g c w.in-Err-run.fault (w.in-Err-run.ensures.broken kept))
       (let come = w.in-Err-run.ensures.come (given g c) (start g c) (can_begin g c) (setting_is g c) (plan_kept g c) refl c.args.dev.now (g.O.Sink.held c.args.out.now) (told_opened g c tells) (told_ended g c tells) (begun g c tells) (first_moment g c tells) in record { come = record { now = come.0; moments = come.1; later = come.2; whole = λ e. absurd (came.broken e) } }))
 ]
 
@@ -271,8 +289,8 @@ stop_rose g c p none same stop =
     let after = g.met.C.Planned.unplanned_later c.open.new.dev c.run.new.dev p c.run.ensures.lasts in
     let rest = c.run.ensures.alone (g.met.C.Planned.planned_same c.args.dev.now c.open.new.dev lasts ∙ none) p in
     ⊎_elim
-    (λ (first : c.in-Ok.world.stopped ≡ Some p). let rose = (said_of c.in-Ok.world.stopped p _ first c.in-Ok.ensures.stopped_first).1 in omega (arith, rose, same, opened, after))
-    (λ (then : (p < length c.in-Ok.world.processes.slots.items) × Rose (g.C.Checkpoint.stops c.open.new.dev p) (g.C.Checkpoint.stops c.run.new.dev p)). let rose = then.1 in omega (arith, rose, rest, same, opened, before))
+    (λ first. let rose = (said_of c.in-Ok.world.stopped p _ first.0 c.in-Ok.ensures.stopped_first).1 in omega (arith, rose, same, opened, after))
+    (λ then. let rose = then.2 in omega (arith, rose, rest, same, opened, before))
     stop
 
 -- no fault ends a run so
@@ -293,7 +311,7 @@ returns-clause-stop g c = λ p e. elim c.match-run.branch [
       let is : ending.Stopped w.in-Some.p ≡ ending.Stopped p = sym w.ending-is ∙ sym (ap (λ (o : Course). o.ending) c.course.ensures) ∙ e in
       let same : w.in-Some.p ≡ p = cc in
       let cut = cut_some c.run.new.self w.in-Some.p (sym w.cut_by.ensures ∙ w.in-Some.is) in
-      let stop : Stop g c p = subst (Stop g c) same (said_of c.run.new.self.world.stopped w.in-Some.p _ cut.1 w.in-Ok-run.ensures.stop) in
+      let stop : Stop g c p = subst (Stop g c) same (said_of c.run.new.self.world.stopped w.in-Some.p _ cut.1 (w.in-Ok-run.ensures.stop (sym c.run.ensures.kept ∙ cut.0))) in
       (stop_inside g c p stop, λ none now. stop_rose g c p none now stop))
   | in-Err-run w ↦ absurd (no_stop w.in-Err-run.fault p (sym w.ended_by-ending.ensures ∙ sym w.ending-is ∙ sym (ap (λ (o : Course). o.ending) c.course.ensures) ∙ e))
 ]

@@ -7,17 +7,19 @@ use Rattle.dc_command.specs.declared.command.Ledger.TheVariants as Ledger
 use Rattle.dc_command.specs.Command.Asked.{ToRun, ToCheck, ToAssemble, ToAudit}
 use Rattle.dc_run.specs.Checking.{Checked, IsChecked}
 use Rattle.dc_run.proofs.Checks.{check_asks, check_exact, check_passes}
-use Rattle.dc_run.proofs.Commands.{assembly_asks, assembly_exact, assembly_opened, audit_asks, audit_exact, audit_opened, audit_says, check_opened, run_exact, run_asks, run_opened, unasked_opened, unasked_work}
+use Rattle.dc_run.proofs.Commands.{assembly_asks, assembly_exact, assembly_opened, audit_asks, audit_exact, audit_opened, audit_says, check_opened, run_exact, run_asks, run_is_work, run_opened, unasked_opened, unasked_work}
 use Rattle.dc_run.proofs.Ends.{never_refused, not_stopped, opened_with, other_complete, run_complete, run_of_words}
 use Rattle.dc_media.specs.Devices.{of_disks, of_words}
 use Rattle.dc_run.proofs.OnMedia.{each_so, medium_asked, other_same}
-use Rattle.dc_run.specs.Media.{HasFailed, IsOtherSame, devices_of, lent}
+use Rattle.dc_run.specs.Media.{HasFailed, HasStopped, IsOtherSame, devices_of, lent}
 use Rattle.dc_run.specs.Headline.{IsReported, course, is_used_up, keeps_journal, loan}
 use Rattle.dc_run.specs.Passing.{WritesPassing, WritesSaved}
 use Rattle.dc_run.specs.Settings.{has_run}
-use Rattle.dc_run.specs.declared.verdict.Verdict.TheVariants.{DeviceFault}
+use Rattle.dc_run.specs.declared.verdict.Verdict.TheVariants.{DeviceFault, DeviceStopped}
 use Rattle.dc_run.proofs.Leaving.{asked_left, left_same}
-use Rattle.dc_run.specs.Commands.{medium_of, stores_used, work_of}
+use Rattle.dc_run.specs.Assembling.{IsAssembled}
+use Rattle.dc_run.specs.Auditing.{IsAudited}
+use Rattle.dc_run.specs.Commands.{IfAssembly, IfAudit, IfCheck, medium_of, stores_used, work_of}
 use Rattle.dc_run.proofs.program.dc.Goals as goal
 
 pub returns-in-Ok-Run-clause-refused : goal.returns-in-Ok-Run-clause-refused
@@ -237,3 +239,39 @@ returns-in-Ok-Run-clause-headline g c ran = let asked : asked_of c.args.words.no
 
 pub returns-in-Err-clause-complete : goal.returns-in-Err-clause-complete
 returns-in-Err-clause-complete g c = unasked_work _ c.args.words.now c.in-Err.fault _ (c.idle.ensures.verdict ∙ c.unasked.ensures.meant) (λ is. c.in-Err.ensures.usage (ap Err is)) _ (λ e files work calm told. inr e)
+
+pub returns-in-Ok-Run-clause-ran : goal.returns-in-Ok-Run-clause-ran
+returns-in-Ok-Run-clause-ran g c ran = let asked : asked_of c.args.words.now ≡ Some (ToRun (order_view c.in-Ok-Run.order)) = search rules in
+    let is = c.run_plan.ensures.ran ran in (order_view c.in-Ok-Run.order, asked, is.0, is.1, is.2)
+
+pub returns-in-Ok-Run-clause-medium_stop : goal.returns-in-Ok-Run-clause-medium_stop
+returns-in-Ok-Run-clause-medium_stop g c = let asked : asked_of c.args.words.now ≡ Some (ToRun (order_view c.in-Ok-Run.order)) = search rules in
+    medium_asked (g.L.Library.files c.args.lib.now) c.args.words.now (order_view c.in-Ok-Run.order)
+    (λ m. (p : ℕ) → c.run_plan.result.verdict ≡ DeviceStopped p → HasStopped (devices_of g.K.Keeps g.D.Disks m) (lent c.args.keeps.now c.args.disks.now) (lent c.run_plan.new.keeps c.run_plan.new.disks) p) asked c.run_plan.ensures.medium_stop
+
+pub returns-in-Ok-Check-clause-medium_stop : goal.returns-in-Ok-Check-clause-medium_stop
+returns-in-Ok-Check-clause-medium_stop g c = each_so (g.L.Library.files c.args.lib.now) (λ files. medium_of files c.args.words.now)
+    (λ m. (p : ℕ) → c.check_output.result.verdict ≡ DeviceStopped p → HasStopped (devices_of g.K.Keeps g.D.Disks m) (lent c.args.keeps.now c.args.disks.now) (lent c.args.keeps.now c.args.disks.now) p) (λ m p e. absurd (not_stopped c.check_output.result.verdict p c.check_output.ensures.runs e))
+
+pub returns-in-Ok-Assemble-clause-medium_stop : goal.returns-in-Ok-Assemble-clause-medium_stop
+returns-in-Ok-Assemble-clause-medium_stop g c = each_so (g.L.Library.files c.args.lib.now) (λ files. medium_of files c.args.words.now)
+    (λ m. (p : ℕ) → c.assemble_source.result.verdict ≡ DeviceStopped p → HasStopped (devices_of g.K.Keeps g.D.Disks m) (lent c.args.keeps.now c.args.disks.now) (lent c.args.keeps.now c.args.disks.now) p) (λ m p e. absurd (not_stopped c.assemble_source.result.verdict p c.assemble_source.ensures.runs e))
+
+pub returns-in-Ok-Audit-clause-medium_stop : goal.returns-in-Ok-Audit-clause-medium_stop
+returns-in-Ok-Audit-clause-medium_stop g c = each_so (g.L.Library.files c.args.lib.now) (λ files. medium_of files c.args.words.now)
+    (λ m. (p : ℕ) → c.audit_journal.result.verdict ≡ DeviceStopped p → HasStopped (devices_of g.K.Keeps g.D.Disks m) (lent c.args.keeps.now c.args.disks.now) (lent c.args.keeps.now c.args.disks.now) p) (λ m p e. absurd (not_stopped c.audit_journal.result.verdict p c.audit_journal.ensures.runs e))
+
+pub returns-in-Ok-Run-clause-checked : goal.returns-in-Ok-Run-clause-checked
+returns-in-Ok-Run-clause-checked g c opened = let asked : asked_of c.args.words.now ≡ Some (ToRun (order_view c.in-Ok-Run.order)) = search rules in
+    run_is_work (g.L.Library.files c.args.lib.now) c.args.words.now (order_view c.in-Ok-Run.order) c.run_plan.result.verdict asked opened c.run_plan.ensures.opened
+    (λ work. IfCheck work (λ of. IsChecked of c.run_plan.result (g.O.Sink.held c.args.out.now) (g.O.Sink.held c.run_plan.new.out) × (c.run_plan.new.report ≡ c.args.report.now))) (λ setting. tt)
+
+pub returns-in-Ok-Run-clause-assembled : goal.returns-in-Ok-Run-clause-assembled
+returns-in-Ok-Run-clause-assembled g c opened = let asked : asked_of c.args.words.now ≡ Some (ToRun (order_view c.in-Ok-Run.order)) = search rules in
+    run_is_work (g.L.Library.files c.args.lib.now) c.args.words.now (order_view c.in-Ok-Run.order) c.run_plan.result.verdict asked opened c.run_plan.ensures.opened
+    (λ work. IfAssembly work (λ of. IsAssembled of c.run_plan.result (g.O.Sink.held c.args.out.now) (g.O.Sink.held c.run_plan.new.out) × (c.run_plan.new.report ≡ c.args.report.now))) (λ setting. tt)
+
+pub returns-in-Ok-Run-clause-audited : goal.returns-in-Ok-Run-clause-audited
+returns-in-Ok-Run-clause-audited g c opened = let asked : asked_of c.args.words.now ≡ Some (ToRun (order_view c.in-Ok-Run.order)) = search rules in
+    run_is_work (g.L.Library.files c.args.lib.now) c.args.words.now (order_view c.in-Ok-Run.order) c.run_plan.result.verdict asked opened c.run_plan.ensures.opened
+    (λ work. IfAudit work (λ of. IsAudited of c.run_plan.result (g.O.Sink.held c.args.out.now) (g.O.Sink.held c.run_plan.new.out) × (c.run_plan.new.report ≡ c.args.report.now))) (λ setting. tt)

@@ -10,13 +10,13 @@ use Rattle.dc_command.specs.declared.command.Ledger.{Ledger}
 use Rattle.dc_command.specs.declared.command.Ledger.TheVariants as ledger
 use Rattle.dc_elf.specs.Loaded.{seen_image}
 use Rattle.dc_run.specs.Headline.{IsReported, course, is_used_up, keeps_journal, loan}
-use Rattle.dc_run.specs.Media.{HasFailed, IsOtherSame, devices_of, lent}
+use Rattle.dc_run.specs.Media.{HasFailed, HasStopped, IsOtherSame, devices_of, lent}
 use Rattle.dc_run.specs.Opening.{opening_of}
 use Rattle.dc_run.specs.Refusals.{as_verdict, verdict_of}
 use Rattle.dc_run.specs.declared.refusal.Refusal.{Refusal}
 use Rattle.dc_run.specs.Commands.{IsOpenedFor}
 use Rattle.dc_run.specs.Settings.{is_free, may_have_run, setting_of}
-use Rattle.dc_run.specs.declared.verdict.Verdict.TheVariants.{DeviceFault}
+use Rattle.dc_run.specs.declared.verdict.Verdict.TheVariants.{DeviceFault, DeviceStopped}
 use Rattle.dc_run.proofs.Works.{closed_refusal, exact_work, for_known, opened_work, refused_exact, refused_work, told_verdict}
 use Rattle.dc_run.proofs.Headlines.{free_unopened, opened_so, reported_for, reported_may, reported_so, run_ledger, with_ledger}
 use Rattle.dc_run.proofs.Leaving.{left_same, opened_left}
@@ -51,7 +51,6 @@ returns-in-Ok-run_setting-clause-headline g c ran = reported_for c.args.order.no
 
 pub returns-in-Ok-run_setting-clause-ran : goal.returns-in-Ok-run_setting-clause-ran
 returns-in-Ok-run_setting-clause-ran g c ran = (
-  c.args.order.now.ledger,
   c.in-Ok.setting.medium,
   setting_of c.in-Ok.setting,
   written g c,
@@ -179,3 +178,12 @@ returns-in-Ok-run_setting-clause-stopped_alone g c p e =
     let reports = run_ledger c.in-Ok-run_setting.course c.outcome_of-outcome.result.0 c.reported.result.verdict _ report c.outcome_of-outcome.ensures.outcome c.reported.ensures.reports in
     let stopped = stop_ending c.in-Ok-run_setting.course.ending c.reported.result.verdict _ report p reports e in
     sym c.in-Ok.ensures.ledger ∙ kept_alone c.in-Ok.setting.ledger (λ keeps. c.in-Ok-run_setting.ensures.unkept keeps p stopped)
+
+pub returns-in-Ok-run_setting-clause-medium_stop : goal.returns-in-Ok-run_setting-clause-medium_stop
+returns-in-Ok-run_setting-clause-medium_stop g c =
+    let report = course (g.R.Sink.held c.args.report.now) (g.R.Sink.held c.reported.new.report) (g.R.Sink.faults c.args.report.now) (g.R.Sink.faults c.reported.new.report) in
+    let reports = run_ledger c.in-Ok-run_setting.course c.outcome_of-outcome.result.0 c.reported.result.verdict _ report c.outcome_of-outcome.ensures.outcome c.reported.ensures.reports in
+    said_so (g.L.Library.files c.args.lib.now) c.args.order.now.plan.now c.in-Ok.setting.medium
+    (λ m. (p : ℕ) → c.reported.result.verdict ≡ DeviceStopped p → HasStopped (devices_of g.K.Keeps g.D.Disks m) (lent c.args.keeps.now c.args.disks.now) (lent c.run_setting.new.keeps c.run_setting.new.disks) p) c.in-Ok.ensures.medium
+    (λ p e. let stopped = stop_ending c.in-Ok-run_setting.course.ending c.reported.result.verdict _ report p reports e in
+    c.in-Ok-run_setting.ensures.stop (c.in-Ok.ensures.turns (kept_alone c.in-Ok.setting.ledger (λ keeps. c.in-Ok-run_setting.ensures.unkept keeps p stopped))).1 p stopped)

@@ -174,6 +174,35 @@ said=dc: schedule line 1 refused: form~
 words=dc journal another
 status=5
 said=dc: missing: plan~
+* a device that is stopped in its opening
+words=dc journal plan
+device=stopped 1
+out=
+status=17
+said=dc: device of 0 stopped~
+written=dc-journal 1 1 plain~
+marks=
+* a disk that is
+words=dc journal plan
+old=rio
+new=disk
+device=stopped 1
+out=
+status=17
+said=dc: device of 0 stopped~
+written=dc-journal 1 1 plain~
+marks=
+* beside one that is up, which takes no turn
+words=dc journal plan
+protocol=cand
+guests=hi hi
+device=stopped 1
+schedule=7 x 1 0 0
+out=
+status=17
+said=dc: device of 0 stopped~
+written=dc-journal 1 2 plain~
+marks=
 * a device that is stopped inside a commit
 words=dc journal plan
 device=stopped after 3

@@ -1,11 +1,11 @@
-use Rattle.std.proofs.Common.{◌≡◌, ◌≢◌, ◌⊎◌, ◌∙◌, ◌<◌, ◌≤◌, ◌+◌, ◌∷◌, inr, [], ℕ, All, Err, IfSome, None, Some, ap, arith, false, true, length, refl, reverse, slice_get, subst, sym, take, ⊎_elim}
+use Rattle.std.proofs.Common.{◌≡◌, ◌≢◌, ◌⊎◌, ◌∙◌, ◌<◌, ◌≤◌, ◌+◌, ◌++◌, ◌∷◌, inr, [], ℕ, All, Err, IfSome, None, Some, ap, arith, false, true, length, refl, reverse, slice_get, subst, sym, take, ⊎_elim}
 use Rattle.std.proofs.lemmas.Bool.{cases_Bool}
 use Rattle.std.proofs.lemmas.List.{length-append}
 use Rattle.std.proofs.lemmas.Option.{slice_get-get_or}
 use Rattle.dc_course.proofs.Between.{counted_twice, entry_at, later_on, runs_more, runs_off, tells_on, told_between}
 use Rattle.dc_audit.specs.Journals.{IsOfSixteen}
-use Rattle.dc_course.proofs.Journaling.{cut_more, keeps_ended, keeps_more, stopped_or, unstopped_more}
-use Rattle.dc_course.proofs.Partaking.{cut_none, if_some_so, no_one, none_of, one_stopped, part_inside, rose_from, setting_kept, stop_later}
+use Rattle.dc_course.proofs.Journaling.{keeps_ended, keeps_more, stopped_or, unstopped_more}
+use Rattle.dc_course.proofs.Partaking.{cut_none, no_one, none_of, one_stopped, part_inside, rose_from, setting_kept}
 use Rattle.dc_course.specs.Headline.{is_stopped}
 use Rattle.dc_course.specs.Journals.{AreCutAtStop, noted_of}
 use Rattle.dc_course.specs.declared.leaving.Journal.{Journal}
@@ -68,22 +68,28 @@ still_none : (g : Over) (c : goal.After-settle g) → c.entry.new.self.world.sto
 still_none g c none = let live : c.in-Ok.mark ≢ mark.Stopped = (λ halt. no_one c.entry.new.self.world.stopped _ none (c.in-Ok.ensures.stopped halt)) in
     (live, c.loop-entry.invariant.whole (sym (c.in-Ok.ensures.unstopped live) ∙ none))
 
--- whose device was stopped, where the devices count so many stops
-abbrev Stop : (g : Over) → goal.After-settle g → (ℕ → ℕ) → ℕ → Type 0
-Stop g c now p = (c.args.self.now.world.stopped ≡ Some p) ⊎ ((p < length c.args.self.now.world.processes.slots.items) × Rose (g.C.Checkpoint.stops c.args.dev.now p) (now p))
+-- whose device was stopped, and when: before the first entry, of which there is none then, or in the last
+abbrev Stop : (g : Over) → goal.After-settle g → ℕ → Type 0
+Stop g c p = ((c.args.self.now.world.stopped ≡ Some p) × (c.entry.new.self.marks.items ≡ []))
+    ⊎ ((c.args.self.now.world.stopped ≡ None) × (p < length c.args.self.now.world.processes.slots.items) × Rose (g.C.Checkpoint.stops c.args.dev.now p) (g.C.Checkpoint.stops c.entry.new.dev p) × AreCutAtStop c.entry.new.self.marks.items)
 
--- whose was so far
-stop_more : (g : Over) (c : goal.After-settle g) → IfSome c.entry.new.self.world.stopped (Stop g c (g.C.Checkpoint.stops c.entry.new.dev))
-stop_more g c =
-    let old = g.C.Checkpoint.stops c.args.dev.now in
-    let mid = g.C.Checkpoint.stops c.loop-entry.dev in
-    let new = g.C.Checkpoint.stops c.entry.new.dev in
-    ⊎_elim
-    (λ (halt : c.in-Ok.mark ≡ mark.Stopped). one_stopped c.entry.new.self.world.stopped _ (Stop g c new)
-    (λ p stop. inr (subst (λ n. p < n) c.loop-entry.invariant.long (part_inside _ _ p _ stop.0), rose_from (old p) (mid p) (new p) (c.loop-entry.invariant.later p).0 stop.1)) (c.in-Ok.ensures.stopped halt))
-    (λ (live : (c.in-Ok.mark ≢ mark.Stopped) × (is_stopped c.in-Ok.mark ≡ false)). subst (λ o. IfSome o (Stop g c new)) (sym (c.in-Ok.ensures.unstopped live.0))
-    (if_some_so c.loop-entry.self.world.stopped (Stop g c mid) (Stop g c new)
-    (λ p stop. stop_later (length c.args.self.now.world.processes.slots.items) p (old p) (mid p) (new p) (c.entry.ensures.later p).0 stop) c.loop-entry.invariant.stop))
+-- an entry that was stopped is the last of a run that keeps its journal, and the first such
+cut_here : (g : Over) (c : goal.After-settle g) → c.args.self.now.journal.kept ≡ true → c.in-Ok.mark ≡ mark.Stopped → IfSome c.entry.new.self.world.stopped (Stop g c)
+cut_here g c keeps halt =
+    let whole = c.loop-entry.invariant.whole (none_yet g c keeps) in
+    one_stopped c.entry.new.self.world.stopped _ (Stop g c)
+    (λ p stop. inr (
+      whole.0,
+      subst (λ n. p < n) c.loop-entry.invariant.long (part_inside _ _ p _ stop.0),
+      rose_from (g.C.Checkpoint.stops c.args.dev.now p) (g.C.Checkpoint.stops c.loop-entry.dev p) (g.C.Checkpoint.stops c.entry.new.dev p) (c.loop-entry.invariant.later p).0 stop.1,
+      (c.loop-entry.self.marks.items, c.in-Ok.ensures.noted ∙ ap (λ m. c.loop-entry.self.marks.items ++ m ∷ []) halt, whole.1),
+    )) (c.in-Ok.ensures.stopped halt)
+
+-- so much is said after each entry
+cut_or_on : (g : Over) (c : goal.After-settle g) → c.args.self.now.journal.kept ≡ true → IfSome c.entry.new.self.world.stopped (Stop g c)
+cut_or_on g c keeps = ⊎_elim
+    (λ (halt : c.in-Ok.mark ≡ mark.Stopped). cut_here g c keeps halt)
+    (λ (live : (c.in-Ok.mark ≢ mark.Stopped) × (is_stopped c.in-Ok.mark ≡ false)). subst (λ o. IfSome o (Stop g c)) (sym (c.in-Ok.ensures.unstopped live.0 ∙ none_yet g c keeps)) tt)
     (stopped_or c.in-Ok.mark)
 
 pub loop-entry-preserved : goal.loop-entry-preserved
@@ -140,8 +146,7 @@ loop-entry-preserved g c = record {
   journal_few = (let before = c.loop-entry.invariant.journal_few in let more = c.leave-count.ensures.few in let kept = settled_few g c in omega (arith, before, more, kept));
   sixteen = λ all. settled_sixteen g c (c.loop-entry.invariant.sixteen all);
   whole = λ none. let on = still_none g c none in (on.1.0, subst Unstopped (sym c.in-Ok.ensures.noted) (unstopped_more c.loop-entry.self.marks.items c.in-Ok.mark on.1.1 on.0));
-  cut = λ keeps. subst AreCutAtStop (sym c.in-Ok.ensures.noted) (cut_more c.loop-entry.self.marks.items c.in-Ok.mark (c.loop-entry.invariant.whole (none_yet g c keeps)).1);
-  stop = stop_more g c;
+  stop = λ keeps. cut_or_on g c keeps;
   journal = λ keeps. keeps_more g.C.Checkpoint c.args.schedule.now (noted_of c.args.self.now c.args.dev.now (g.O.Sink.held c.args.out.now)) (noted_of c.loop-entry.self c.loop-entry.dev (g.O.Sink.held c.loop-entry.out))
       (noted_of (record { world = c.entry.new.self.world; marks = c.entry.new.self.marks; journal = c.settle.new.self; from = c.entry.new.self.from }) c.entry.new.dev (g.O.Sink.held c.entry.new.out))
       c.loop-entry.invariant.long c.entry.ensures.long (let few = c.loop-entry.invariant.ready.well.few in omega (arith, few)) c.loop-entry.invariant.tells c.entry.ensures.later c.loop-entry.invariant.runs

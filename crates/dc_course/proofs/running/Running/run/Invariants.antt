@@ -41,8 +41,8 @@ invariant-loop-entry g l = let O = g.O.Sink in let C = g.C.Checkpoint in record 
   journal_few : length l.self.journal.lines.items ≤ length l.fn.self.journal.lines.items + 2 * l.entry-index;
   sixteen : All IsOfSixteen l.fn.self.journal.lines.items → All IsOfSixteen l.self.journal.lines.items;
   whole : l.self.world.stopped ≡ None → (l.fn.self.world.stopped ≡ None) × Unstopped l.self.marks.items;
-  cut : l.fn.self.journal.kept ≡ true → AreCutAtStop l.self.marks.items;
-  stop : IfSome l.self.world.stopped (λ p. (l.fn.self.world.stopped ≡ Some p) ⊎ ((p < length l.fn.self.world.processes.slots.items) × Rose (C.stops l.fn.dev p) (C.stops l.dev p)));
+  stop : l.fn.self.journal.kept ≡ true → IfSome l.self.world.stopped (λ p. ((l.fn.self.world.stopped ≡ Some p) × (l.self.marks.items ≡ []))
+      ⊎ ((l.fn.self.world.stopped ≡ None) × (p < length l.fn.self.world.processes.slots.items) × Rose (C.stops l.fn.dev p) (C.stops l.dev p) × AreCutAtStop l.self.marks.items));
   journal : l.fn.self.journal.kept ≡ true → KeepsJournal C l.schedule (noted_of l.fn.self l.fn.dev (O.held l.fn.out)) (noted_of l.self l.dev (O.held l.out));
   alone : g.C.Planned.planned l.fn.dev ≡ [] → (p : ℕ) → C.stops l.dev p + g.C.Planned.unplanned l.fn.dev p ≤ g.C.Planned.unplanned l.dev p + C.stops l.fn.dev p;
 }
