@@ -40,6 +40,7 @@ PidFile {room}/{name}.pid
 StrictModes no
 UsePAM no
 MaxStartups 100
+SetEnv HOME={room}/{name}
 """
 
 
@@ -51,10 +52,11 @@ def free_port():
 
 
 class Host:
-    """An ssh server of the trial, on the loopback address."""
+    """An ssh server of the trial, on the loopback address, with a home folder of its own."""
 
     def __init__(self, room, name):
         port = free_port()
+        os.makedirs(f"{room}/{name}", exist_ok=True)
         self.config = f"{room}/{name}.conf"
         with open(self.config, "w", encoding="ascii") as file:
             file.write(CONFIG.format(room=room, name=name, port=port))

@@ -7,7 +7,7 @@ import signal
 import subprocess
 import sys
 
-from folder import batched, left_of, unpack
+from folder import MOST_HERE, MOST_OVER_SSH, batched, left_of, unpack
 from plans import Refused
 
 JOBS, REACHED, PROBE = "joblog", "hosts", "probe"
@@ -73,20 +73,30 @@ def words_over(folder, jobs, needed, logins):
     ]
 
 
-def run_all(folder, runs, words, lock):
-    """Hands the runs that are not done to parallel, in batches."""
-    unpack(folder)
-    left = left_of(folder, runs)
-    if not left:
-        return
-    names = "".join(f"{name}\n" for name in batched(folder, left)).encode()
+def hand_out(folder, names, words, lock):
+    """Hands batches to parallel, and takes in what came back."""
     words = ["parallel", "--will-cite", "--joblog", JOBS, *(["--bar"] if sys.stderr.isatty() else []), *words]
     with subprocess.Popen(words, cwd=folder, stdin=subprocess.PIPE, env=environment(), stdout=subprocess.DEVNULL, pass_fds=[lock]) as engine:
         try:
-            engine.communicate(names)
+            engine.communicate("".join(f"{name}\n" for name in names).encode())
         except KeyboardInterrupt:
             # The first makes parallel start nothing more, and the second end what runs.
             engine.send_signal(signal.SIGTERM)
             engine.send_signal(signal.SIGTERM)
             raise
     unpack(folder)
+
+
+def run_here(folder, runs, jobs, lock):
+    """Does the runs that are not done on this machine."""
+    left = left_of(folder, runs)
+    if left:
+        hand_out(folder, batched(folder, left, MOST_HERE), words_here(jobs), lock)
+
+
+def run_over(folder, runs, words, lock):
+    """Does the runs that are not done over ssh. What a host that goes away had done is lost, so this goes on as long as it helps."""
+    left, before = left_of(folder, runs), []
+    while left and left != before:
+        hand_out(folder, batched(folder, left, MOST_OVER_SSH), words, lock)
+        left, before = left_of(folder, runs), left

@@ -14,8 +14,9 @@ from schedules import turns_drawn, turns_listed
 HERE = os.path.dirname(os.path.realpath(__file__))
 TOOLS = ["batch.py", "plans.py", "schedules.py"]
 BATCHES, LOCK = "batches", "lock"
-# A batch has at most so many runs, and there are at least so many batches for each processor, so that the last ones take none alone for long.
-MOST_IN_BATCH, LEAST_BATCHES = 16, 8
+# A batch has at most so many runs, on this machine and over ssh, where each takes several connections; and there are at least so many batches for
+# each processor, so that the last ones take none alone for long.
+MOST_HERE, MOST_OVER_SSH, LEAST_BATCHES = 16, 64, 8
 
 
 def sum_of(path):
@@ -111,14 +112,15 @@ def left_of(folder, runs):
     return [run for run in runs if not is_done(run, folder)]
 
 
-def batched(folder, runs):
-    """Writes the batches of these runs: journals first, and runs with one seed together, whose stops are drawn once. Their names."""
+def batched(folder, runs, most=MOST_HERE):
+    """Writes the batches of these runs, each of no more than so many: journals first, and runs with one seed together, whose stops are drawn once.
+    The names of the batches."""
     runs = sorted(runs, key=lambda run: -1 if run.seed is None else run.seed)
     batches = os.path.join(folder, BATCHES)
     for path in [batches, *glob.glob(os.path.join(glob.escape(folder), f"{ATTEMPT}*"))]:
         shutil.rmtree(path, ignore_errors=True)
     os.makedirs(batches)
-    size = max(1, min(MOST_IN_BATCH, len(runs) // (LEAST_BATCHES * os.cpu_count())))
+    size = max(1, min(most, len(runs) // (LEAST_BATCHES * os.cpu_count())))
     names = []
     for first in range(0, len(runs), size):
         names.append(f"{BATCHES}/{len(names)}")
