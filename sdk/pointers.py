@@ -1,4 +1,5 @@
-"""Whether what the documents name is there: the files and headings that they link to, and the paths, crates, proofs and modules between backticks."""
+"""Whether what the documents name is there: the files and headings that they link to, the paths, crates, proofs and modules between backticks, and the
+definitions that they explain, in bold."""
 import os
 import re
 
@@ -9,6 +10,9 @@ CRATE = re.compile(r"dc_[a-z0-9_]+")
 MODULE = re.compile(r"(?:\w+/)*\w+\.(?:antt|rt)")
 # Something of a crate: "`entry` of `dc_course`", or "`entry` (`dc_course`)".
 OWNED = re.compile(r"`([\w:./]+)` (?:of|in|\() ?`?(dc_[a-z0-9_]+)\b")
+BOLD = re.compile(r"\*\*([^*]+)\*\*")
+# A name of code, as no word of prose is written.
+CODED = re.compile(r"\w*(?:_|[a-z][A-Z])\w*")
 WORD = re.compile(r"[\w-]+")
 FENCE = re.compile(r"^```.*?^```$", re.MULTILINE | re.DOTALL)
 # What a build makes, and what stands in no file of its own.
@@ -62,15 +66,23 @@ class Tree:
         return True
 
 
+    def words_of(self, crate):
+        """The words in the sources of a crate."""
+        if crate not in self.words:
+            self.words[crate] = {word for file in sources_below(f"{self.top}/crates/{crate}") for word in WORD.findall(read(file))}
+        return self.words[crate]
+
+    def unknown(self, names):
+        """Which of these names of code no crate has."""
+        return [name for name in names if CODED.fullmatch(name) and not any(name in self.words_of(crate) for crate in self.crates)]
+
     def owns(self, crate, name):
         """Whether a crate has a folder or a file of this name, or the last word of it anywhere."""
         if name.endswith("/"):
             return os.path.isdir(f"{self.top}/crates/{crate}/{name}")
         if MODULE.fullmatch(name):
             return any(file.endswith(f"/{name}") for file in self.files if f"/crates/{crate}/" in file)
-        if crate not in self.words:
-            self.words[crate] = {word for file in sources_below(f"{self.top}/crates/{crate}") for word in WORD.findall(read(file))}
-        return re.split(r"::|\.", name)[-1] in self.words[crate]
+        return re.split(r"::|\.", name)[-1] in self.words_of(crate)
 
 
 def dangling(top):
@@ -82,5 +94,6 @@ def dangling(top):
         links = [target for target in LINK.findall(text) if "://" not in target and not tree.has_link(page, target)]
         names = [name for name in NAMED.findall(text) if not tree.has_name(name)]
         owned = [f"{name} of {crate}" for name, crate in OWNED.findall(re.sub(r"\s+", " ", text)) if not tree.owns(crate, name)]
-        for what in dict.fromkeys([*links, *names, *owned]):
+        bold = tree.unknown(name for names_in_bold in BOLD.findall(text) for name in re.split(r",\s+", names_in_bold))
+        for what in dict.fromkeys([*links, *names, *owned, *bold]):
             yield f"{os.path.relpath(page, top)} names {what}, which is not there"

@@ -31,7 +31,7 @@ def logins_of(path):
     return logins
 
 
-def name_of(login):
+def host_of(login):
     """A host as it is logged: without how many batches it takes."""
     return re.sub(r"^[0-9+%]+/", "", login)
 
@@ -46,9 +46,9 @@ def reached(folder, path, say):
     with open(log, encoding="utf-8", newline="") as file:
         well = {row["Host"] for row in csv.DictReader(file, delimiter="\t") if row["Exitval"] == "0"}
     for login in logins:
-        if name_of(login) not in well:
-            say(f"{name_of(login)} cannot be reached over ssh, or lacks python3 or rsync; it gets no runs")
-    found = [login for login in logins if name_of(login) in well]
+        if host_of(login) not in well:
+            say(f"{host_of(login)} cannot be reached over ssh, or lacks python3 or rsync; it gets no runs")
+    found = [login for login in logins if host_of(login) in well]
     if not found:
         raise Refused(f"no host of {path} can be reached")
     return found
