@@ -9,5 +9,6 @@ mod Between
 mod Ups
 mod Whole
 mod Tracing
+pub mod Onward
 pub mod Within
 pub mod Journaling

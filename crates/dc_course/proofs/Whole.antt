@@ -150,17 +150,22 @@ module _ {C D : Type 0} (g : checkpoint.Ghosts C D) (setting : Setting) (begun :
   ending_broken (fault.Store p why) ended = absurd ended
   ending_broken fault.Sink ended = record { last = CutOff ended.0; ended = ended.1; is = (ended.0, refl, ended.2); broken = λ e. absurd (cc) }
 
+-- the stores that a run leaves, wherever it began
+pub left_stores : {C D : Type 0} (g : checkpoint.Ghosts C D) (setting : Setting) (begun : Core) (stores : List C) (dev : D) (w : Processes) (marks : List Mark) (last : Last) (out : Output)
+    (ended : IsEnded g setting begun (stage_of stores dev w) marks last out) → IsReady g stores dev w → length w.slots.items ≡ length setting.images → StoresLeft g setting ended.core dev
+left_stores g setting begun stores dev w marks last out ended ready long = record {
+  stores = stores;
+  all = ready.stores_long ∙ long;
+  belongs = λ p c at. subst (λ n. Belongs g n p c) long (ready.belongs p c at);
+  lent = lent_of g stores dev w ready;
+  stand = ended.stores;
+}
+
 module _ {C D : Type 0} (g : checkpoint.Ghosts C D) (setting : Setting) (up : ℕ → Bool) (alike : AreUpAlike setting up) (from_is : setting.from ≡ 0) (stores : List C) (dev : D) (w : Processes) (marks : List Mark) (last : Last) (out : Output)
     (ended : IsEnded g setting (opened_core up) (stage_of stores dev w) marks last out) (ready : IsReady g stores dev w) (long : length w.slots.items ≡ length setting.images) (beyond : ((p : ℕ) → p < length setting.images → up p ≡ true) → (p : ℕ) → length setting.images ≤ p → up p ≡ true) where
   -- the stores that it leaves
   stores_left : StoresLeft g setting ended.core dev
-  stores_left = record {
-    stores = stores;
-    all = ready.stores_long ∙ long;
-    belongs = λ p c at. subst (λ n. Belongs g n p c) long (ready.belongs p c at);
-    lent = lent_of g stores dev w ready;
-    stand = ended.stores;
-  }
+  stores_left = left_stores g setting (opened_core up) stores dev w marks last out ended ready long
 
   -- where no process of the run is down, nothing is
   all_up : ((p : ℕ) → p < length setting.images → up p ≡ true) → (p : ℕ) → up p ≡ true

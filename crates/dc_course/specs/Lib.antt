@@ -2,6 +2,7 @@ pub mod Planned
 pub mod Headline
 pub mod Running
 pub mod Courses
+pub mod Continued
 pub mod Lent
 pub mod Moments
 pub mod Traces

@@ -40,7 +40,7 @@ pub struct Course {
 
 impl<C: Planned + Drop> Running<C> {
     /// What the run did, when no more of it is needed.
-    fn course(self, ending: Ending) -> Course
+    pub(crate) fn course(self, ending: Ending) -> Course
         ensures { result ≡ record { acts = self.world.processes.acts; marks = self.marks; lines = self.world.processes.lines; journal = self.journal; ending = ending } }
     {
         let Running {
@@ -61,7 +61,7 @@ impl<C: Planned + Drop> Running<C> {
 }
 
 /// No marks, and room for so many.
-fn marks_for(alloc: Global, entries: usize) -> Result<Reserved<Mark>, AllocError>
+pub(crate) fn marks_for(alloc: Global, entries: usize) -> Result<Reserved<Mark>, AllocError>
     ensures items { IfOk result (λ marks. marks.items ≡ []) }
     ensures room { IfOk result (λ marks. entries ≤ marks.room) }
 {
@@ -71,7 +71,7 @@ fn marks_for(alloc: Global, entries: usize) -> Result<Reserved<Mark>, AllocError
 }
 
 /// What a fault of a world ends a run with.
-fn ended_by(fault: TurnFault) -> Ending
+pub(crate) fn ended_by(fault: TurnFault) -> Ending
     ensures { result ≡ ending_by fault }
 {
     match fault {
@@ -82,7 +82,7 @@ fn ended_by(fault: TurnFault) -> Ending
 }
 
 /// What a run ends with whose schedule is used up.
-fn ended(all: bool) -> Ending
+pub(crate) fn ended(all: bool) -> Ending
     ensures { result ≡ ending_of all }
 {
     if all {

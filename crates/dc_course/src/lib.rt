@@ -2,12 +2,14 @@
 //! a fault, and what users are promised of it.
 #![tactic(auto)]
 
+mod continuing;
 mod course;
 mod ending;
 mod leaving;
 mod planned;
 mod running;
 
+pub use continuing::go_on;
 pub use course::{Course, run};
 pub use ending::Ending;
 pub use leaving::Journal;

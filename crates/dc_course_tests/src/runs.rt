@@ -4,6 +4,7 @@ mod cases;
 mod coming;
 mod guests;
 mod lists;
+mod parts;
 mod runs;
 mod setting;
 mod spoiled;

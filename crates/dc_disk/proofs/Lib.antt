@@ -1,1 +1,2 @@
 mod Logs
+mod Rereading

@@ -1,9 +1,11 @@
 ghost use Rattle.std.specs.Prelude.{◌≡◌};
 ghost use Rattle.dc_reread.specs.Faults.{of_joint, of_walk};
+ghost use Rattle.dc_reread.specs.declared.faults.RereadFault.TheVariants as faults;
 
 use dc_checkpoint::StoreFault;
 use dc_plain::ApplyFault;
 use dc_twophase::JointFault;
+use std::alloc::AllocError;
 use thiserror::Error;
 
 /// Why stores were not read beside a run's acts.
@@ -49,5 +51,13 @@ impl From<ApplyFault> for RereadFault {
             ApplyFault::Illegal => RereadFault::Illegal,
             ApplyFault::Memory => RereadFault::Memory,
         }
+    }
+}
+
+impl From<AllocError> for RereadFault {
+    ghost from_gives = { λ _ fault. fault ≡ faults.Memory };
+
+    fn from(_fault: AllocError) -> RereadFault {
+        RereadFault::Memory
     }
 }

@@ -4,9 +4,9 @@ pub mod Reaching
 mod Deciding
 mod Testing
 mod Absent
-mod Resuming
-mod Halting
-mod Numbered
-mod Added
+pub mod Resuming
+pub mod Halting
+pub mod Numbered
+pub mod Added
 pub mod Telling
 pub mod Scenario

@@ -15,6 +15,7 @@ pub fn words_of(bytes: &[u8], to: &mut [u32])
 /// The words of the bytes, the lowest byte of each first.
 pub fn to_words(alloc: Global, bytes: &[u8]) -> Result<Vec<u32>, AllocError>
     requires { length bytes.now % 4 ≡ 0 }
+    ensures exact { IfOk result (λ words. words.items ≡ words_in bytes.now) }
     ensures words { IfOk result (λ words. bytes_in words.items ≡ bytes.now) }
     ensures long { IfOk result (λ words. 4 * length words.items ≡ length bytes.now) }
 {

@@ -19,9 +19,13 @@ use Rattle.dc_protocols.specs.declared.protocol.Protocol.{Protocol}
 use Rattle.dc_words.specs.Words.{bytes_in}
 use Rattle.dc_processes.proofs.Handling.{counts_same}
 use Rattle.dc_together.specs.Joints.{whose}
-use Rattle.dc_world.specs.Opened.{IsBegun, first_kernel}
+use Rattle.dc_world.specs.Opened.{CanOpen, IsBegun, first_kernel}
 use Rattle.dc_processes.specs.Slots.{IsOf}
 use Rattle.dc_processes.specs.declared.slot.Slot.TheVariants.{Down, Up}
+
+-- the words of a memory of whole pages
+pub words_whole : (image : Image) (bytes words : List ℕ) → CanOpen image → bytes ≡ image.memory.items → 4 * length words ≡ length bytes → (pages : ℕ) × (length words ≡ 1024 * pages) × (pages ≤ 256)
+words_whole image bytes words can same long = let pages = can.1 in let whole = pages.1 in let e = ap length same in (pages.0, omega (arith, whole, e, long), pages.2)
 
 -- nothing was received, and nothing was sent
 pub none_received : (n p : ℕ) (image : Image) (s : ℕ) → s < n → slice_index (first_kernel n p image).received s ≡ 0

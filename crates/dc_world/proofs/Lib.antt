@@ -10,3 +10,8 @@ pub mod Joined
 pub mod Opens
 pub mod Partaking
 mod Leaves
+pub mod Added
+pub mod Resumed
+pub mod Attached
+pub mod Rereading
+pub mod Again

@@ -3,3 +3,4 @@ pub mod Worlds
 pub mod Opened
 pub mod Ended
 pub mod Leaving
+pub mod Reopened

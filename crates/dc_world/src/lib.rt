@@ -6,8 +6,10 @@
 
 mod faults;
 mod opening;
+mod reopening;
 mod world;
 
 pub use faults::{OpenFault, TurnFault};
 pub use opening::Setup;
+pub use reopening::Earlier;
 pub use world::World;

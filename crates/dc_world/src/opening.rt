@@ -46,7 +46,13 @@ pub struct Setup {
 }
 
 /// The kernel of process `p` of `n` before its first event, at its first commit, in a memory of so many bytes.
-fn first_kernel(alloc: Global, n: u32, p: u32, size: u32, entry: u32) -> Result<Kernel, AllocError>
+pub(crate) fn first_kernel(
+    alloc: Global,
+    n: u32,
+    p: u32,
+    size: u32,
+    entry: u32,
+) -> Result<Kernel, AllocError>
     requires few { n ≤ PROCESSES }
     requires one_of { p < n }
     requires long { (16 ≤ size) × (size % 4 ≡ 0) }
@@ -60,7 +66,7 @@ fn first_kernel(alloc: Global, n: u32, p: u32, size: u32, entry: u32) -> Result<
 }
 
 /// The text of a kernel.
-fn text_of(alloc: Global, kernel: &Kernel) -> Result<Vec<u32>, AllocError>
+pub(crate) fn text_of(alloc: Global, kernel: &Kernel) -> Result<Vec<u32>, AllocError>
     ensures text { IfOk result (λ text. text.items ≡ text_of kernel.now) }
     ensures faultless { IfOk result (λ text. IsText (form_of kernel.now) text.items) }
     ensures form { IfOk result (λ text. form_in text.items ≡ form_of kernel.now) }
@@ -151,7 +157,7 @@ fn begin_each<C: Checkpoint + Drop>(
 }
 
 /// No acts, and room for so many.
-fn acts_for(alloc: Global, entries: u32) -> Result<Acts, AllocError>
+pub(crate) fn acts_for(alloc: Global, entries: u32) -> Result<Acts, AllocError>
     ensures items { IfOk result (λ acts. acts.items ≡ []) }
     ensures room { IfOk result (λ acts. entries ≤ acts.room) }
 {
@@ -161,7 +167,7 @@ fn acts_for(alloc: Global, entries: u32) -> Result<Acts, AllocError>
 }
 
 /// What a recovery of `n` processes is to fill, for each of the first so many.
-fn saved_for(alloc: Global, n: u32, count: u32) -> Result<Vec<Saved>, AllocError>
+pub(crate) fn saved_for(alloc: Global, n: u32, count: u32) -> Result<Vec<Saved>, AllocError>
     requires few { (n ≤ PROCESSES) × (count ≤ n) }
     ensures long { IfOk result (λ saved. length saved.items ≡ count) }
     ensures fit { IfOk result (λ saved. AreMadeFor n saved.items) }
@@ -175,7 +181,7 @@ fn saved_for(alloc: Global, n: u32, count: u32) -> Result<Vec<Saved>, AllocError
 }
 
 /// The room of commits and recoveries of `n` processes together; none where each process commits by itself.
-fn joint_for(alloc: Global, protocol: Protocol, n: u32) -> Result<Joint, AllocError>
+pub(crate) fn joint_for(alloc: Global, protocol: Protocol, n: u32) -> Result<Joint, AllocError>
     requires few { n ≤ PROCESSES }
     ensures texts { IfOk result (λ joint. is_joint protocol ≡ true → length joint.texts.items ≡ kernel_words n * n) }
     ensures saved_long { IfOk result (λ joint. is_joint protocol ≡ true → length joint.saved.items ≡ n) }

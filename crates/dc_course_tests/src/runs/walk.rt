@@ -148,7 +148,7 @@ fn lines_are(out: &str, visibles: &[Visible]) -> Result<(), Fail> {
 }
 
 /// A run came to what its acts lead the guests to by themselves.
-fn is_plain(alloc: Global, case: &str, acts: &[Taken], out: &[u8]) -> Result<(), Fail> {
+pub fn is_plain(alloc: Global, case: &str, acts: &[Taken], out: &[u8]) -> Result<(), Fail> {
     let setup = setup(alloc, case)?;
     let mut plain = Plain::open(alloc, &setup.images, &setup.inputs)?;
     apply_all(&mut plain, acts)?;

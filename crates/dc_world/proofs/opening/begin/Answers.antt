@@ -1,5 +1,5 @@
 use Rattle.std.proofs.Common.{◌≡◌, false, rules}
-use Rattle.dc_world.proofs.Beginning.{down_begun, up_begun}
+use Rattle.dc_world.proofs.Beginning.{down_begun, up_begun, words_whole}
 use Rattle.dc_world.specs.Opened.{first_kernel}
 use Rattle.dc_world.proofs.opening.begin.Goals as goal
 
@@ -23,3 +23,6 @@ returns-in-Ok-default-false-clause-begun g c =
     c.in_ok-up.ensures.kernel c.in_ok-up.ensures.fresh c.in_ok-up.ensures.based c.in_ok-up.ensures.others c.in_ok-up.ensures.whole (search rules) c.in_ok-up.ensures.valid
     (c.in-Ok-default-false.ensures.handle.index_is, c.in-Ok-default-false.ensures.handle.size_is, c.in-Ok-default-false.ensures.handle.form_is) c.in-Ok-default-false.ensures.handle.lent c.in-Ok-default-false.ensures.handle.floor_is c.in-Ok-default-false.ensures.stands c.in-Ok-default-false.ensures.numbers c.in-Ok-default-false.ensures.steady
     (c.in-Ok-default-false.ensures.ready off) (c.in-Ok-default-false.ensures.memory off) (c.in-Ok-default-false.ensures.number off)
+
+pub format-requires-clause-pages : goal.format-requires-clause-pages
+format-requires-clause-pages g c = words_whole c.args.image.now c.deref.result.now c.in_ok-words.words.items c.requires.good c.deref.ensures.value c.in_ok-words.ensures.long
