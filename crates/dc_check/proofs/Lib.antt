@@ -1,5 +1,5 @@
 pub mod Applied
-mod Drawing
+pub mod Drawing
 mod Fields
 mod Found
 mod Meaning

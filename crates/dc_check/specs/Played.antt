@@ -1,5 +1,5 @@
 -- Acts that are played in the failure-free world.
-use Rattle.std.specs.Prelude.{◌≡◌, ℕ, suc, ◌&&◌, List, [], ◌∷◌, Result, Ok, Err, if◌then◌else◌, length, nat_le, slice_get}
+use Rattle.std.specs.Prelude.{◌≡◌, ℕ, suc, ◌&&◌, List, [], ◌∷◌, Option, None, Some, Result, Ok, Err, if◌then◌else◌, length, nat_le, slice_get}
 use Rattle.dc_acts.specs.Lines.{text_of}
 use Rattle.dc_guest.specs.Guest.{Guest}
 use Rattle.dc_model.specs.Drawn.{draws}
@@ -23,6 +23,11 @@ played_from G schedule next position w (x ∷ acts) = if nat_le next x.t && draw
 -- the world that acts lead to, or the position of the first that was not drawn at its turn or does not apply
 abbrev pub played : {Mc : Type 0} → Guests Mc → List Entry → List Taken → Result (World Mc) ℕ
 played G schedule acts = played_from G schedule 0 0 (opened G) acts
+
+-- the position of the first act that leads nowhere, if there is one
+abbrev pub first_stray : {A : Type 0} → Result A ℕ → Option ℕ
+first_stray (Ok w) = None
+first_stray (Err position) = Some position
 
 -- the code's guests have come to this world, and its lines are those of the world's records
 pub record Stands (plain : Played) (lines : Lines) (w : World Guest) : Type 0 where

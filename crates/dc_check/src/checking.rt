@@ -1,5 +1,6 @@
 ghost use Rattle.std.specs.Prelude.{◌≡◌, ◌<◌, ◌-◌, ◌^◌, All, IfOk, length, map};
 ghost use Rattle.dc_check.specs.Findings.{finding_of, seen_finding};
+ghost use Rattle.dc_check.specs.Played.{first_stray, played};
 ghost use Rattle.dc_guest.specs.Guest.{guests_of};
 ghost use Rattle.dc_elf.specs.Loaded.{CanStart, seen_image};
 ghost use Rattle.dc_words.specs.Lists.{lists_of};
@@ -38,5 +39,27 @@ pub fn check(
         Ok(()) => Ok(Finding::Passes(lines.count)),
         Err(Unlike::Differs(difference)) => Ok(Finding::Differs(difference)),
         Err(Unlike::Memory) => Err(AllocError),
+    }
+}
+
+/// The position of the first act, from 0 on, that was not drawn at its turn of the schedule or does not apply to these guests with
+/// these inputs; none where the acts are a failure-free run.
+pub fn first_stray(
+    alloc: Global,
+    images: &[Image],
+    inputs: &[Vec<Message>],
+    schedule: &[Entry],
+    acts: &[Taken],
+) -> Result<Option<u32>, AllocError>
+    requires images { length images.now < 2 ^ 32 - 1 }
+    requires good { All CanStart images.now }
+    requires processes { All (λ x. x.p < length images.now) acts.now }
+    requires few { length acts.now < 2 ^ 32 - 1 }
+    ensures { IfOk result (λ stray. stray ≡ first_stray (played (guests_of (map seen_image images.now) (lists_of inputs.now)) schedule.now acts.now)) }
+{
+    match play(alloc, images, inputs, schedule, acts) {
+        Ok(_lines) => Ok(None),
+        Err(NotPlayed::At(position)) => Ok(Some(position)),
+        Err(NotPlayed::Memory) => Err(AllocError),
     }
 }

@@ -10,7 +10,7 @@ mod playing;
 mod records;
 mod seen;
 
-pub use checking::check;
+pub use checking::{check, first_stray};
 pub use finding::{Difference, Finding};
 pub use laws::{
     findings_mean, passing_acts_are_a_drawn_run, passing_outputs_are_the_run,

@@ -12,6 +12,7 @@ name_text name.Check = codes "check"
 name_text name.Asm = codes "asm"
 name_text name.Journal = codes "journal"
 name_text name.Audit = codes "audit"
+name_text name.Resume = codes "resume"
 
 -- how many characters have to be put in, left out, exchanged, or swapped with the next, to come from one text to another
 abbrev pub distance : List ℕ → List ℕ → ℕ
@@ -27,7 +28,8 @@ nearly_of word = if is_nearly word (codes "run") then Some name.Run
     else (if is_nearly word (codes "check") then Some name.Check
     else (if is_nearly word (codes "asm") then Some name.Asm
     else (if is_nearly word (codes "journal") then Some name.Journal
-    else (if is_nearly word (codes "audit") then Some name.Audit else None))))
+    else (if is_nearly word (codes "audit") then Some name.Audit
+    else (if is_nearly word (codes "resume") then Some name.Resume else None)))))
 
 -- the one that the first word behind the program's name nearly is
 abbrev pub meant_of : List (String Global) → Option CommandName

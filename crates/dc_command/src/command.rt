@@ -1,6 +1,6 @@
 ghost use Rattle.std.specs.Prelude.{◌≡◌, Err, IfOk, None, Some, codes, option_map};
 ghost use Rattle.clap.specs.Words.{app_of, first_of, found_of, new_app, rows_of, subcommand_rows_of, with_subcommand};
-ghost use Rattle.dc_command.specs.Command.{asked_of, asked_view, check_command, command_line, met, met_by, names_by, to_run, with_word};
+ghost use Rattle.dc_command.specs.Command.{asked_of, asked_view, check_command, command_line, halted_by, met, met_by, names_by, resume_command, to_run, with_word};
 
 use clap::error::ErrorKind;
 use clap::{Arg, ArgMatches, Command};
@@ -13,6 +13,8 @@ pub enum Ledger {
     Report,
     /// The journal: the events that count and the commits.
     Journal,
+    /// The report of a run that goes on from an earlier part: of all its parts together.
+    Total,
 }
 
 /// The plan of a run, by its file's name, and what the run writes at its end.
@@ -30,6 +32,13 @@ pub struct Names<'a> {
     pub out: &'a str,
 }
 
+/// The plan and the report of a run that was halted, by the names of their files.
+#[derive(Clone, Copy)]
+pub struct Halted<'a> {
+    pub plan: &'a str,
+    pub report: &'a str,
+}
+
 /// What the words ask for, by the names of files.
 pub enum Asked<'a> {
     /// To run a plan, and write its report or its journal.
@@ -40,6 +49,8 @@ pub enum Asked<'a> {
     Assemble(&'a str),
     /// To audit that journal.
     Audit(&'a str),
+    /// To go on with a halted run.
+    Resume(Halted<'a>),
 }
 
 /// Why words are no command's.
@@ -77,6 +88,17 @@ fn with_check<'a>(alloc: Global, top: Command<'a>) -> Result<Command<'a>, AllocE
     top.subcommand(check)
 }
 
+/// Adds `resume` with the names of a plan and of a report.
+fn with_resume<'a>(alloc: Global, top: Command<'a>) -> Result<Command<'a>, AllocError>
+    ensures { IfOk result (λ c. app_of c ≡ with_subcommand (app_of top.entry) resume_command.top) }
+{
+    let plan = Arg::new(alloc, "plan").required(true);
+    let report = Arg::new(alloc, "report").required(true);
+    let planned = Command::new(alloc, "resume").arg(plan)?;
+    let resume = planned.arg(report)?;
+    top.subcommand(resume)
+}
+
 /// The command line: one of the commands has to be there.
 fn command<'a>(alloc: Global) -> Result<Command<'a>, AllocError>
     ensures { IfOk result (λ c. app_of c ≡ command_line) }
@@ -86,7 +108,8 @@ fn command<'a>(alloc: Global) -> Result<Command<'a>, AllocError>
     let top = with_check(alloc, top)?;
     let top = with_command(alloc, top, "asm", "source")?;
     let top = with_command(alloc, top, "journal", "plan")?;
-    with_command(alloc, top, "audit", "journal")
+    let top = with_command(alloc, top, "audit", "journal")?;
+    with_resume(alloc, top)
 }
 
 /// The word of that name.
@@ -105,6 +128,16 @@ fn names_met<'a>(matches: &ArgMatches<'a>) -> Option<Asked<'a>>
     let report = word(matches, "report")?;
     let out = word(matches, "out")?;
     Some(Asked::Check(Names { plan, report, out }))
+}
+
+/// What the words of a run that goes on ask for.
+fn halted_met<'a>(matches: &ArgMatches<'a>) -> Option<Asked<'a>>
+    ensures { option_map asked_view result ≡ halted_by (first_of (codes "plan") (rows_of (found_of matches.now)))
+        (first_of (codes "report") (rows_of (found_of matches.now))) }
+{
+    let plan = word(matches, "plan")?;
+    let report = word(matches, "report")?;
+    Some(Asked::Resume(Halted { plan, report }))
 }
 
 /// To run the plan that the words name, and write that at its end.
@@ -130,6 +163,9 @@ fn met_by<'a>(name: &str, matches: &ArgMatches<'a>) -> Option<Asked<'a>>
     }
     if name == "audit" {
         return Some(Asked::Audit(word(matches, "journal")?));
+    }
+    if name == "resume" {
+        return halted_met(matches);
     }
     run_met(matches, Ledger::Report)
 }

@@ -12,6 +12,7 @@ pub enum CommandName {
     Asm,
     Journal,
     Audit,
+    Resume,
 }
 
 impl CommandName {
@@ -25,6 +26,7 @@ impl CommandName {
             CommandName::Asm => "asm",
             CommandName::Journal => "journal",
             CommandName::Audit => "audit",
+            CommandName::Resume => "resume",
         }
     }
 }
@@ -55,6 +57,9 @@ fn nearly(alloc: Global, word: &str) -> Result<Option<CommandName>, AllocError>
     }
     if is_nearly(alloc, word, "audit")? {
         return Ok(Some(CommandName::Audit));
+    }
+    if is_nearly(alloc, word, "resume")? {
+        return Ok(Some(CommandName::Resume));
     }
     Ok(None)
 }

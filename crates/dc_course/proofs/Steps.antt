@@ -22,7 +22,15 @@ use Rattle.dc_processes.specs.Turns.{GoesOn, HasNoRun, IsTurned, lines_of}
 use Rattle.dc_world.specs.Worlds.{IsCutOff}
 use Rattle.dc_course.specs.Headline.{Setting, Shows, start_at, system_in, turn_after}
 use Rattle.dc_course.specs.Headline.Last.{Whole, CutOff, Broken}
-use Rattle.dc_course.specs.Running.{CanBegin, IsEnded, IsRunning, Output, output}
+use Rattle.dc_twophase.proofs.Pairs.{before_it}
+use Rattle.dc_twophase.specs.Stores.{EachPair}
+use Rattle.dc_world.proofs.Over.{over_still}
+use Rattle.dc_checkpoint.specs.Handles.{IsSame}
+use Rattle.dc_course.specs.Running.{AreOverIn, CanBegin, IsEnded, IsRunning, Output, output}
+
+-- as many stores as before, for as many processes
+pub many_kept : {C : Type 0} {m n : ℕ} (old new : List C) → length old ≡ m → length new ≡ n → n ≡ m → length new ≡ length old
+many_kept old new before after same = after ∙ same ∙ sym before
 
 -- the system of a setting is sound
 pub sound : (setting : Setting) → IsSound (system_in setting)
@@ -77,7 +85,11 @@ module _ {C D : Type 0} (g : checkpoint.Ghosts C D) (setting : Setting) (begun :
       (subst (λ pr. IsWorld g (system setting.images setting.inputs pr) r.core x) (sym r.of.protocol_is) r.world)
 
   module _ (old new : Stage C D) (marks : List Mark) (entry : Entry) (at : slice_get setting.schedule (turn_after setting marks) ≡ Some entry) (told : IsTold g old) (still : IsTold g new) (first held held' : Option (List ℕ))
-      (r : IsRunning g setting begun old marks (output first held)) where
+      (r : IsRunning g setting begun old marks (output first held)) (as_many : length new.stores ≡ length old.stores) (same : EachPair old.stores new.stores (λ i. IsSame g)) where
+    -- its stores stay what they are
+    over : AreOverIn g setting new.stores
+    over p c image at there = let b = before_it old.stores new.stores p c as_many at in over_still g (length setting.images) p image b.0 c (same p b.0 c b.1 at) (r.over p b.0 image b.1 there)
+
     -- what an entry with this mark and this line does
     turned : (new' : Stage C D) → IsTold g new' → (m : Mark) (shown : Option Visible) → GoesOn g old new' entry m shown → IsTurned g setting.images r.core old new' entry (record { mark = m; shown = shown })
     turned new' tells m shown goes = goes setting.images setting.schedule r.core told tells (now_holds old marks (output first held) r) (now_world old marks (output first held) r)
@@ -123,6 +135,7 @@ module _ {C D : Type 0} (g : checkpoint.Ghosts C D) (setting : Setting) (begun :
       led = subst (λ ms. LeadsTo (system_in setting) setting.schedule (start_at setting begun) ms t1.after) (sym (reverse-append marks (m ∷ []))) (led new still m shown goes);
       lines_are = more new still m shown goes;
       world = world new still m shown goes;
+      over = over;
       entries_are = omega (arith, one, r.entries_are, length-append marks (m ∷ []));
       shows = Becomes-then first held held' _ _ _ (λ x y z old new. new ∙ ap (λ w. w ++ text_of (lines_of shown)) old ∙ append_assoc x (text_of (reverse r.added)) (text_of (lines_of shown))
           ∙ ap (λ w. x ++ w) (sym (text_round shown r.added))) r.shows writes;
@@ -130,7 +143,7 @@ module _ {C D : Type 0} (g : checkpoint.Ghosts C D) (setting : Setting) (begun :
 
     -- a device failed at it
     pub steps_broken : GoesOn g old new entry mark.Stopped None → held' ≡ held → IsEnded g setting begun new marks Broken (output first held')
-    steps_broken goes same =
+    steps_broken goes held_same =
         let t1 : IsTurned g setting.images r.core old new entry (record { mark = mark.Stopped; shown = None }) = t new still mark.Stopped None goes in
         let w : IsWorld g (system_in setting) t1.after new = world new still mark.Stopped None goes in
         let all = count new still mark.Stopped None goes in record {
@@ -140,9 +153,10 @@ module _ {C D : Type 0} (g : checkpoint.Ghosts C D) (setting : Setting) (begun :
           acts_are = w.acts_are;
           lines_are = in_order new still mark.Stopped None goes;
           count = omega (arith, length-reverse r.added, all);
-          shows = subst (λ h. Becomes first h (Shows (reverse r.added) [])) (sym same) r.shows;
+          shows = subst (λ h. Becomes first h (Shows (reverse r.added) [])) (sym held_same) r.shows;
           up_are = w.up_are;
           stores = w.stands.stores;
+          over = over;
         }
 
     -- its line was cut off
@@ -165,6 +179,7 @@ module _ {C D : Type 0} (g : checkpoint.Ghosts C D) (setting : Setting) (begun :
             shows = Becomes-then first held held' _ _ _ (λ a b c old new. (cut.written.0, cut.written.1, new ∙ ap (λ u. u ++ take cut.written.0 (visible_line x)) old)) r.shows cut.written.2;
             up_are = w.up_are;
             stores = w.stands.stores;
+            over = over;
           },
         )
 
@@ -180,6 +195,7 @@ steps_whole g setting begun x marks out r = record {
   shows = r.shows;
   up_are = r.world.up_are;
   stores = r.world.stands.stores;
+  over = r.over;
 }
 
 module _ {C D : Type 0} (g : checkpoint.Ghosts C D) (setting : Setting) (begun : Core) (ok : CanBegin setting begun) (old new : Stage C D) (marks : List Mark) (told : IsTold g old) (still : IsTold g new) (out : Output)

@@ -102,5 +102,6 @@ module _ {C D : Type 0} (g : checkpoint.Ghosts C D) (laws : Laws g) (quiet : Qui
       lines_are = r.lines_are;
       world = world_still (system_in setting) r.core r.world;
       entries_are = r.entries_are;
+      over = r.over;
       shows = r.shows;
     }

@@ -43,6 +43,7 @@ moment_is g setting begun stores dev w marks out r ready = record {
     all = subst (λ n. length stores ≡ n) (sym r.world.count_is) ready.stores_long;
     belongs = λ p c at. subst (λ n. Belongs g n p c) (sym r.world.count_is) (ready.belongs p c at);
     lent = lent_of g stores dev w ready;
+    over = r.over;
     stand = r.world.stands.stores;
   };
 }

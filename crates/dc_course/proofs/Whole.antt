@@ -1,7 +1,7 @@
 -- A run from its opening to its end.
-use Rattle.std.proofs.Common.{◌≡◌, ◌∙◌, ◌≤◌, ◌<◌, ◌-◌, ◌^◌, ◌++◌, ℕ, Bool, true, false, List, [], Option, None, Some, IfSome, arith, length, refl, slice_get, subst, sym, ⊎_elim}
+use Rattle.std.proofs.Common.{◌≡◌, ◌∙◌, ◌≤◌, ◌<◌, ◌-◌, ◌^◌, ◌++◌, ℕ, Bool, true, false, List, [], Option, None, Some, IfSome, ap, arith, length, map, refl, slice_get, subst, sym, ⊎_elim}
 use Rattle.std.proofs.lemmas.Bool.{cases_Bool, cases_lt}
-use Rattle.std.proofs.lemmas.List.{append-nil}
+use Rattle.std.proofs.lemmas.List.{append-nil, length-map}
 use Rattle.dc_acts.specs.Lines.{text_of}
 use Rattle.dc_audit.specs.declared.journal.Line.{Line}
 use Rattle.dc_checkpoint.specs.declared.checkpoint.Checkpoint as checkpoint
@@ -35,7 +35,13 @@ use Rattle.dc_course.specs.Headline.{AreUpAlike, IsEnding, Last, Setting, StopsT
 use Rattle.dc_course.specs.Headline.Last.{Whole, CutOff, Broken}
 use Rattle.dc_course.specs.declared.ending.Ending.{Ending}
 use Rattle.dc_course.specs.declared.ending.Ending.TheVariants as ending
-use Rattle.dc_course.specs.Running.{IsEnded, IsEndedBy, IsRunning, Moment, Output, output}
+use Rattle.std.specs.Option.{option_map}
+use Rattle.std.proofs.lemmas.Option.{slice_get-map, slice_get_within}
+use Rattle.dc_elf.specs.Loaded.{seen_image}
+use Rattle.dc_elf.specs.declared.image.Image.{Image as Images}
+use Rattle.dc_twophase.proofs.Pairs.{known}
+use Rattle.dc_world.specs.Opened.{AreOver, IsOver}
+use Rattle.dc_course.specs.Running.{AreOverIn, IsEnded, IsEndedBy, IsRunning, Moment, Output, output}
 
 -- nothing was written
 nothing_written : (held : Option (List ℕ)) → Becomes held held (λ before now. now ≡ before ++ text_of [])
@@ -44,17 +50,28 @@ nothing_written (Some text) = sym (append-nil text)
 
 -- a run that just began
 pub begun_running : {C D : Type 0} (g : checkpoint.Ghosts C D) (setting : Setting) (begun : Core) (x : Stage C D) (marks : List Mark) (held : Option (List ℕ)) → x.protocol ≡ setting.protocol → x.inputs ≡ setting.inputs → x.entries ≡ setting.from → marks ≡ []
-    → IsWorld g (system_in setting) begun x → IsRunning g setting begun x marks (output held held)
-begun_running g setting begun x marks held protocol inputs entries empty world = subst (λ ms. IsRunning g setting begun x ms (output held held)) (sym empty) (record {
+    → AreOverIn g setting x.stores → IsWorld g (system_in setting) begun x → IsRunning g setting begun x marks (output held held)
+begun_running g setting begun x marks held protocol inputs entries empty over world = subst (λ ms. IsRunning g setting begun x ms (output held held)) (sym empty) (record {
   core = begun;
   added = [];
   of = record { protocol_is = protocol; inputs_are = inputs };
   led = refl;
   lines_are = refl;
   world = world;
+  over = over;
   entries_are = omega (arith, entries);
   shows = nothing_written held;
 })
+
+-- stores that are over those of a setup's images are so in its setting
+pub over_in : {C D : Type 0} (g : checkpoint.Ghosts C D) (setting : Setting) (images : List Images) (stores : List C) → setting.images ≡ map seen_image images → AreOver g images stores → AreOverIn g setting stores
+over_in g setting images stores are over p c image at there =
+    let long : length setting.images ≡ length images = ap length are ∙ length-map images seen_image in
+    let w = slice_get_within setting.images p image there in
+    let found = known images p (omega (arith, w, long)) in
+    let both : Some (seen_image found.0) ≡ Some image = sym (slice_get-map seen_image images p ∙ ap (option_map seen_image) found.1) ∙ ap (λ xs. slice_get xs p) (sym are) ∙ there in
+    let same : seen_image found.0 ≡ image = cc in
+    subst (λ n. IsOver g n p image c) (sym long) (subst (λ im. IsOver g (length images) p im c) same (over p c at found.0 found.1))
 
 -- a world stands for the opened core whatever is said of processes that are not there
 pub up_as : {C D : Type 0} (g : checkpoint.Ghosts C D) (S : System Guest) (x : Stage C D) (up up1 : ℕ → Bool) → ((p : ℕ) → p < S.guests.count → up1 p ≡ up p) → IsWorld g S (opened_core up) x → IsWorld g S (opened_core up1) x
@@ -158,6 +175,7 @@ left_stores g setting begun stores dev w marks last out ended ready long = recor
   all = ready.stores_long ∙ long;
   belongs = λ p c at. subst (λ n. Belongs g n p c) long (ready.belongs p c at);
   lent = lent_of g stores dev w ready;
+  over = ended.over;
   stand = ended.stores;
 }
 

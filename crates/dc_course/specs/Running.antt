@@ -2,6 +2,7 @@
 use Rattle.std.specs.Prelude.{◌≡◌, ◌<◌, ◌+◌, ◌++◌, ℕ, true, List, drop, length, reverse, slice_get, Option, Some}
 use Rattle.dc_acts.specs.Lines.{text_of}
 use Rattle.dc_checkpoint.specs.declared.checkpoint.Checkpoint as checkpoint
+use Rattle.dc_elf.specs.Images.{Image}
 use Rattle.dc_media.specs.Told.{Becomes}
 use Rattle.dc_model.specs.World.{reported}
 use Rattle.dc_model.specs.declared.entry.Entry.{Entry}
@@ -14,6 +15,7 @@ use Rattle.dc_recovery.specs.Invariant.{Holds}
 use Rattle.dc_recovery.specs.Turned.{LeadsTo}
 use Rattle.dc_processes.specs.Slots.{is_up, slot_at}
 use Rattle.dc_processes.specs.Stages.{IsTold, IsWorld, Stage, decided_by, leaves_of, numbers_of}
+use Rattle.dc_world.specs.Opened.{IsOver}
 use Rattle.dc_world.specs.Worlds.{stage_in}
 use Rattle.dc_world.specs.declared.faults.TurnFault.{TurnFault}
 use Rattle.dc_world.specs.declared.faults.TurnFault.TheVariants as fault
@@ -45,6 +47,10 @@ pub record IsSettingOf {C : Type 0} (r : Running C) (setting : Setting) : Type 0
 abbrev pub CanBegin : Setting → Core → Type 0
 CanBegin setting begun = Holds (system_in setting) setting.schedule setting.from begun
 
+-- each store is over that of its process, which began with its image
+abbrev pub AreOverIn : {C D : Type 0} → checkpoint.Ghosts C D → Setting → List C → Type 0
+AreOverIn g setting stores = (p : ℕ) (c : _) (image : Image) → slice_get stores p ≡ Some c → slice_get setting.images p ≡ Some image → IsOver g (length setting.images) p image c
+
 -- the marks lead from the core where the run begins to one that the world stands for, and the lines that were added since stand on the output
 pub record IsRunning {C D : Type 0} (g : checkpoint.Ghosts C D) (setting : Setting) (begun : Core) (x : Stage C D) (marks : List Mark) (out : Output) : Type 0 where
   pub core : Core
@@ -53,6 +59,7 @@ pub record IsRunning {C D : Type 0} (g : checkpoint.Ghosts C D) (setting : Setti
   pub led : LeadsTo (system_in setting) setting.schedule (start_at setting begun) (reverse marks) core
   pub lines_are : core.lines ≡ added ++ begun.lines
   pub world : IsWorld g (system_in setting) core x
+  pub over : AreOverIn g setting x.stores
   pub entries_are : x.entries ≡ turn_after setting marks
   pub shows : Becomes out.before out.now (λ before now. now ≡ before ++ text_of (reverse added))
 
@@ -67,6 +74,7 @@ pub record IsEnded {C D : Type 0} (g : checkpoint.Ghosts C D) (setting : Setting
   pub shows : Becomes out.before out.now (Shows whole (torn_at last))
   pub up_are : (p : ℕ) → p < (system_in setting).guests.count → (core.procs p).up ≡ is_up (slot_at x.slots p)
   pub stores : StoresStand (system_in setting) core (decided_by (is_joint setting.protocol) (numbers_of g x)) (leaves_of g x)
+  pub over : AreOverIn g setting x.stores
 
 -- what is known of one moment of a run: its world, its marks, and what the output holds
 pub record Moment (C D : Type 0) : Type 0 where

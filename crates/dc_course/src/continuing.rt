@@ -63,13 +63,14 @@ pub fn go_on<C: Planned + Drop, O: Sink>(
     // Where the devices tell what they hold, the promise over both parts; and what a fault of a device or of the output says.
     ensures headline { IfOk result (λ course. TellsThroughout C.Checkpoint (length setup.images.items) dev.old dev.new → (is_joint setup.protocol ≡ true → IsFirstSteady C.Checkpoint setup.images.items dev.old)
         → (lines : List Visibles) → IsEarlier (setting_from setup schedule.now (C.planned dev.old) earlier.now.entries) earlier.now lines
-        → (read : C.Device) × (x : IsReadBeside C.Checkpoint (system_in (setting_from setup schedule.now (C.planned dev.old) earlier.now.entries)) setup.images.items earlier.now.acts.now dev.old read)
+        → (read : C.Device) × C.continues dev.old read × ((p : ℕ) → p < length setup.images.items → C.told read p) × (x : IsReadBeside C.Checkpoint (system_in (setting_from setup schedule.now (C.planned dev.old) earlier.now.entries)) setup.images.items earlier.now.acts.now dev.old read)
         × IsCourseOn (setting_from setup schedule.now (C.planned dev.old) earlier.now.entries) lines
         (resumed_core x.given (reverse lines) (saves_in (system_in (setting_from setup schedule.now (C.planned dev.old) earlier.now.entries)) x.stored)) (account_of course) course.ending
         (output (O.held out.old) (O.held out.new)) (counts_of C.unplanned C.calls dev.old dev.new) (λ core lent. StoresLeft C.Checkpoint (setting_from setup schedule.now (C.planned dev.old) earlier.now.entries) core lent)) }
     ensures device { IfOk result (λ course. (p : ℕ) → course.ending ≡ endings.Device p → Rose (C.faults dev.old p) (C.faults dev.new p)) }
     ensures sink { IfOk result (λ course. course.ending ≡ endings.Sink → Rose (O.faults out.old) (O.faults out.new)) }
     ensures unkept { IfOk result (λ course. course.journal.kept ≡ false) }
+    ensures unstopped { IfOk result (λ course. (p : ℕ) → ¬ (course.ending ≡ endings.Stopped p)) }
     ensures marks { IfOk result (λ course. earlier.now.entries + length course.marks.items ≤ length schedule.now) }
     // Nothing was run.
     ensures unsuited { (p : ℕ) → IsErrOf result (faults.Unsuited p)
@@ -84,6 +85,7 @@ pub fn go_on<C: Planned + Drop, O: Sink>(
     ensures handles { (IsErrOf result faults.Memory → ⊥) → OnErr result ((p : ℕ) → HasHandle C.Checkpoint setup.images.items p) }
     ensures stood { OnErr result (IsFirstSteady C.Checkpoint setup.images.items dev.old → (d : ℕ) → HasNumber C.Checkpoint setup.images.items dev.new d
         → HasNumber C.Checkpoint setup.images.items dev.old d × Stood C.Checkpoint setup.images.items d dev.old dev.new) }
+    ensures wanting { IsErrOf result faults.Memory → (p : ℕ) → (C.stops dev.new p ≡ C.stops dev.old p) × (C.faults dev.new p ≡ C.faults dev.old p) }
     ensures unplanned { OnErr result ((p : ℕ) → C.stops dev.new p + C.unplanned dev.old p ≤ C.unplanned dev.new p + C.stops dev.old p) }
     ensures unopened { OnErr result (out.new ≡ out.old) }
     // What becomes of what was lent.

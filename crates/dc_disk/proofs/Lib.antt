@@ -1,2 +1,3 @@
+mod Logged
 mod Logs
 mod Rereading

@@ -2,15 +2,12 @@
 use Rattle.std.proofs.Common.{◌≡◌, ◌∙◌, ◌<◌, ℕ, Bool, true, false, List, [], Option, None, Some, IsSomeAnd, ap, length, slice_get, subst, sym}
 use Rattle.dc_checkpoint.specs.States.{Reading, unlogged}
 use Rattle.dc_checkpoint.specs.declared.checkpoint.Checkpoint as checkpoint
-use Rattle.dc_kernel.specs.Layout.{kernel_words}
-use Rattle.dc_kernel.specs.Records.{record_words}
 use Rattle.dc_media.specs.declared.disks.Disks as disks
 use Rattle.dc_protocols.specs.Rules.{is_joint}
 use Rattle.dc_recovery.specs.Core.{Core}
 use Rattle.dc_redo.specs.Shapes.{Shape}
 use Rattle.dc_redo.specs.Standing.{Numbers, StandsFor}
 use Rattle.dc_twophase.proofs.Pairs.{known}
-use Rattle.dc_together.specs.Joints.{whose}
 use Rattle.dc_processes.specs.Stages.{decided_by}
 use Rattle.std.proofs.lemmas.List.{length-map}
 use Rattle.dc_media.specs.declared.planned.PlannedStop.{PlannedStop}
@@ -21,7 +18,9 @@ use Rattle.dc_course.specs.Courses.{IsCourse, StoresLeft, counts_of, setting_of}
 use Rattle.dc_course.specs.Headline.{Account, Setting}
 use Rattle.dc_course.specs.Running.{Output}
 use Rattle.dc_course.specs.Lent.{capped_by}
+use Rattle.dc_disk.proofs.Logged.{IsLogged, shape_for}
 use Rattle.dc_disk.specs.Logs.{LogsLeft}
+use Rattle.std.proofs.lemmas.Option.{slice_get_within}
 use Rattle.dc_course.proofs.Within.{course_lent}
 use Rattle.dc_course.specs.declared.ending.Ending.{Ending}
 
@@ -29,10 +28,11 @@ use Rattle.dc_course.specs.declared.ending.Ending.{Ending}
 no_shape : Shape
 no_shape = record { size = 0; kernel = 0; event = 0; form = record { n = 0; p = 0 }; first = unlogged [] [] }
 
-module _ {S C D : Type 0} (disk : disks.Ghosts S) (g : checkpoint.Ghosts C D) (dev : D) (k : S) (shape_at : C → Shape) (forms : (c : C) → (shape_at c).form ≡ g.form c)
-    (kernels : (c : C) → (shape_at c).kernel ≡ kernel_words (g.form c).n) (events : (c : C) → (shape_at c).event ≡ record_words)
-    (leaves : (c : C) (d : ℕ) (r : Reading) → StandsFor (shape_at c) (disk.told k (g.index c)) d r → g.leaves c dev d r)
-    (numbers : (c : C) (d : ℕ) → Numbers (shape_at c) (disk.told k (g.index c)) d → g.numbers c dev d) where
+module _ {S C D : Type 0} (disk : disks.Ghosts S) (g : checkpoint.Ghosts C D) (f : D → S) (shape_at : C → Shape) (is : IsLogged disk g f shape_at) (dev : D) where
+  -- the disk that is lent
+  abbrev k : S
+  k = f dev
+
   -- that of a store, where there is one
   abbrev shape_in : Option C → Shape
   shape_in None = no_shape
@@ -55,21 +55,12 @@ module _ {S C D : Type 0} (disk : disks.Ghosts S) (g : checkpoint.Ghosts C D) (d
       shape_is : shape p ≡ shape_at c
       shape_is = ap shape_in at
 
-      form_at : (shape p).form ≡ whose (length setting.images) p
-      form_at = ap (λ (s : Shape). s.form) shape_is ∙ forms c ∙ ap (λ n. record { n = n; p = (g.form c).p }) (left.belongs p c at).form_n ∙ ap (whose (length setting.images)) (left.belongs p c at).form_p
-
-      kernel_at : (shape p).kernel ≡ kernel_words (length setting.images)
-      kernel_at = ap (λ (s : Shape). s.kernel) shape_is ∙ kernels c ∙ ap kernel_words (left.belongs p c at).form_n
-
-      event_at : (shape p).event ≡ record_words
-      event_at = ap (λ (s : Shape). s.event) shape_is ∙ events c
-
       leaves_at : (d : ℕ) (r : Reading) → StandsFor (shape p) (disk.told k p) d r → IsSomeAnd (slice_get left.stores p) (λ x. g.leaves x dev d r)
-      leaves_at d r l = subst (λ o. IsSomeAnd o (λ x. g.leaves x dev d r)) (sym at) (leaves c d r
+      leaves_at d r l = subst (λ o. IsSomeAnd o (λ x. g.leaves x dev d r)) (sym at) (is.leaves_to c dev d r
           (subst (λ q. StandsFor (shape_at c) (disk.told k q) d r) (sym index_is) (subst (λ s. StandsFor s (disk.told k p) d r) shape_is l)))
 
       numbers_at : (d : ℕ) → Numbers (shape p) (disk.told k p) d → IsSomeAnd (slice_get left.stores p) (λ x. g.numbers x dev d)
-      numbers_at d l = subst (λ o. IsSomeAnd o (λ x. g.numbers x dev d)) (sym at) (numbers c d
+      numbers_at d l = subst (λ o. IsSomeAnd o (λ x. g.numbers x dev d)) (sym at) (is.numbers_to c dev d
           (subst (λ q. Numbers (shape_at c) (disk.told k q) d) (sym index_is) (subst (λ s. Numbers s (disk.told k p) d) shape_is l)))
 
     -- decided numbers
@@ -85,9 +76,7 @@ module _ {S C D : Type 0} (disk : disks.Ghosts S) (g : checkpoint.Ghosts C D) (d
     pub logs_left : LogsLeft disk setting core k
     logs_left = record {
       shape = shape;
-      form_is = λ p less. let c = store p less in form_at p c.0 c.1;
-      kernel_is = λ p less. let c = store p less in kernel_at p c.0 c.1;
-      event_is = λ p less. let c = store p less in event_at p c.0 c.1;
+      shape_is = λ p image at. let c = store p (slice_get_within setting.images p image at) in shape_is p c.0 c.1 ∙ shape_for is (length setting.images) p image c.0 (left.over p c.0 image c.1 at);
       stand = record {
         one = λ p inside d decided r l. left.stand.one p inside d (decided_at (is_joint setting.protocol) d decided) r (reading_at p d r l);
         all = λ global d decided r l. left.stand.all global d (decided_at (is_joint setting.protocol) d decided) r (λ p inside. reading_at p d (r p) (l p inside));
@@ -97,13 +86,10 @@ module _ {S C D : Type 0} (disk : disks.Ghosts S) (g : checkpoint.Ghosts C D) (d
 -- a run on disks, by what the run over its armed device says
 pub disk_course : {S C D : Type 0} (disk : disks.Ghosts S) {g : checkpoint.Ghosts C D} (setup : Setup) (schedule : List Entry) (planned stops : List PlannedStop) (run : Account) (ending : Ending) (out : Output) (f : D → S) (old new : D) (k0 : S)
     → IsCourse (setting_of setup schedule planned) run ending out (counts_of (λ d. disk.stops (f d)) (λ d. capped_by disk.calls (f d)) old new) (λ core d. StoresLeft g (setting_of setup schedule planned) core d)
-    → planned ≡ stops → f old ≡ k0 → 0 < length setup.images.items
-    → (shape_at : C → Shape) → ((c : C) → (shape_at c).form ≡ g.form c) → ((c : C) → (shape_at c).kernel ≡ kernel_words (g.form c).n) → ((c : C) → (shape_at c).event ≡ record_words)
-    → ((x : D) (c : C) (d : ℕ) (r : Reading) → StandsFor (shape_at c) (disk.told (f x) (g.index c)) d r → g.leaves c x d r)
-    → ((x : D) (c : C) (d : ℕ) → Numbers (shape_at c) (disk.told (f x) (g.index c)) d → g.numbers c x d)
+    → planned ≡ stops → f old ≡ k0 → 0 < length setup.images.items → (shape_at : C → Shape) → IsLogged disk g f shape_at
     → IsCourse (setting_of setup schedule stops) run ending out (counts_of disk.stops (capped_by disk.calls) k0 (f new)) (λ core k. LogsLeft disk (setting_of setup schedule stops) core k)
-disk_course disk {g} setup schedule planned stops run ending out f old new k0 course plan lent some shape_at forms kernels events leaves numbers =
+disk_course disk {g} setup schedule planned stops run ending out f old new k0 course plan lent some shape_at is =
     subst (λ ss. IsCourse (setting_of setup schedule ss) run ending out (counts_of disk.stops (capped_by disk.calls) k0 (f new)) (λ core k. LogsLeft disk (setting_of setup schedule ss) core k)) plan
     (subst (λ x. IsCourse (setting_of setup schedule planned) run ending out (counts_of disk.stops (capped_by disk.calls) x (f new)) (λ core k. LogsLeft disk (setting_of setup schedule planned) core k)) lent
     (course_lent (setting_of setup schedule planned) run ending out f disk.stops (capped_by disk.calls) old new (λ core d. StoresLeft g (setting_of setup schedule planned) core d) (λ core k. LogsLeft disk (setting_of setup schedule planned) core k)
-    (λ core d left. logs_left disk g d (f d) shape_at forms kernels events (leaves d) (numbers d) (setting_of setup schedule planned) core (subst (λ n. 0 < n) (sym (length-map setup.images.items seen_image)) some) left) course))
+    (λ core d left. logs_left disk g f shape_at is d (setting_of setup schedule planned) core (subst (λ n. 0 < n) (sym (length-map setup.images.items seen_image)) some) left) course))

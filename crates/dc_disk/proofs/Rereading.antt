@@ -1,22 +1,19 @@
 -- What was read of the logs on disks, by what was read of handles over them.
-use Rattle.std.proofs.Common.{◌≡◌, ◌∙◌, ◌<◌, ℕ, List, Some, Result, Ok, Err, OnErr, ap, arith, length, reverse, slice_get, subst, sym}
+use Rattle.std.proofs.Common.{IsSome, ◌≡◌, ◌<◌, ℕ, List, Some, Result, Ok, Err, OnErr, length, reverse, slice_get, subst, sym}
 use Rattle.std.proofs.lemmas.List.{length-map}
 use Rattle.dc_checkpoint.specs.States.{Reading}
 use Rattle.dc_checkpoint.specs.declared.checkpoint.Checkpoint as checkpoint
 use Rattle.dc_checkpoint.specs.declared.faults.StoreFault.{StoreFault}
 use Rattle.dc_elf.specs.declared.image.Image.{Image}
 use Rattle.dc_guest.specs.Guest.{Guest}
-use Rattle.dc_kernel.specs.Layout.{kernel_words}
-use Rattle.dc_kernel.specs.Records.{record_words}
 use Rattle.dc_media.specs.declared.disks.Disks as disks
 use Rattle.dc_model.specs.declared.act.Taken.{Taken}
 use Rattle.dc_recovery.specs.Systems.{System}
 use Rattle.dc_redo.specs.Handles.{IsSteady}
 use Rattle.dc_redo.specs.Shapes.{Shape}
 use Rattle.dc_redo.specs.Standing.{Numbers, StandsFor}
-use Rattle.dc_together.proofs.Fitting.{own_form}
-use Rattle.dc_together.specs.Joints.{whose}
-use Rattle.dc_world.specs.Reopened.{HasHandle, HasNumber, IsFirstSteady, IsOver, IsReadBeside, Refuses, Stood}
+use Rattle.dc_world.specs.Opened.{IsOver}
+use Rattle.dc_world.specs.Reopened.{HasHandle, HasNumber, IsFirstSteady, IsReadBeside, Refuses, Stood}
 use Rattle.dc_course.proofs.Within.{part_lent}
 use Rattle.dc_course.specs.Continued.{IsCourseOn, setting_from}
 use Rattle.dc_course.specs.Courses.{StoresLeft, counts_of}
@@ -33,49 +30,27 @@ use Rattle.dc_resume.specs.Suited.{saves_in}
 use Rattle.dc_world.specs.declared.opening.Setup.{Setup}
 use Rattle.dc_world.specs.declared.reopening.Earlier.{Earlier}
 use Rattle.dc_disk.proofs.Logs.{logs_left}
+use Rattle.dc_disk.proofs.Logged.{IsLogged, shape_for}
 use Rattle.dc_disk.specs.Logs.{AreLogsRead, FirstLogHas, IsFirstLogSteady, LogRefuses, LogsLeft, LogsStood, log_for}
-
--- handles whose shapes and whose device say what they stand for
-pub record IsLogged {S C D : Type 0} (disk : disks.Ghosts S) (g : checkpoint.Ghosts C D) (f : D → S) (shape_at : C → Shape) : Type 0 where
-  pub sizes : (c : C) → (shape_at c).size ≡ g.size c
-  pub forms : (c : C) → (shape_at c).form ≡ g.form c
-  pub kernels : (c : C) → (shape_at c).kernel ≡ kernel_words (g.form c).n
-  pub events : (c : C) → (shape_at c).event ≡ record_words
-  pub firsts : (c : C) → (shape_at c).first ≡ g.first c
-  pub leaves_to : (c : C) (x : D) (d : ℕ) (r : Reading) → StandsFor (shape_at c) (disk.told (f x) (g.index c)) d r → g.leaves c x d r
-  pub leaves_from : (c : C) (x : D) (d : ℕ) (r : Reading) → g.leaves c x d r → StandsFor (shape_at c) (disk.told (f x) (g.index c)) d r
-  pub numbers_to : (c : C) (x : D) (d : ℕ) → Numbers (shape_at c) (disk.told (f x) (g.index c)) d → g.numbers c x d
-  pub numbers_from : (c : C) (x : D) (d : ℕ) → g.numbers c x d → Numbers (shape_at c) (disk.told (f x) (g.index c)) d
-  pub steady_to : (c : C) (x : D) → IsSteady (shape_at c) (disk.told (f x) (g.index c)) → g.floor c ≡ 0 → g.steady c x
 
 module _ {S C D : Type 0} (disk : disks.Ghosts S) {g : checkpoint.Ghosts C D} (f : D → S) (shape_at : C → Shape) (is : IsLogged disk g f shape_at) (images : List Image) where
   abbrev n : ℕ
   n = length images
 
-  module _ (p : ℕ) (image : Image) (c : C) (over : IsOver g n p image c) where
-    -- the shape of a handle is what the log was made for
-    pub shape_is : shape_at c ≡ log_for n p image
-    shape_is = λ i. record { size = size i; kernel = kernel i; event = is.events c i; form = (is.forms c ∙ form_is) i; first = (is.firsts c ∙ over.first_is) i }
-      where
-        form_is : g.form c ≡ whose n p
-        form_is = own_form g n p c over.belongs
+  module _ (p : ℕ) (image : Image) (c : C) (over : IsOver g n p (seen_image image) c) where
+    shape_is : shape_at c ≡ log_for n p (seen_image image)
+    shape_is = shape_for is n p (seen_image image) c over
 
-        size : (shape_at c).size ≡ (log_for n p image).size
-        size = let s = is.sizes c in let l = over.sized in omega (arith, s, l)
-
-        kernel : (shape_at c).kernel ≡ kernel_words n
-        kernel = is.kernels c ∙ ap kernel_words over.belongs.form_n
-
-    pub leaves_in : (x : D) (d : ℕ) (r : Reading) → StandsFor (log_for n p image) (disk.told (f x) p) d r → g.leaves c x d r
+    pub leaves_in : (x : D) (d : ℕ) (r : Reading) → StandsFor (log_for n p (seen_image image)) (disk.told (f x) p) d r → g.leaves c x d r
     leaves_in x d r l = is.leaves_to c x d r (subst (λ q. StandsFor (shape_at c) (disk.told (f x) q) d r) (sym over.belongs.index_is) (subst (λ sh. StandsFor sh (disk.told (f x) p) d r) (sym shape_is) l))
 
-    pub leaves_out : (x : D) (d : ℕ) (r : Reading) → g.leaves c x d r → StandsFor (log_for n p image) (disk.told (f x) p) d r
+    pub leaves_out : (x : D) (d : ℕ) (r : Reading) → g.leaves c x d r → StandsFor (log_for n p (seen_image image)) (disk.told (f x) p) d r
     leaves_out x d r l = subst (λ sh. StandsFor sh (disk.told (f x) p) d r) shape_is (subst (λ q. StandsFor (shape_at c) (disk.told (f x) q) d r) over.belongs.index_is (is.leaves_from c x d r l))
 
-    pub numbers_in : (x : D) (d : ℕ) → Numbers (log_for n p image) (disk.told (f x) p) d → g.numbers c x d
+    pub numbers_in : (x : D) (d : ℕ) → Numbers (log_for n p (seen_image image)) (disk.told (f x) p) d → g.numbers c x d
     numbers_in x d l = is.numbers_to c x d (subst (λ q. Numbers (shape_at c) (disk.told (f x) q) d) (sym over.belongs.index_is) (subst (λ sh. Numbers sh (disk.told (f x) p) d) (sym shape_is) l))
 
-    pub numbers_out : (x : D) (d : ℕ) → g.numbers c x d → Numbers (log_for n p image) (disk.told (f x) p) d
+    pub numbers_out : (x : D) (d : ℕ) → g.numbers c x d → Numbers (log_for n p (seen_image image)) (disk.told (f x) p) d
     numbers_out x d l = subst (λ sh. Numbers sh (disk.told (f x) p) d) shape_is (subst (λ q. Numbers (shape_at c) (disk.told (f x) q) d) over.belongs.index_is (is.numbers_from c x d l))
 
   -- a first log that is steady is, to each handle that is attached to it
@@ -84,7 +59,7 @@ module _ {S C D : Type 0} (disk : disks.Ghosts S) {g : checkpoint.Ghosts C D} (f
       (subst (λ q. IsSteady (shape_at c) (disk.told (f x) q)) (sym attached.over.belongs.index_is) (subst (λ sh. IsSteady sh (disk.told (f x) 0)) (sym (shape_is 0 image c attached.over)) (kept image at))) attached.floor_is
 
   module _ (old new : D) where
-    pub logs_stood : (d : ℕ) → ((p : ℕ) (image : Image) → slice_get images p ≡ Some image → (c : C) × IsOver g n p image c) → Stood g images d old new → LogsStood disk images d (f old) (f new)
+    pub logs_stood : (d : ℕ) → ((p : ℕ) (image : Image) → slice_get images p ≡ Some image → (c : C) × IsOver g n p (seen_image image) c) → Stood g images d old new → LogsStood disk images d (f old) (f new)
     logs_stood d handles stood p image at r l = let h = handles p image at in leaves_out p image h.0 h.1 old d r (stood p image h.0 at h.1 r (leaves_in p image h.0 h.1 new d r l))
 
     -- what was read
@@ -129,22 +104,23 @@ pub disk_part : {S C D : Type 0} (disk : disks.Ghosts S) {g : checkpoint.Ghosts 
     → (x : IsReadBeside g (system_in (setting_from setup schedule planned earlier.entries)) setup.images.items earlier.acts.now old read)
     → IsCourseOn (setting_from setup schedule planned earlier.entries) lines (resumed_core x.given (reverse lines) (saves_in (system_in (setting_from setup schedule planned earlier.entries)) x.stored)) run ending out
     (counts_of (λ d. disk.stops (f d)) (λ d. capped_by disk.calls (f d)) old new) (λ core d. StoresLeft g (setting_from setup schedule planned earlier.entries) core d)
-    → planned ≡ stops → f old ≡ k0 → 0 < length setup.images.items → (shape_at : C → Shape) → IsLogged disk g f shape_at
-    → (k : S) × (y : AreLogsRead disk (system_in (setting_from setup schedule stops earlier.entries)) setup.images.items earlier.acts.now k0 k)
+    → planned ≡ stops → f old ≡ k0 → 0 < length setup.images.items → ((p : ℕ) → p < length setup.images.items → IsSome (disk.told (f read) p)) → (shape_at : C → Shape) → IsLogged disk g f shape_at
+    → (k : S) × ((p : ℕ) → p < length setup.images.items → IsSome (disk.told k p)) × (y : AreLogsRead disk (system_in (setting_from setup schedule stops earlier.entries)) setup.images.items earlier.acts.now k0 k)
     × IsCourseOn (setting_from setup schedule stops earlier.entries) lines (resumed_core y.given (reverse lines) (saves_in (system_in (setting_from setup schedule stops earlier.entries)) y.stored)) run ending out
     (counts_of disk.stops (capped_by disk.calls) k0 (f new)) (λ core k. LogsLeft disk (setting_from setup schedule stops earlier.entries) core k)
 unfolding logs_read
-disk_part {S} disk {g} setup earlier schedule planned stops lines run ending out f old new read k0 x course plan lent some shape_at is =
-    subst (λ ss. (k : S) × (y : AreLogsRead disk (system_in (setting_from setup schedule ss earlier.entries)) setup.images.items earlier.acts.now k0 k)
+disk_part {S} disk {g} setup earlier schedule planned stops lines run ending out f old new read k0 x course plan lent some tells shape_at is =
+    subst (λ ss. (k : S) × ((p : ℕ) → p < length setup.images.items → IsSome (disk.told k p)) × (y : AreLogsRead disk (system_in (setting_from setup schedule ss earlier.entries)) setup.images.items earlier.acts.now k0 k)
     × IsCourseOn (setting_from setup schedule ss earlier.entries) lines (resumed_core y.given (reverse lines) (saves_in (system_in (setting_from setup schedule ss earlier.entries)) y.stored)) run ending out
     (counts_of disk.stops (capped_by disk.calls) k0 (f new)) (λ core k. LogsLeft disk (setting_from setup schedule ss earlier.entries) core k)) plan
-    (subst (λ z. (k : S) × (y : AreLogsRead disk (system_in (setting_from setup schedule planned earlier.entries)) setup.images.items earlier.acts.now z k)
+    (subst (λ z. (k : S) × ((p : ℕ) → p < length setup.images.items → IsSome (disk.told k p)) × (y : AreLogsRead disk (system_in (setting_from setup schedule planned earlier.entries)) setup.images.items earlier.acts.now z k)
     × IsCourseOn (setting_from setup schedule planned earlier.entries) lines (resumed_core y.given (reverse lines) (saves_in (system_in (setting_from setup schedule planned earlier.entries)) y.stored)) run ending out
     (counts_of disk.stops (capped_by disk.calls) z (f new)) (λ core k. LogsLeft disk (setting_from setup schedule planned earlier.entries) core k)) lent (
       f read,
+      tells,
       logs_read disk f shape_at is setup.images.items old read (system_in (setting_from setup schedule planned earlier.entries)) earlier.acts.now x,
       part_lent (setting_from setup schedule planned earlier.entries) lines (resumed_core x.given (reverse lines) (saves_in (system_in (setting_from setup schedule planned earlier.entries)) x.stored)) run ending out f disk.stops (capped_by disk.calls) old new
           (λ core d. StoresLeft g (setting_from setup schedule planned earlier.entries) core d) (λ core k. LogsLeft disk (setting_from setup schedule planned earlier.entries) core k)
-          (λ core d left. logs_left disk g d (f d) shape_at is.forms is.kernels is.events (λ c e r l. is.leaves_to c d e r l) (λ c e l. is.numbers_to c d e l) (setting_from setup schedule planned earlier.entries) core
+          (λ core d left. logs_left disk g f shape_at is d (setting_from setup schedule planned earlier.entries) core
           (subst (λ n. 0 < n) (sym (length-map setup.images.items seen_image)) some) left) course,
     ))

@@ -3,6 +3,8 @@ use Rattle.std.specs.Prelude.{◌≡◌, ◌<◌, ◌/◌, ℕ, List, Option, So
 use Rattle.dc_checkpoint.specs.Calls.{AreAll}
 use Rattle.dc_checkpoint.specs.States.{Reading}
 use Rattle.dc_checkpoint.specs.declared.faults.StoreFault.{StoreFault}
+use Rattle.dc_elf.specs.Images.{Image as Seen}
+use Rattle.dc_elf.specs.Loaded.{seen_image}
 use Rattle.dc_elf.specs.declared.image.Image.{Image}
 use Rattle.dc_guest.specs.Guest.{Guest}
 use Rattle.dc_kernel.specs.Layout.{kernel_words}
@@ -22,27 +24,25 @@ use Rattle.dc_redo.specs.Shapes.{Shape}
 use Rattle.dc_redo.specs.Standing.{Numbers, StandsFor}
 use Rattle.dc_resume.specs.Suited.{AreStored}
 use Rattle.dc_together.specs.Joints.{whose}
-use Rattle.dc_world.specs.Reopened.{first_state}
+use Rattle.dc_world.specs.Opened.{first_state}
 use Rattle.dc_processes.specs.Stages.{decided_by}
 use Rattle.dc_course.specs.Headline.{Setting, system_in}
 
--- the redo logs that a run leaves: that of each process is its own, has room for its kernel's text and for the texts of logged events, and whatever image a
--- stop leaves of its disk stands for one of the core's saves
+-- what the log of process p of n was made for, which began with this image
+abbrev pub log_for : ℕ → ℕ → Seen → Shape
+log_for n p image = record { size = length image.memory / 4; kernel = kernel_words n; event = record_words; form = whose n p; first = first_state n p image }
+
+-- the redo logs that a run leaves: that of each process is what the log of that one is made for, and whatever image a stop leaves of its disk stands for one of
+-- the core's saves
 pub record LogsLeft {S : Type 0} (disk : disks.Ghosts S) (setting : Setting) (core : Core) (dev : S) : Type 0 where
   pub shape : ℕ → Shape
-  pub form_is : (p : ℕ) → p < length setting.images → (shape p).form ≡ whose (length setting.images) p
-  pub kernel_is : (p : ℕ) → p < length setting.images → (shape p).kernel ≡ kernel_words (length setting.images)
-  pub event_is : (p : ℕ) → p < length setting.images → (shape p).event ≡ record_words
+  pub shape_is : (p : ℕ) (image : Seen) → slice_get setting.images p ≡ Some image → shape p ≡ log_for (length setting.images) p image
   pub stand : StoresStand (system_in setting) core (decided_by (is_joint setting.protocol) (λ d. Numbers (shape 0) (disk.told dev 0) d))
       (λ p d r. (p < length setting.images) × StandsFor (shape p) (disk.told dev p) d r)
 
--- what the log of process p of n was made for, which began with this image
-abbrev pub log_for : ℕ → ℕ → Image → Shape
-log_for n p image = record { size = length image.memory.items / 4; kernel = kernel_words n; event = record_words; form = whose n p; first = first_state n p image }
-
 -- so it is with the log of this process on a disk of what is told
 abbrev pub OfLog : {S : Type 0} → disks.Ghosts S → List Image → ℕ → (Shape → (S → Option Disk) → Type 0) → Type 0
-OfLog disk images p R = (image : Image) → slice_get images p ≡ Some image → R (log_for (length images) p image) (λ dev. disk.told dev p)
+OfLog disk images p R = (image : Image) → slice_get images p ≡ Some image → R (log_for (length images) p (seen_image image)) (λ dev. disk.told dev p)
 
 -- the decided number stands among what counts in the first log, whatever image a stop leaves
 abbrev pub IsFirstLogSteady : {S : Type 0} → disks.Ghosts S → List Image → S → Type 0
@@ -50,7 +50,7 @@ IsFirstLogSteady disk images dev = OfLog disk images 0 (λ sh told. IsSteady sh 
 
 -- the first log may hold this decided number
 abbrev pub FirstLogHas : {S : Type 0} → disks.Ghosts S → List Image → S → ℕ → Type 0
-FirstLogHas disk images dev d = (image : Image) × (slice_get images 0 ≡ Some image) × Numbers (log_for (length images) 0 image) (disk.told dev 0) d
+FirstLogHas disk images dev d = (image : Image) × (slice_get images 0 ≡ Some image) × Numbers (log_for (length images) 0 (seen_image image)) (disk.told dev 0) d
 
 -- under this decided number each log stands for nothing that it did not stand for before
 abbrev pub LogsStood : {S : Type 0} → disks.Ghosts S → List Image → ℕ → S → S → Type 0

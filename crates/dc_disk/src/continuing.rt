@@ -1,6 +1,6 @@
 //! Runs on disks that go on from an earlier part.
 
-ghost use Rattle.std.specs.Prelude.{◌≡◌, ◌<◌, ◌≤◌, ◌+◌, ◌*◌, ℕ, All, IfOk, IsErrOf, List, None, OnErr, false, length, reverse, true};
+ghost use Rattle.std.specs.Prelude.{◌≡◌, ◌<◌, ◌≤◌, ◌+◌, ◌*◌, ℕ, All, IfOk, IsErrOf, IsSome, List, None, OnErr, false, length, reverse, true};
 ghost use Rattle.dc_checkpoint.specs.declared.faults.StoreFault.{StoreFault as StoreFaults};
 ghost use Rattle.dc_course.specs.Continued.{IsCourseOn, IsEarlier, setting_from};
 ghost use Rattle.dc_course.specs.Courses.{account_of, counts_of};
@@ -18,7 +18,7 @@ ghost use Rattle.dc_protocols.specs.Rules.{is_causal, is_joint};
 ghost use Rattle.dc_recovery.specs.Recoveries.{resumed_core};
 ghost use Rattle.dc_reread.specs.declared.faults.RereadFault.TheVariants as faults;
 ghost use Rattle.dc_resume.specs.Suited.{IsFirstUnsuited, saves_in};
-ghost use Rattle.dc_world.specs.Opened.{CanOpen};
+ghost use Rattle.dc_world.specs.Opened.{CanOpen, IsCalmUnlessStopped};
 ghost use Rattle.dc_world.specs.Worlds.{IsOfProcesses};
 
 use crate::stores::OnDisks;
@@ -56,13 +56,14 @@ pub fn go_on_disks<D: Disks, O: Sink>(
     requires lines { earlier.now.lines ≤ earlier.now.entries }
     ensures headline { IfOk result (λ course. TellsStores (of_disks D.Disks) (length setup.images.items) disks.old disks.new → (is_joint setup.protocol ≡ true → IsFirstLogSteady D.Disks setup.images.items disks.old)
         → (lines : List Visibles) → IsEarlier (setting_from setup schedule.now stops.items earlier.now.entries) earlier.now lines
-        → (read : D) × (x : AreLogsRead D.Disks (system_in (setting_from setup schedule.now stops.items earlier.now.entries)) setup.images.items earlier.now.acts.now disks.old read)
+        → (read : D) × ((p : ℕ) → p < length setup.images.items → IsSome (D.told read p)) × (x : AreLogsRead D.Disks (system_in (setting_from setup schedule.now stops.items earlier.now.entries)) setup.images.items earlier.now.acts.now disks.old read)
         × IsCourseOn (setting_from setup schedule.now stops.items earlier.now.entries) lines
         (resumed_core x.given (reverse lines) (saves_in (system_in (setting_from setup schedule.now stops.items earlier.now.entries)) x.stored)) (account_of course) course.ending
         (output (O.held out.old) (O.held out.new)) (counts_of D.stops (capped_by D.calls) disks.old disks.new) (λ core lent. LogsLeft D.Disks (setting_from setup schedule.now stops.items earlier.now.entries) core lent)) }
     ensures device { IfOk result (λ course. (p : ℕ) → course.ending ≡ endings.Device p → Rose (D.faults disks.old p) (D.faults disks.new p)) }
     ensures sink { IfOk result (λ course. course.ending ≡ endings.Sink → Rose (O.faults out.old) (O.faults out.new)) }
     ensures unkept { IfOk result (λ course. course.journal.kept ≡ false) }
+    ensures unstopped { IfOk result (λ course. (p : ℕ) → ¬ (course.ending ≡ endings.Stopped p)) }
     ensures marks { IfOk result (λ course. earlier.now.entries + length course.marks.items ≤ length schedule.now) }
     // Nothing was run.
     ensures unsuited { (p : ℕ) → IsErrOf result (faults.Unsuited p)
@@ -76,6 +77,7 @@ pub fn go_on_disks<D: Disks, O: Sink>(
         → FirstLogHas D.Disks setup.images.items disks.old d × LogsStood D.Disks setup.images.items d disks.old disks.new) }
     ensures stopped { (p : ℕ) → IsErrOf result (faults.Stopped p) → (p < length setup.images.items) × Rose (D.stops disks.old p) (D.stops disks.new p) }
     ensures failed { (p : ℕ) → IsErrOf result (faults.Failed p) → (p < length setup.images.items) × Rose (D.faults disks.old p) (D.faults disks.new p) }
+    ensures wanting { IsErrOf result faults.Memory → (p : ℕ) → IsCalmUnlessStopped D.stops D.faults p disks.old disks.new }
     ensures unopened { OnErr result (out.new ≡ out.old) }
     // What becomes of what was lent.
     ensures later { (p : ℕ) → (D.stops disks.old p ≤ D.stops disks.new p) × (D.faults disks.old p ≤ D.faults disks.new p) }

@@ -4,8 +4,6 @@
 mod beside;
 mod disk;
 mod disks;
-#[cfg(test)]
-mod holding;
 mod late;
 mod library;
 mod stream;

@@ -5,8 +5,8 @@ mod telling;
 mod texts;
 mod topic;
 
-use dc_files::{FileLibrary, LateFile, StreamSink};
-use dc_memmedia::{MemDisks, MemKeeps};
+use dc_files::{FileDisks, FileLibrary, LateFile, StreamSink};
+use dc_memmedia::MemKeeps;
 use dc_run::{Outcome, Verdict, conclude, dc, words_of};
 use std::alloc::AllocError;
 use std::io::Write;
@@ -15,7 +15,20 @@ use std::rt::Files;
 use telling::tell;
 use topic::topic_of;
 
-/// Carries out the command of these words over stores and disks in memory, with the report in the file `dc.report`.
+/// Whether the command that the words begin with calls disks: one that runs guests.
+fn calls_disks(words: &[String]) -> bool {
+    match words {
+        [_, command, ..] => {
+            command.as_str() == "run"
+                || command.as_str() == "journal"
+                || command.as_str() == "resume"
+        }
+        _ => false,
+    }
+}
+
+/// Carries out the command of these words over stores in memory and disks in files, with the report in the file `dc.report`. The files of
+/// the disks are looked for where the command may call them.
 fn carry_out<R: Files + AllocGlobal + Clone + Drop, W: Write + Drop>(
     rt: &R,
     words: &[String],
@@ -25,7 +38,10 @@ fn carry_out<R: Files + AllocGlobal + Clone + Drop, W: Write + Drop>(
     let mut out = StreamSink::new(out);
     let mut report = StreamSink::new(LateFile::new(rt.clone()?, "dc.report"));
     let mut keeps = MemKeeps::new(rt.alloc(), Vec::new(rt.alloc()))?;
-    let mut disks = MemDisks::new(rt.alloc(), Vec::new(rt.alloc()))?;
+    let mut disks = FileDisks::new(rt.clone()?)?;
+    if calls_disks(words) {
+        disks.open();
+    }
     Ok(dc(
         rt.alloc(),
         words,

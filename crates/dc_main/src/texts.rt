@@ -19,6 +19,7 @@ Commands:
   @ run PLAN               run the guests of a plan
   @ check PLAN REPORT OUT  tell whether a run's files belong together
   @ asm SOURCE             assemble a guest
+  @ resume PLAN REPORT     go on with a run on disks that was halted
   @ journal PLAN           run a plan and write its journal
   @ audit JOURNAL          tell whether a journal has Save-work
   @ help [COMMAND]         this text, or more on one command
@@ -31,6 +32,7 @@ Files, named from the working folder:
   PLAN       what to run, in TOML: the guests' files, their schedule, the stops
   dc.report  what `@ run` writes beside its output: each act that counts;
              of `@ journal` the journal of the run
+  dc.disk.P  the disk of guest P, where a plan asks for disks
   REPORT     such a dc.report
   OUT        the standard output of a run, kept in a file
   SOURCE     RV32I instructions, one a line; the guest is the standard output
@@ -50,9 +52,12 @@ Statuses, each with its line on standard error:
   9   not a run, or differs: the report or the output is not the plan's
   10  out of memory
   11  schedule refused: in the line that is named
-  12  store refused: it holds no commit of this guest
+  12  store refused: it holds no commit of this guest, or, as strange, one of
+      another run
   13  report refused: in the line that is named
   14  source refused: in the line that is named
+  15  halted: the plan's halt leaves turns over
+  16  not halted: the report is not that of a run with turns left over
   17  device stopped: a call of a guest's store was, so the journal ends there
   18  journal refused: in the line that is named
   19  not saved: the event of a line was not committed before another line
@@ -80,6 +85,7 @@ Keys of a plan, a TOML document (* has to be there):
   seed        draws the turns: 0 to 9223372036854775807; not beside a schedule
   turns       how many the seed draws: 0 to 1000000; has to be there with a seed
   stop        an array of at most 1000 tables: the stops inside turns
+  halt        only on a disk: the first entry that is not run, 0 to 1000000
 
 Keys of a stop, a table [[stop]] at the end of the plan:
   turn *      the entry, 0 to 999999, counted from 0 as the schedule's lines are
@@ -116,6 +122,18 @@ Lines of a source, where blanks at the ends and what follows # do not count:
   lw RD,NUMBER(RS1)        registers x0 to x31
   .word NUMBER             any word
   NAME:                    names the next word; the first is at address 1024
+";
+
+/// The command `resume`.
+pub const RESUME: &str = "\
+@ resume PLAN REPORT goes on with a run on disks that its plan halted,
+in the folder with its dc.disk files: it reads the commit of each guest,
+compares it with the acts of the report, and runs the turns that are left over.
+A halt that the report came to has no effect; a later one halts the run again.
+Its lines come behind those of the part before, and repeat what was shown since
+the last commits; dc.report then has both parts.
+
+@ check PLAN dc.report OUT takes the lines of all parts together.
 ";
 
 /// The command `journal`.

@@ -11,6 +11,8 @@ pub enum Topic {
     Check,
     /// The command `asm`.
     Assembling,
+    /// The command `resume`.
+    Resume,
     /// The command `journal`.
     Journal,
     /// The command `audit`.
@@ -27,6 +29,7 @@ impl Topic {
             Topic::Run => texts::RUN,
             Topic::Check => texts::CHECK,
             Topic::Assembling => texts::ASSEMBLING,
+            Topic::Resume => texts::RESUME,
             Topic::Journal => texts::JOURNAL,
             Topic::Audit => texts::AUDIT,
             Topic::Version => texts::VERSION,
@@ -40,6 +43,7 @@ fn topic_of_command(name: &str) -> Option<Topic> {
         "run" => Some(Topic::Run),
         "check" => Some(Topic::Check),
         "asm" => Some(Topic::Assembling),
+        "resume" => Some(Topic::Resume),
         "journal" => Some(Topic::Journal),
         "audit" => Some(Topic::Audit),
         _ => None,

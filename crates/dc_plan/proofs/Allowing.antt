@@ -13,11 +13,12 @@ use Rattle.dc_words.specs.Hex.{byte_before, byte_of_digits, bytes_of_hex, value_
 use Rattle.dc_protocols.specs.Rules.{is_causal}
 use Rattle.dc_protocols.specs.declared.protocol.Protocol.{Protocol}
 use Rattle.dc_protocols.specs.declared.protocol.Protocol.TheVariants.{Cand, CandLog, Cbndv2pc, Cbndvs, CbndvsLog, Cpv2pc, Cpvs}
+use Rattle.dc_plan.proofs.Halting.{halt_allowed}
 use Rattle.dc_plan.proofs.Passing.{between, gave, passed}
 use Rattle.dc_plan.proofs.Sources.{source_allowed}
 use Rattle.dc_plan.proofs.Stopping.{room_for, stops_allowed, tables_have_room}
 use Rattle.dc_plan.specs.Allowed.{IsAllowed, IsRecord}
-use Rattle.dc_plan.specs.Plans.{Plan, are_inputs_few, are_inputs_right, at_key, guests_row, has_known_keys, inputs_row, inputs_said, is_input_record, medium_row, memory_row, needed, optional, plan_from, plan_of, protocol_named, protocol_row, input_record_of, record_in, rows, schedule_row, seed_row, stops_row, tested, turns_row}
+use Rattle.dc_plan.specs.Plans.{Plan, are_inputs_few, are_inputs_right, at_key, guests_row, halt_row, has_known_keys, inputs_row, inputs_said, is_input_record, medium_row, memory_row, needed, optional, plan_from, plan_of, protocol_named, protocol_row, input_record_of, record_in, rows, schedule_row, seed_row, stops_row, tested, turns_row}
 use Rattle.dc_words.specs.Results.{or_fault}
 use Rattle.dc_words.specs.Words.{AllBelow}
 use Rattle.dc_plan.specs.Values.{is_array_of, is_between, is_text, is_whole, items_in, natural_in, text_in, text_or_empty}
@@ -179,7 +180,8 @@ rows_allowed ms plan e =
     let sized = memory_allowed ms memory.value memory.first in
     let counted = guests_allowed ms guests.value guests.first in
     let stopped = stops_allowed medium.value (length guests.value) counted.0 ms stops.value stops.first in
-    let is = said_is _ plan stops.after in
+    let halt = gave (halt_row medium.value ms) _ plan stops.after in
+    let is = said_is _ plan halt.after in
     rw (← is) (record {
       seven = protocol_allowed ms protocol.value protocol.first;
       memory_least = sized.0;
@@ -192,6 +194,7 @@ rows_allowed ms plan e =
       schedule = source_allowed ms schedule.value seed.value turns.value schedule.first seed.first turns.first;
       stops = stopped.each;
       stops_most = stopped.most;
+      halt = halt_allowed medium.value ms halt.value halt.first;
     })
   where
     said_is : (said plan : Plan) → ◌≡◌ {A = Result Plan PlanFault} (Ok said) (Ok plan) → said ≡ plan

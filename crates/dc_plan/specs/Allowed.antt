@@ -30,6 +30,11 @@ pub record IsStopAllowed (medium : Medium) (guests : ℕ) (stop : PlannedStop) :
   pub keep : stop.tear.keep ≤ 4000000000
   pub fill : MayFill medium stop.tear.fill
 
+-- a run is halted within its entries, and only on a disk
+abbrev pub IsHaltAllowed : Medium → Option ℕ → Type 0
+IsHaltAllowed on None = Unit {0}
+IsHaltAllowed on (Some entry) = (entry ≤ ENTRIES) × (on ≡ medium.Disk)
+
 -- what one request for input hands over: so many bytes at most
 abbrev pub IsRecord : List ℕ → Type 0
 IsRecord bytes = (length bytes ≤ INPUT_BYTES) × AllBelow (2 ^ 8) bytes
@@ -47,3 +52,4 @@ pub record IsAllowed (plan : Plan) : Type 0 where
   pub schedule : IsSourceAllowed plan.schedule
   pub stops : All (IsStopAllowed plan.medium (length plan.guests)) plan.stops
   pub stops_most : length plan.stops ≤ 1000
+  pub halt : IsHaltAllowed plan.medium plan.halt

@@ -16,4 +16,5 @@ parts_view parts = record {
   inputs = inputs_said (length (map text_in (map view parts.guests.now))) (option_map (λ lists. map view lists.now) parts.inputs);
   schedule = source_of (option_map (λ name. name.now) parts.schedule) parts.seed parts.turns;
   stops = map stop_of (map view parts.stops.now);
+  halt = parts.halt;
 }

@@ -1,7 +1,7 @@
 -- What a plan says, and the first rule that it breaks.
 --
 -- A text that is no document comes first, then a key that no plan or no stop has, then the rows, a row for each key: whether the key is missing, its value of another kind, too many, out of range.
-use Rattle.std.specs.Prelude.{bytes_eq, ◌≡◌, ℕ, ◌%◌, ◌==◌, List, [], length, map, replicate, codes, Bool, true, ◌||◌, ◌&&◌, not, Option, Some, None, is_some, Result, Ok, Err, if◌then◌else◌, nat_le, string_bytes, unwrap_or}
+use Rattle.std.specs.Prelude.{bytes_eq, ◌≡◌, ℕ, ◌%◌, ◌==◌, List, [], length, map, replicate, codes, Bool, true, false, ◌||◌, ◌&&◌, not, Option, Some, None, is_some, Result, Ok, Err, if◌then◌else◌, nat_le, string_bytes, unwrap_or}
 use Rattle.std.specs.List.{list_all}
 use Rattle.std.specs.Str.{is_utf8}
 use Rattle.dc_limits.specs.declared.bounds.TheConstants.{ENTRIES}
@@ -42,6 +42,7 @@ pub record Plan : Type 0 where
   pub inputs : List (List (List ℕ))
   pub schedule : Source
   pub stops : List PlannedStop
+  pub halt : Option ℕ
 
 -- the value at a key
 abbrev pub at_key : Key → Members → Option Data
@@ -151,6 +152,15 @@ stops_row medium guests ms = optional [] (λ d. if list_all is_complete (items_i
     then tested key.Stop (is_array_of has_stop_kinds d) (nat_le (length (items_in d)) 1000) (list_all (has_stop_ranges medium guests) (items_in d)) (map stop_of (items_in d))
     else Err (Missing key.Stop)) (at_key key.Stop ms)
 
+-- a run may be halted on a disk, which keeps what it goes on from
+abbrev pub may_halt : Medium → Bool
+may_halt medium.Rio = false
+may_halt medium.Disk = true
+
+-- halt: up to a million, and only on a disk
+abbrev pub halt_row : Medium → Members → Result (Option ℕ) PlanFault
+halt_row medium ms = optional None (λ d. tested key.Halt (is_whole d) true (may_halt medium && is_between 0 ENTRIES d) (Some (natural_in d))) (at_key key.Halt ms)
+
 -- the file where there is one, and else the seed with its turns, neither of which is absent then
 abbrev pub source_of : Option (List ℕ) → Option ℕ → Option ℕ → Source
 source_of (Some name) seed turns = InFile name
@@ -168,7 +178,8 @@ rows ms =
     seed_row ms >>= (λ seed.
     turns_row ms >>= (λ turns.
     stops_row medium (length guests) ms >>= (λ stops.
-    Ok (record { protocol = protocol; medium = medium; memory = memory; guests = guests; inputs = inputs; schedule = source_of schedule seed turns; stops = stops }))))))))))
+    halt_row medium ms >>= (λ halt.
+    Ok (record { protocol = protocol; medium = medium; memory = memory; guests = guests; inputs = inputs; schedule = source_of schedule seed turns; stops = stops; halt = halt })))))))))))
 
 -- the items of the value at a key
 abbrev pub items_at : Option Data → List Data
@@ -202,6 +213,7 @@ plan_view plan = record {
   inputs = map (λ records. records.items) plan.inputs.items;
   schedule = source_view plan.schedule;
   stops = plan.stops.items;
+  halt = plan.halt;
 }
 
 -- a result is this one, if it is not for want of memory

@@ -11,8 +11,8 @@ use crate::fault::PlanFault;
 use crate::keys::{Key, at_key, is_key};
 use crate::plan::Medium;
 use crate::rows::{
-    guests_in, inputs_in, medium_in, memory_in, protocol_in, schedule_in, seed_in, stops_in,
-    turns_in,
+    guests_in, halt_in, inputs_in, medium_in, memory_in, protocol_in, schedule_in, seed_in,
+    stops_in, turns_in,
 };
 use crate::stops::has_stop_keys;
 use crate::values::items_in;
@@ -40,6 +40,8 @@ pub struct Parts<'a> {
     pub turns: Option<u32>,
     /// The tables of the stops.
     pub stops: &'a [Value],
+    /// The first entry that is not run.
+    pub halt: Option<u32>,
 }
 
 fn are_keys(table: &Table) -> bool
@@ -87,6 +89,7 @@ fn rows_in(table: &Table) -> Result<Parts<'_>, PlanFault>
     let seed = seed_in(table)?;
     let turns = turns_in(table)?;
     let stops = stops_in(medium, guests.len(), table)?;
+    let halt = halt_in(medium, table)?;
     Ok(Parts {
         protocol,
         medium,
@@ -97,6 +100,7 @@ fn rows_in(table: &Table) -> Result<Parts<'_>, PlanFault>
         seed,
         turns,
         stops,
+        halt,
     })
 }
 

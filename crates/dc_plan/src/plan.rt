@@ -46,4 +46,6 @@ pub struct Plan {
     pub schedule: ScheduleSource,
     /// The calls at which processes are stopped.
     pub stops: Vec<PlannedStop>,
+    /// The first entry that is not run, if the run is to be halted before its schedule is used up.
+    pub halt: Option<u32>,
 }

@@ -113,6 +113,7 @@ fn copied(alloc: Global, parts: &Parts) -> Result<Plan, AllocError>
         inputs,
         schedule,
         stops,
+        halt: parts.halt,
     })
 }
 

@@ -3,7 +3,7 @@ ghost use Rattle.std.specs.Prelude.{◌≡◌, ◌≤◌, ◌&&◌, ◌==◌, So
 ghost use Rattle.std.specs.List.{list_all};
 ghost use Rattle.toml.specs.View.{view, table_view};
 ghost use Rattle.dc_plan.specs.Values.{is_array_of, is_text, items_in, text_in};
-ghost use Rattle.dc_plan.specs.Plans.{guests_row, has, inputs_row, inputs_said, medium_named, medium_row, memory_row, needed, protocol_named, protocol_row, schedule_row, seed_row, stops_row, turns_row};
+ghost use Rattle.dc_plan.specs.Plans.{guests_row, halt_row, has, inputs_row, inputs_said, may_halt, medium_named, medium_row, memory_row, needed, protocol_named, protocol_row, schedule_row, seed_row, stops_row, turns_row};
 ghost use Rattle.dc_plan.specs.Stops.{stop_of};
 ghost use Rattle.dc_words.specs.Results.{seen};
 
@@ -231,4 +231,27 @@ pub fn stops_in(medium: Medium, guests: usize, table: &Table) -> Result<&[Value]
         return Err(PlanFault::Range(Key::Stop));
     }
     Ok(stops)
+}
+
+/// Whether a run may be halted on that medium: a disk keeps what it goes on from.
+fn may_halt(medium: Medium) -> bool
+    ensures { result ≡ may_halt medium }
+{
+    matches!(medium, Medium::Disk)
+}
+
+/// The first entry that is not run.
+pub fn halt_in(medium: Medium, table: &Table) -> Result<Option<u32>, PlanFault>
+    ensures { result ≡ halt_row medium (table_view table.now) }
+{
+    let Some(value) = at_key(Key::Halt, table) else {
+        return Ok(None);
+    };
+    let Some(number) = value.as_integer() else {
+        return Err(PlanFault::Kind(Key::Halt));
+    };
+    match u32::try_from(number) {
+        Ok(entry) if entry <= ENTRIES && may_halt(medium) => Ok(Some(entry)),
+        _ => Err(PlanFault::Range(Key::Halt)),
+    }
 }

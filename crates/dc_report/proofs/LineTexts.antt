@@ -1,7 +1,7 @@
 -- A line of a report and its text.
 use Rattle.std.proofs.Common.{◌≡◌, ◌∙◌, ◌^◌, ◌==◌, ◌&&◌, ◌<◌, ◌≤◌, ◌⊎◌, inl, inr, ℕ, Bool, true, false, List, [], ◌∷◌, ◌++◌, length, Result, Ok, Err, ap, sym, subst, refl, arith, codes, decimal, if◌then◌else◌, nat_lt, nat_le, ⊎_elim, append_assoc}
 use Rattle.std.specs.Str.{bytes_eq}
-use Rattle.std.proofs.lemmas.Bool.{and_parts, eq-eqb, eqb-true, leb-true, le-leb, ltb-true, lt-ltb}
+use Rattle.std.proofs.lemmas.Bool.{and_parts, cases_Bool, eq-eqb, eqb-true, leb-true, le-leb, ltb-true, lt-ltb}
 use Rattle.std.proofs.lemmas.Bool.Decides.{nat_tests}
 use Rattle.std.proofs.lemmas.Slice.Eq.{bytes_eq-Decides}
 use Rattle.dc_limits.specs.declared.bounds.TheConstants.{ENTRIES}
@@ -14,7 +14,7 @@ use Rattle.dc_words.specs.Texts.{fields_of, has_no, joined}
 use Rattle.dc_words.proofs.Joining.{fields_joined, fields_last, fields_then, none_in_both}
 use Rattle.dc_words.proofs.Reading.{decimal_below, decimal_has_no, decimal_reads, is_below_parts, value_writes}
 use Rattle.dc_report.specs.Reports.{act_line, act_text, close_line}
-use Rattle.dc_report.specs.Reading.{IsAct, Line, Report, act_by, act_by_three, act_by_two, act_line_of, admitted, bounded, close_line_of, closed_by, has_sender, input_by, is_status, line_by, taken_by}
+use Rattle.dc_report.specs.Reading.{IsAct, Line, Report, act_by, act_by_three, act_by_two, act_line_of, admitted, bounded, close_line_of, closed_by, has_sender, input_by, is_past, is_status, line_by, taken_by}
 use Rattle.dc_report.specs.Reading.Line.{ActLine, CloseLine}
 use Rattle.dc_report.specs.Parts.{act_fields, close_fields}
 use Rattle.dc_report.specs.declared.fault.ReportKind.{ReportKind}
@@ -53,7 +53,7 @@ close_not_act name h = ap (λ w. bytes_eq w (codes "act")) (is_text name (codes 
 
 -- by its name, and then by the fields behind it
 abbrev pub line_named : ℕ → ℕ → List Taken → List ℕ → List (List ℕ) → Result Line ReportKind
-line_named n next acts name fields = if bytes_eq name (codes "close") then close_fields acts fields >>= close_line_of
+line_named n next acts name fields = if bytes_eq name (codes "close") then close_fields next acts fields >>= close_line_of
     else (if bytes_eq name (codes "act") then act_fields n next fields >>= act_line_of else Err Form)
 
 pub named_is : (n next : ℕ) (acts : List Taken) (name : List ℕ) (fields : List (List ℕ)) → line_by n next acts (name ∷ fields) ≡ line_named n next acts name fields
@@ -205,24 +205,36 @@ taken_is n next t p told x few e = subst (λ (y : Taken). IsLine n next y (joine
     same : ◌≡◌ {A = Taken} (record { t = value t; p = value p; act = read.0 }) x
     same = let e = in_turn.1 in cc
 
--- a last line that was read behind these acts
-pub record IsClosed (acts : List Taken) (r : Report) (line : List ℕ) : Type 0 where
+-- a last line that was read behind these acts, whose turns are below `next`
+pub record IsClosed (next : ℕ) (acts : List Taken) (r : Report) (line : List ℕ) : Type 0 where
   pub acts_are : r.acts ≡ acts
   pub status : is_status r.status ≡ true
   pub entries : r.entries ≤ 1000000
   pub lines : r.lines ≤ r.entries
+  pub past : r.status ≡ 15 → next ≤ r.entries
   pub text : close_line r.status r.entries (length r.acts) r.lines ≡ line ++ 10 ∷ []
+
+-- whether a halted run took all entries up to the last act's turn
+past_is : (status next entries : ℕ) → is_past status next entries ≡ true → status ≡ 15 → next ≤ entries
+past_is status next entries h is = leb-true next entries (subst (λ s. is_past s next entries ≡ true) is h)
+
+is_past_so : (status next entries : ℕ) → (status ≡ 15 → next ≤ entries) → is_past status next entries ≡ true
+is_past_so status next entries past = ⊎_elim
+    (λ (yes : (status == 15) ≡ true). rw yes (le-leb next entries (past (eqb-true status 15 yes))))
+    (λ (no : (status == 15) ≡ false). rw no refl)
+    (cases_Bool (status == 15))
 
 small_status : (v : ℕ) → is_status v ≡ true → v < 2 ^ 64
 small_status v h = grind (arith, nat_tests)
 
-pub closed_is : (acts : List Taken) (s e c l : List ℕ) (r : Report) → length acts ≤ 1000000 → closed_by acts s e c l ≡ Ok r
-    → IsClosed acts r (joined 32 (codes "close" ∷ s ∷ e ∷ c ∷ l ∷ []))
-closed_is acts s e c l r few done = subst (λ (y : Report). IsClosed acts y (joined 32 (codes "close" ∷ s ∷ e ∷ c ∷ l ∷ []))) same record {
+pub closed_is : (next : ℕ) (acts : List Taken) (s e c l : List ℕ) (r : Report) → length acts ≤ 1000000 → closed_by next acts s e c l ≡ Ok r
+    → IsClosed next acts r (joined 32 (codes "close" ∷ s ∷ e ∷ c ∷ l ∷ []))
+closed_is next acts s e c l r few done = subst (λ (y : Report). IsClosed next acts y (joined 32 (codes "close" ∷ s ∷ e ∷ c ∷ l ∷ []))) same record {
   acts_are = refl;
   status = known.0;
   entries = entries;
   lines = lines;
+  past = past_is (value s) next (value e) past;
   text = ap (λ w. codes "close " ++ w ++ codes " " ++ decimal (value e) ++ codes " " ++ decimal (length acts) ++ codes " " ++ decimal (value l) ++ 10 ∷ [])
       (value_writes s status.0 (small_status (value s) known.0))
       ∙ ap (λ w. codes "close " ++ s ++ codes " " ++ w ++ codes " " ++ decimal (length acts) ++ codes " " ++ decimal (value l) ++ 10 ∷ []) (value_writes e form_e.0 (omega (arith, entries)))
@@ -236,9 +248,9 @@ closed_is acts s e c l r few done = subst (λ (y : Report). IsClosed acts y (joi
     made = record { status = value s; entries = value e; acts = acts; lines = value l }
 
     form : ((is_number s && (is_status (value s) && (is_number e && (is_number c && is_number l)))) ≡ true)
-        × ((if value c == length acts && (nat_le (value e) 1000000 && nat_le (value l) (value e)) then Ok made else Err Count) ≡ Ok r)
+        × ((if value c == length acts && (nat_le (value e) 1000000 && (nat_le (value l) (value e) && is_past (value s) next (value e))) then Ok made else Err Count) ≡ Ok r)
     form = passed (is_number s && (is_status (value s) && (is_number e && (is_number c && is_number l))))
-        (if value c == length acts && (nat_le (value e) 1000000 && nat_le (value l) (value e)) then Ok made else Err Count) Form r done
+        (if value c == length acts && (nat_le (value e) 1000000 && (nat_le (value l) (value e) && is_past (value s) next (value e))) then Ok made else Err Count) Form r done
 
     status : (is_number s ≡ true) × ((is_status (value s) && (is_number e && (is_number c && is_number l))) ≡ true)
     status = and_parts (is_number s) (is_status (value s) && (is_number e && (is_number c && is_number l))) form.0
@@ -252,20 +264,26 @@ closed_is acts s e c l r few done = subst (λ (y : Report). IsClosed acts y (joi
     form_c : (is_number c ≡ true) × (is_number l ≡ true)
     form_c = and_parts (is_number c) (is_number l) form_e.1
 
-    sums : ((value c == length acts && (nat_le (value e) 1000000 && nat_le (value l) (value e))) ≡ true) × (◌≡◌ {A = Result Report ReportKind} (Ok made) (Ok r))
-    sums = passed (value c == length acts && (nat_le (value e) 1000000 && nat_le (value l) (value e))) (Ok made) Count r form.1
+    sums : ((value c == length acts && (nat_le (value e) 1000000 && (nat_le (value l) (value e) && is_past (value s) next (value e)))) ≡ true) × (◌≡◌ {A = Result Report ReportKind} (Ok made) (Ok r))
+    sums = passed (value c == length acts && (nat_le (value e) 1000000 && (nat_le (value l) (value e) && is_past (value s) next (value e)))) (Ok made) Count r form.1
 
     count : value c ≡ length acts
-    count = eqb-true (value c) (length acts) (and_parts (value c == length acts) (nat_le (value e) 1000000 && nat_le (value l) (value e)) sums.0).0
+    count = eqb-true (value c) (length acts) (and_parts (value c == length acts) (nat_le (value e) 1000000 && (nat_le (value l) (value e) && is_past (value s) next (value e))) sums.0).0
 
-    orders : (nat_le (value e) 1000000 ≡ true) × (nat_le (value l) (value e) ≡ true)
-    orders = and_parts (nat_le (value e) 1000000) (nat_le (value l) (value e)) (and_parts (value c == length acts) (nat_le (value e) 1000000 && nat_le (value l) (value e)) sums.0).1
+    orders : (nat_le (value e) 1000000 ≡ true) × ((nat_le (value l) (value e) && is_past (value s) next (value e)) ≡ true)
+    orders = and_parts (nat_le (value e) 1000000) (nat_le (value l) (value e) && is_past (value s) next (value e)) (and_parts (value c == length acts) (nat_le (value e) 1000000 && (nat_le (value l) (value e) && is_past (value s) next (value e))) sums.0).1
 
     entries : value e ≤ 1000000
     entries = leb-true (value e) 1000000 orders.0
 
+    ends : (nat_le (value l) (value e) ≡ true) × (is_past (value s) next (value e) ≡ true)
+    ends = and_parts (nat_le (value l) (value e)) (is_past (value s) next (value e)) orders.1
+
     lines : value l ≤ value e
-    lines = leb-true (value l) (value e) orders.1
+    lines = leb-true (value l) (value e) ends.0
+
+    past : is_past (value s) next (value e) ≡ true
+    past = ends.1
 
     same : made ≡ r
     same = let g = sums.1 in cc
@@ -277,27 +295,27 @@ act_fields_are n next name (t ∷ []) x few is e = absurd (let never : ⊥ = cc 
 act_fields_are n next name (t ∷ p ∷ told) x few is e =
     subst (λ (w : List ℕ). IsLine n next x (joined 32 (w ∷ t ∷ p ∷ told))) (sym is) (taken_is n next t p told x few e)
 
-close_fields_are : (acts : List Taken) (name : List ℕ) (fields : List (List ℕ)) (r : Report) → length acts ≤ 1000000 → name ≡ codes "close" → close_fields acts fields ≡ Ok r
-    → IsClosed acts r (joined 32 (name ∷ fields))
-close_fields_are acts name [] r few is e = absurd (let never : ⊥ = cc in never)
-close_fields_are acts name (s ∷ []) r few is e = absurd (let never : ⊥ = cc in never)
-close_fields_are acts name (s ∷ t ∷ []) r few is e = absurd (let never : ⊥ = cc in never)
-close_fields_are acts name (s ∷ t ∷ c ∷ []) r few is e = absurd (let never : ⊥ = cc in never)
-close_fields_are acts name (s ∷ t ∷ c ∷ l ∷ []) r few is e =
-    subst (λ (w : List ℕ). IsClosed acts r (joined 32 (w ∷ s ∷ t ∷ c ∷ l ∷ []))) (sym is) (closed_is acts s t c l r few e)
-close_fields_are acts name (s ∷ t ∷ c ∷ l ∷ m ∷ more) r few is e = absurd (let never : ⊥ = cc in never)
+close_fields_are : (next : ℕ) (acts : List Taken) (name : List ℕ) (fields : List (List ℕ)) (r : Report) → length acts ≤ 1000000 → name ≡ codes "close" → close_fields next acts fields ≡ Ok r
+    → IsClosed next acts r (joined 32 (name ∷ fields))
+close_fields_are next acts name [] r few is e = absurd (let never : ⊥ = cc in never)
+close_fields_are next acts name (s ∷ []) r few is e = absurd (let never : ⊥ = cc in never)
+close_fields_are next acts name (s ∷ t ∷ []) r few is e = absurd (let never : ⊥ = cc in never)
+close_fields_are next acts name (s ∷ t ∷ c ∷ []) r few is e = absurd (let never : ⊥ = cc in never)
+close_fields_are next acts name (s ∷ t ∷ c ∷ l ∷ []) r few is e =
+    subst (λ (w : List ℕ). IsClosed next acts r (joined 32 (w ∷ s ∷ t ∷ c ∷ l ∷ []))) (sym is) (closed_is next acts s t c l r few e)
+close_fields_are next acts name (s ∷ t ∷ c ∷ l ∷ m ∷ more) r few is e = absurd (let never : ⊥ = cc in never)
 
 -- which of the two it was
 abbrev pub IsRead : ℕ → ℕ → List Taken → List ℕ → Line → Type 0
 IsRead n next acts line (ActLine x) = IsLine n next x line
-IsRead n next acts line (CloseLine r) = IsClosed acts r line
+IsRead n next acts line (CloseLine r) = IsClosed next acts r line
 
 read_named : (n next : ℕ) (acts : List Taken) (name : List ℕ) (fields : List (List ℕ)) (l : Line) → n ≤ 8 → length acts ≤ 1000000
     → line_named n next acts name fields ≡ Ok l → IsRead n next acts (joined 32 (name ∷ fields)) l
 read_named n next acts name fields l few count e = ⊎_elim
-    (λ d. let f = bound (close_fields acts fields) close_line_of l d.1 in
+    (λ d. let f = bound (close_fields next acts fields) close_line_of l d.1 in
     let same : CloseLine f.0 ≡ l = let g = f.2 in cc in
-    subst (IsRead n next acts (joined 32 (name ∷ fields))) same (close_fields_are acts name fields f.0 count (is_text name (codes "close") d.0) f.1))
+    subst (IsRead n next acts (joined 32 (name ∷ fields))) same (close_fields_are next acts name fields f.0 count (is_text name (codes "close") d.0) f.1))
     (λ d. let h = passed (bytes_eq name (codes "act")) (act_fields n next fields >>= act_line_of) Form l d.1 in
     let f = bound (act_fields n next fields) act_line_of l h.1 in
     let same : ActLine f.0 ≡ l = let g = f.2 in cc in
@@ -442,21 +460,21 @@ module _ (status entries lines : ℕ) (acts : List Taken) (known : is_status sta
       ∙ ap (λ xs. decimal entries ∷ xs) (fields_then 32 (decimal (length acts)) _ (decimal_has_no 32 (length acts) (omega arith) small_c)
       ∙ ap (λ xs. decimal (length acts) ∷ xs) (fields_last 32 (decimal lines) (decimal_has_no 32 lines (omega arith) small_l)))))
 
-  abbrev closed_as : ℕ → ℕ → ℕ → ℕ → Result Report ReportKind
-  closed_as s e c l = if c == length acts && (nat_le e 1000000 && nat_le l e) then Ok (record { status = s; entries = e; acts = acts; lines = l }) else Err Count
+  abbrev closed_as : ℕ → ℕ → ℕ → ℕ → ℕ → Result Report ReportKind
+  closed_as next s e c l = if c == length acts && (nat_le e 1000000 && (nat_le l e && is_past s next e)) then Ok (record { status = s; entries = e; acts = acts; lines = l }) else Err Count
 
-  closed_again : closed_by acts (decimal status) (decimal entries) (decimal (length acts)) (decimal lines) ≡ Ok (record { status = status; entries = entries; acts = acts; lines = lines })
-  closed_again = went (is_number (decimal status) && (is_status (value (decimal status)) && (is_number (decimal entries) && (is_number (decimal (length acts)) && is_number (decimal lines))))) _ (Err Form)
+  closed_again : (next : ℕ) → (status ≡ 15 → next ≤ entries) → closed_by next acts (decimal status) (decimal entries) (decimal (length acts)) (decimal lines) ≡ Ok (record { status = status; entries = entries; acts = acts; lines = lines })
+  closed_again next past = went (is_number (decimal status) && (is_status (value (decimal status)) && (is_number (decimal entries) && (is_number (decimal (length acts)) && is_number (decimal lines))))) _ (Err Form)
       (anded _ _ (decimal_reads status small_s).0 (anded _ _ (ap is_status (decimal_reads status small_s).1 ∙ known)
       (anded _ _ (decimal_reads entries small_e).0 (anded _ _ (decimal_reads (length acts) small_c).0 (decimal_reads lines small_l).0))))
-      ∙ ap (λ w. closed_as w (value (decimal entries)) (value (decimal (length acts))) (value (decimal lines))) (decimal_reads status small_s).1
-      ∙ ap (λ w. closed_as status w (value (decimal (length acts))) (value (decimal lines))) (decimal_reads entries small_e).1
-      ∙ ap (λ w. closed_as status entries w (value (decimal lines))) (decimal_reads (length acts) small_c).1
-      ∙ ap (λ w. closed_as status entries (length acts) w) (decimal_reads lines small_l).1
-      ∙ went (length acts == length acts && (nat_le entries 1000000 && nat_le lines entries)) _ (Err Count)
-      (anded _ _ (eq-eqb (length acts) (length acts) refl) (anded _ _ (le-leb entries 1000000 within) (le-leb lines entries fewer)))
+      ∙ ap (λ w. closed_as next w (value (decimal entries)) (value (decimal (length acts))) (value (decimal lines))) (decimal_reads status small_s).1
+      ∙ ap (λ w. closed_as next status w (value (decimal (length acts))) (value (decimal lines))) (decimal_reads entries small_e).1
+      ∙ ap (λ w. closed_as next status entries w (value (decimal lines))) (decimal_reads (length acts) small_c).1
+      ∙ ap (λ w. closed_as next status entries (length acts) w) (decimal_reads lines small_l).1
+      ∙ went (length acts == length acts && (nat_le entries 1000000 && (nat_le lines entries && is_past status next entries))) _ (Err Count)
+      (anded _ _ (eq-eqb (length acts) (length acts) refl) (anded _ _ (le-leb entries 1000000 within) (anded _ _ (le-leb lines entries fewer) (is_past_so status next entries past))))
 
-  pub close_again : (n next : ℕ) → line_by n next acts (fields_of 32 (close_body status entries (length acts) lines))
+  pub close_again : (n next : ℕ) → (status ≡ 15 → next ≤ entries) → line_by n next acts (fields_of 32 (close_body status entries (length acts) lines))
       ≡ Ok (CloseLine (record { status = status; entries = entries; acts = acts; lines = lines }))
-  close_again n next = ap (line_by n next acts) fields_closed
-      ∙ ap (λ (r : Result Report ReportKind). r >>= close_line_of) closed_again
+  close_again n next past = ap (line_by n next acts) fields_closed
+      ∙ ap (λ (r : Result Report ReportKind). r >>= close_line_of) (closed_again next past)

@@ -1,8 +1,9 @@
 -- A report and its text.
-use Rattle.std.proofs.Common.{◌≡◌, ◌∙◌, ◌+◌, ◌==◌, ◌<◌, ◌≤◌, ◌⊎◌, inl, inr, ℕ, suc, Bool, true, false, List, [], ◌∷◌, ◌++◌, length, Result, Ok, Err, IfOk, IsOkAnd, ap, sym, subst, refl, arith, codes, if◌then◌else◌, ⊎_elim, add-one, append_assoc, append-nil, length-append}
+use Rattle.std.proofs.Common.{All, ◌≡◌, ◌∙◌, ◌+◌, ◌==◌, ◌<◌, ◌≤◌, ◌⊎◌, inl, inr, ℕ, suc, Bool, true, false, List, [], ◌∷◌, ◌++◌, length, Result, Ok, Err, IfOk, IsOkAnd, ap, sym, subst, refl, arith, codes, if◌then◌else◌, ⊎_elim, add-one, append_assoc, append-nil, length-append}
 use Rattle.std.specs.Str.{bytes_eq}
-use Rattle.std.specs.List.{flat_map}
+use Rattle.std.specs.List.{AllByRecursion, flat_map}
 use Rattle.std.proofs.lemmas.Bool.{cases_Bool}
+use Rattle.std.proofs.lemmas.List.Elements.{All-from_recursion, recursion_from_All}
 use Rattle.dc_limits.specs.declared.bounds.TheConstants.{ENTRIES}
 use Rattle.dc_model.specs.declared.act.Taken.{Taken}
 use Rattle.dc_words.specs.Texts.{fields_of, in_front, joined}
@@ -94,6 +95,8 @@ record IsFrom (n next : ℕ) (acts : List Taken) (parts : List (List ℕ)) (r : 
   status : is_status r.status ≡ true
   entries : r.entries ≤ 1000000
   lines : r.lines ≤ r.entries
+  past : r.status ≡ 15 → next ≤ r.entries
+  halted : r.status ≡ 15 → AllByRecursion (λ x. x.t < r.entries) more
   text : joined 10 parts ≡ flat_map act_line more ++ close_line r.status r.entries (length r.acts) r.lines
 
 module _ (n next : ℕ) (acts : List Taken) (line part : List ℕ) (parts : List (List ℕ)) (r : Report) where
@@ -105,12 +108,14 @@ module _ (n next : ℕ) (acts : List Taken) (line part : List ℕ) (parts : List
     status = from.status;
     entries = from.entries;
     lines = from.lines;
+    past = λ stopped. let low = is.from in let high = from.past stopped in omega (arith, low, high);
+    halted = λ stopped. (from.past stopped, from.halted stopped);
     text = ap (λ w. line ++ 10 ∷ w) from.text ∙ sym (append_assoc line (10 ∷ []) _)
         ∙ ap (λ w. w ++ (flat_map act_line from.more ++ close_line r.status r.entries (length r.acts) r.lines)) (sym is.text)
         ∙ sym (append_assoc (act_line x) (flat_map act_line from.more) _);
   }
 
-  with_close : (number : ℕ) (c : Report) → IsClosed acts c line → ends number c (part ∷ parts) ≡ Ok r → IsFrom n next acts (line ∷ part ∷ parts) r
+  with_close : (number : ℕ) (c : Report) → IsClosed next acts c line → ends number c (part ∷ parts) ≡ Ok r → IsFrom n next acts (line ∷ part ∷ parts) r
   with_close number c is e = by part parts e
     where
       by : (part : List ℕ) (parts : List (List ℕ)) → ends number c (part ∷ parts) ≡ Ok r → IsFrom n next acts (line ∷ part ∷ parts) r
@@ -121,6 +126,8 @@ module _ (n next : ℕ) (acts : List Taken) (line part : List ℕ) (parts : List
         status = is.status;
         entries = is.entries;
         lines = is.lines;
+        past = is.past;
+        halted = λ stopped. tt;
         text = sym is.text;
       }
       by [] (x ∷ parts) e = absurd (let never : ⊥ = cc in never)
@@ -161,7 +168,13 @@ report_found n text r few e = by (fields_of 10 text) (fields_joined 10 text) e
         named true is e = let from = found_from n 2 0 [] (part ∷ parts) r few (omega arith) (omega arith) e in (
           sym whole ∙ ap (λ w. w ++ 10 ∷ joined 10 (part ∷ parts)) (is_text name (codes "dc-report 1") is)
               ∙ ap (λ w. first_line ++ w) (from.text ∙ ap (λ acts. flat_map act_line acts ++ close_line r.status r.entries (length r.acts) r.lines) (sym from.acts_are)),
-          record { status = from.status; acts = subst (AreActs n 0) (sym from.acts_are) from.are; entries = from.entries; lines = from.lines },
+          record {
+            status = from.status;
+            acts = subst (AreActs n 0) (sym from.acts_are) from.are;
+            entries = from.entries;
+            lines = from.lines;
+            halted = λ stopped. subst (All (λ x. x.t < r.entries)) (sym from.acts_are) (All-from_recursion (λ x. x.t < r.entries) from.more (from.halted stopped));
+          },
         )
 
 -- the acts of a report are read from their lines
@@ -169,18 +182,18 @@ module _ (n : ℕ) (few : n ≤ 8) (r : Report) (known : is_status r.status ≡ 
   abbrev last : List ℕ
   last = close_line r.status r.entries (length r.acts) r.lines
 
-  last_again : (number next : ℕ) → length r.acts ≤ 1000000 → report_from n number next r.acts (fields_of 10 last) ≡ Ok r
-  last_again number next count = line_closed n number next r.acts last (close_body r.status r.entries (length r.acts) r.lines) []
+  last_again : (number next : ℕ) → (r.status ≡ 15 → next ≤ r.entries) → length r.acts ≤ 1000000 → report_from n number next r.acts (fields_of 10 last) ≡ Ok r
+  last_again number next past count = line_closed n number next r.acts last (close_body r.status r.entries (length r.acts) r.lines) []
       (ap (fields_of 10) (close_line_is r.status r.entries (length r.acts) r.lines)
       ∙ fields_then 10 (close_body r.status r.entries (length r.acts) r.lines) [] (close_free r.status r.entries r.lines r.acts known entries lines count))
-      r (sym (close_again r.status r.entries r.lines r.acts known entries lines count n next))
+      r (sym (close_again r.status r.entries r.lines r.acts known entries lines count n next past))
 
   from_lines : (number next : ℕ) (acts more : List Taken) → length acts ≤ next → next ≤ 1000000 → r.acts ≡ acts ++ more → AreActs n next more
-      → report_from n number next acts (fields_of 10 (flat_map act_line more ++ last)) ≡ Ok r
-  from_lines number next acts [] count turns is are = let same : acts ≡ r.acts = sym (is ∙ append-nil acts) in
+      → (r.status ≡ 15 → next ≤ r.entries) → (r.status ≡ 15 → AllByRecursion (λ x. x.t < r.entries) more) → report_from n number next acts (fields_of 10 (flat_map act_line more ++ last)) ≡ Ok r
+  from_lines number next acts [] count turns is are past halted = let same : acts ≡ r.acts = sym (is ∙ append-nil acts) in
       ap (λ xs. report_from n number next xs (fields_of 10 last)) same
-      ∙ last_again number next (let e = ap (λ (xs : List Taken). length xs) same in omega (arith, e, count, turns))
-  from_lines number next acts (x ∷ more) count turns is are = let from = are.2 in let to = are.3 in
+      ∙ last_again number next past (let e = ap (λ (xs : List Taken). length xs) same in omega (arith, e, count, turns))
+  from_lines number next acts (x ∷ more) count turns is are past halted = let from = are.2 in let to = are.3 in
       line_added n number next acts (flat_map act_line (x ∷ more) ++ last) (act_body x) (flat_map act_line more ++ last)
       (ap (fields_of 10) (append_assoc (act_line x) (flat_map act_line more) last ∙ ap (λ w. w ++ (flat_map act_line more ++ last)) (act_line_is x)
       ∙ append_assoc (act_body x) (10 ∷ []) (flat_map act_line more ++ last))
@@ -188,11 +201,13 @@ module _ (n : ℕ) (few : n ≤ 8) (r : Report) (known : is_status r.status ≡ 
       x (acts ++ x ∷ []) refl (sym (line_again n next x few are.0 are.1 are.2 are.3 acts))
       ∙ from_lines (number + 1) (x.t + 1) (acts ++ x ∷ []) more (omega (arith, length-append acts (x ∷ []), count, from)) (omega (arith, to))
       (is ∙ sym (append_assoc acts (x ∷ []) more)) (subst (λ k. AreActs n k more) (sym (add-one x.t)) are.4)
+      (λ stopped. let low = (halted stopped).0 in omega (arith, low)) (λ stopped. (halted stopped).1)
 
 -- a report is read from its text
 pub report_again : (n : ℕ) (r : Report) → n ≤ 8 → IsReport n r → report_of n (text_of_report r) ≡ Ok r
 report_again n r few is = named_report n (text_of_report r) (codes "dc-report 1") (flat_map act_line r.acts ++ close_line r.status r.entries (length r.acts) r.lines) refl
     ∙ from_lines n few r is.status is.entries is.lines 2 0 [] r.acts (omega arith) (omega arith) refl is.acts
+    (λ stopped. omega arith) (λ stopped. recursion_from_All (λ x. x.t < r.entries) r.acts (is.halted stopped))
 
 -- what is found, and what finds it
 pub found_clause : (n : ℕ) (text : List ℕ) (result : Result Read ReadError) → n ≤ 8 → Reads result (report_of n text) → IfOk result (λ r. text ≡ text_of_report (seen r))

@@ -1,5 +1,5 @@
 -- The report of a text, or its first faulty line.
-use Rattle.std.specs.Prelude.{◌≡◌, ◌<◌, ◌≤◌, ℕ, suc, ◌^◌, ◌==◌, ◌&&◌, ◌||◌, Bool, true, List, [], ◌∷◌, ◌++◌, Result, Ok, Err, codes, bytes_eq, if◌then◌else◌, length, nat_le, nat_lt}
+use Rattle.std.specs.Prelude.{◌≡◌, ◌<◌, ◌≤◌, ℕ, suc, ◌^◌, ◌==◌, ◌&&◌, ◌||◌, Bool, true, not, All, List, [], ◌∷◌, ◌++◌, Result, Ok, Err, codes, bytes_eq, if◌then◌else◌, length, nat_le, nat_lt}
 use Rattle.dc_limits.specs.declared.bounds.TheConstants.{ENTRIES}
 use Rattle.dc_model.specs.declared.act.Act.{Act}
 use Rattle.dc_model.specs.declared.act.Act.TheVariants.{Plain, Clock, Random, InputNone, InputNext, InputEnd, ReceiveNone, ReceiveFrom}
@@ -29,7 +29,7 @@ pub record Report : Type 0 where
 
 -- the statuses with which a run that was opened may end
 abbrev pub is_status : ℕ → Bool
-is_status status = status == 0 || status == 1 || status == 7 || status == 8 || status == 12
+is_status status = status == 0 || status == 1 || status == 7 || status == 8 || status == 12 || status == 15
 
 -- a name with a number below a bound
 abbrev pub bounded : (ℕ → Act) → ℕ → List ℕ → Result Act ReportKind
@@ -77,11 +77,15 @@ abbrev pub taken_by : ℕ → ℕ → List ℕ → List ℕ → List (List ℕ) 
 taken_by n next t p told = if is_number t && is_number p
     then act_by told >>= (λ act. admitted n next (record { t = value t; p = value p; act = act })) else Err Form
 
--- the report whose last line has these fields, where these acts stand before it
-abbrev pub closed_by : List Taken → List ℕ → List ℕ → List ℕ → List ℕ → Result Report ReportKind
-closed_by acts status entries count lines =
+-- a halted run, of status 15, took all entries up to the last act's turn: those below `next`
+abbrev pub is_past : ℕ → ℕ → ℕ → Bool
+is_past status next entries = not (status == 15) || nat_le next entries
+
+-- the report whose last line has these fields, where these acts stand before it, with turns below `next`
+abbrev pub closed_by : ℕ → List Taken → List ℕ → List ℕ → List ℕ → List ℕ → Result Report ReportKind
+closed_by next acts status entries count lines =
     if is_number status && (is_status (value status) && (is_number entries && (is_number count && is_number lines))) then
-    (if value count == length acts && (nat_le (value entries) ENTRIES && nat_le (value lines) (value entries))
+    (if value count == length acts && (nat_le (value entries) ENTRIES && (nat_le (value lines) (value entries) && is_past (value status) next (value entries)))
     then Ok (record { status = value status; entries = value entries; acts = acts; lines = value lines }) else Err Count)
     else Err Form
 
@@ -100,7 +104,7 @@ close_line_of report = Ok (CloseLine report)
 
 -- the line of these fields, behind these acts
 abbrev pub line_by : ℕ → ℕ → List Taken → List (List ℕ) → Result Line ReportKind
-line_by n next acts (name ∷ status ∷ entries ∷ count ∷ lines ∷ []) = if bytes_eq name (codes "close") then closed_by acts status entries count lines >>= close_line_of
+line_by n next acts (name ∷ status ∷ entries ∷ count ∷ lines ∷ []) = if bytes_eq name (codes "close") then closed_by next acts status entries count lines >>= close_line_of
     else (if bytes_eq name (codes "act") then taken_by n next status entries (count ∷ lines ∷ []) >>= act_line_of else Err Form)
 line_by n next acts (name ∷ t ∷ p ∷ told) = if bytes_eq name (codes "act") then taken_by n next t p told >>= act_line_of else Err Form
 line_by n next acts _ = Err Form
@@ -151,12 +155,13 @@ abbrev pub AreActs : ℕ → ℕ → List Taken → Type 0
 AreActs n next [] = Unit {0}
 AreActs n next (x ∷ acts) = (x.p < n) × IsAct n x.act × (next ≤ x.t) × (x.t < ENTRIES) × AreActs n (suc x.t) acts
 
--- a report among n processes
+-- a report among n processes; that of a halted run has marks of the entries of all its acts
 pub record IsReport (n : ℕ) (report : Report) : Type 0 where
   pub status : is_status report.status ≡ true
   pub acts : AreActs n 0 report.acts
   pub entries : report.entries ≤ ENTRIES
   pub lines : report.lines ≤ report.entries
+  pub halted : report.status ≡ 15 → All (λ x. x.t < report.entries) report.acts
 
 -- the text of a report
 abbrev pub text_of_report : Report → List ℕ

@@ -2,7 +2,7 @@ ghost use Rattle.std.specs.Prelude.{◌≡◌, ◌≤◌, ◌<◌, ◌^◌, ℕ,
 ghost use Rattle.dc_model.specs.declared.act.Taken.{Taken};
 ghost use Rattle.dc_model.specs.declared.act.Act.TheVariants.{Clock, Random};
 ghost use Rattle.dc_words.specs.Texts.{fields_of};
-ghost use Rattle.dc_report.specs.Reading.{act_by, act_by_one, act_by_three, act_by_two, bounded, input_by, is_status, line_by};
+ghost use Rattle.dc_report.specs.Reading.{act_by, act_by_one, act_by_three, act_by_two, bounded, input_by, is_past, is_status, line_by};
 ghost use Rattle.dc_report.specs.Parts.{act_fields, admitted_act, below, close_fields, closes, line_read, received_from, sent_by, status_of, summed, tallied, weighed};
 
 use crate::ReportKind;
@@ -193,7 +193,7 @@ fn act_line(n: u32, next: u32, fields: &[u8]) -> Result<Taken, ReportKind>
 fn status(text: &[u8]) -> Result<u32, ReportKind>
     ensures { result ≡ status_of text.now }
 {
-    match number(text, 13)? {
+    match number(text, 16)? {
         Some(status) if is_status(status) => Ok(status),
         _ => Err(ReportKind::Form),
     }
@@ -203,18 +203,26 @@ fn status(text: &[u8]) -> Result<u32, ReportKind>
 fn is_status(status: u32) -> bool
     ensures { result ≡ is_status status }
 {
-    status == 0 || status == 1 || status == 7 || status == 8 || status == 12
+    status == 0 || status == 1 || status == 7 || status == 8 || status == 12 || status == 15
 }
 
-/// The last line of so many acts by its counts.
+/// Whether a halted run, of status 15, took all entries up to the last act's turn: those below `next`.
+fn is_past(status: u32, next: u32, entries: u32) -> bool
+    ensures { result ≡ is_past status next entries }
+{
+    status != 15 || next <= entries
+}
+
+/// The last line of so many acts with turns below `next`, by its counts.
 fn tally(
     status: u32,
+    next: u32,
     acts: u32,
     entries: Option<u32>,
     count: Option<u32>,
     lines: Option<u32>,
 ) -> Result<Closing, ReportKind>
-    ensures { result ≡ tallied status acts entries count lines }
+    ensures { result ≡ tallied status next acts entries count lines }
 {
     let Some(entries) = entries else {
         return Err(ReportKind::Count);
@@ -225,7 +233,7 @@ fn tally(
     let Some(lines) = lines else {
         return Err(ReportKind::Count);
     };
-    if count == acts && lines <= entries {
+    if count == acts && lines <= entries && is_past(status, next, entries) {
         return Ok(Closing {
             status,
             entries,
@@ -235,27 +243,28 @@ fn tally(
     Err(ReportKind::Count)
 }
 
-/// The last line of so many acts by its fields.
+/// The last line of so many acts with turns below `next`, by its fields.
 fn sum(
+    next: u32,
     acts: u32,
     first: &[u8],
     entries: &[u8],
     count: &[u8],
     lines: &[u8],
 ) -> Result<Closing, ReportKind>
-    ensures { result ≡ summed acts first.now entries.now count.now lines.now }
+    ensures { result ≡ summed next acts first.now entries.now count.now lines.now }
 {
     let status = status(first)?;
     let entries = number(entries, ENTRIES + 1)?;
     let count = number(count, ENTRIES + 1)?;
     let lines = number(lines, ENTRIES + 1)?;
-    tally(status, acts, entries, count, lines)
+    tally(status, next, acts, entries, count, lines)
 }
 
-/// The last line of so many acts, behind its name.
-fn close_line(acts: u32, fields: &[u8]) -> Result<Closing, ReportKind>
+/// The last line of so many acts with turns below `next`, behind its name.
+fn close_line(next: u32, acts: u32, fields: &[u8]) -> Result<Closing, ReportKind>
     requires { acts ≤ ENTRIES }
-    ensures { (list : List Taken) → length list ≡ acts → closes list result ≡ close_fields list (fields_of 32 fields.now) }
+    ensures { (list : List Taken) → length list ≡ acts → closes list result ≡ close_fields next list (fields_of 32 fields.now) }
 {
     let Some((status, rest)) = first_field(b' ', fields) else {
         return Err(ReportKind::Form);
@@ -268,7 +277,7 @@ fn close_line(acts: u32, fields: &[u8]) -> Result<Closing, ReportKind>
     };
     match first_field(b' ', lines) {
         Some(_) => Err(ReportKind::Form),
-        None => sum(acts, status, entries, count, lines),
+        None => sum(next, acts, status, entries, count, lines),
     }
 }
 
@@ -282,7 +291,7 @@ pub fn read_line(n: u32, next: u32, acts: u32, line: &[u8]) -> Result<ReportLine
         return Err(ReportKind::Form);
     };
     if name == b"close".as_slice() {
-        return Ok(ReportLine::Close(close_line(acts, fields)?));
+        return Ok(ReportLine::Close(close_line(next, acts, fields)?));
     }
     if name == b"act".as_slice() {
         return Ok(ReportLine::Act(act_line(n, next, fields)?));

@@ -10,11 +10,12 @@ use Rattle.dc_command.specs.declared.command.CommandFault.TheVariants as command
 use Rattle.dc_run.specs.Assembling.{program_in}
 use Rattle.dc_run.specs.Auditing.{journal_in}
 use Rattle.dc_run.specs.Checking.{checked_in}
-use Rattle.dc_command.specs.Command.{Names, Order, asked_of}
-use Rattle.dc_command.specs.Command.Asked.{ToRun, ToCheck, ToAssemble, ToAudit}
+use Rattle.dc_command.specs.Command.{Halted, Names, Order, asked_of}
+use Rattle.dc_command.specs.Command.Asked.{ToRun, ToCheck, ToAssemble, ToAudit, ToResume}
 use Rattle.dc_run.specs.Commands.{Asks, IfAudit, IsExact, IsOpenedFor, Work, may_end, unasked_by, work_of}
-use Rattle.dc_run.specs.Commands.Work.{Run, Check, Assembly, Audit}
-use Rattle.dc_run.specs.Opening.{Files, AsksToRun, opening_of}
+use Rattle.dc_run.specs.Commands.Work.{Run, Check, Assembly, Audit, Resume}
+use Rattle.dc_run.specs.Opening.{Files, AsksToRun, Task, opening_of, task_in}
+use Rattle.dc_run.specs.Resuming.{AsksToResume, Going, going_in}
 use Rattle.dc_run.specs.Refusals.{as_verdict}
 use Rattle.dc_run.specs.Settings.{has_ended, may_have_run, was_opened}
 use Rattle.dc_run.specs.declared.verdict.Verdict.{Verdict}
@@ -26,7 +27,17 @@ use Rattle.dc_run.proofs.Works.{exact_named, for_known, opened_may, opened_named
 pub run_exact : (known : Option Files) (words : List (String Global)) (order : Order) → asked_of words ≡ Some (ToRun order) → (v refusal : Verdict)
     → IfSome known (λ files. IsExact v refusal (as_verdict (opening_of files order))) → IfSome known (λ files. IsExact v refusal (work_of files words))
 run_exact None words order asked v refusal is = tt
-run_exact (Some files) words order asked v refusal is = rw asked (exact_named (Run order.ledger) v refusal (as_verdict (opening_of files order)) is)
+run_exact (Some files) words order asked v refusal is = rw asked (exact_named (λ s. Run (task_in files order s)) v refusal (as_verdict (opening_of files order)) is)
+
+pub resume_exact : (known : Option Files) (words : List (String Global)) (names : Halted) → asked_of words ≡ Some (ToResume names) → (v refusal : Verdict)
+    → IfSome known (λ files. IsExact v refusal (going_in files names)) → IfSome known (λ files. IsExact v refusal (work_of files words))
+resume_exact None words names asked v refusal is = tt
+resume_exact (Some files) words names asked v refusal is = rw asked (exact_named Resume v refusal (going_in files names) is)
+
+pub resume_asks : (known : Option Files) (words : List (String Global)) (names : Halted) → asked_of words ≡ Some (ToResume names) → (v : Verdict) (which : Which)
+    → IfSome known (λ files. v ≡ LibraryFault which → AsksToResume files names which) → IfSome known (λ files. v ≡ LibraryFault which → Asks files words which)
+resume_asks None words names asked v which asks = tt
+resume_asks (Some files) words names asked v which asks = λ is. rw asked (asks is)
 
 pub assembly_exact : (known : Option Files) (words : List (String Global)) (source : List ℕ) → asked_of words ≡ Some (ToAssemble source) → (v refusal : Verdict)
     → IfSome known (λ files. IsExact v refusal (program_in files source)) → IfSome known (λ files. IsExact v refusal (work_of files words))
@@ -65,12 +76,22 @@ audit_says (Some files) words journal P asked is = rw asked (by (journal_in file
 
 -- a run that was opened is the words' work, and no other
 pub run_is_work : (known : Option Files) (words : List (String Global)) (order : Order) (v : Verdict) → asked_of words ≡ Some (ToRun order) → was_opened v ≡ true
-    → IfSome known (λ files. IsOpenedFor (λ setting u. may_have_run u) v (as_verdict (opening_of files order))) → (P : Work → Type 0) → ((setting : Setting) → P (Run order.ledger setting)) → IfSome known (λ files. IsOkAnd (work_of files words) P)
+    → IfSome known (λ files. IsOpenedFor (λ setting u. may_have_run u) v (as_verdict (opening_of files order))) → (P : Work → Type 0) → ((task : Task) → P (Run task)) → IfSome known (λ files. IsOkAnd (work_of files words) P)
 run_is_work None words order v asked opened is P holds = tt
 run_is_work (Some files) words order v asked opened is P holds = rw asked (by (as_verdict (opening_of files order)) is)
   where
-    by : (told : Result Setting Verdict) → IsOpenedFor (λ setting u. may_have_run u) v told → IsOkAnd (told >>= (λ setting. Ok (Run order.ledger setting))) P
-    by (Ok setting) ends = holds setting
+    by : (told : Result Setting Verdict) → IsOpenedFor (λ setting u. may_have_run u) v told → IsOkAnd (told >>= (λ setting. Ok (Run (task_in files order setting)))) P
+    by (Ok setting) ends = holds (task_in files order setting)
+    by (Err refusal) idle = absurd (true≢false (sym (opened_may v opened) ∙ idle))
+
+-- so is a run that goes on
+pub resume_is_work : (known : Option Files) (words : List (String Global)) (names : Halted) (v : Verdict) → asked_of words ≡ Some (ToResume names) → was_opened v ≡ true
+    → IfSome known (λ files. IsOpenedFor (λ going u. may_have_run u) v (going_in files names)) → (P : Work → Type 0) → ((going : Going) → P (Resume going)) → IfSome known (λ files. IsOkAnd (work_of files words) P)
+resume_is_work None words names v asked opened is P holds = tt
+resume_is_work (Some files) words names v asked opened is P holds = rw asked (by (going_in files names) is)
+  where
+    by : (told : Result Going Verdict) → IsOpenedFor (λ going u. may_have_run u) v told → IsOkAnd (told >>= (λ going. Ok (Resume going))) P
+    by (Ok going) ends = holds going
     by (Err refusal) idle = absurd (true≢false (sym (opened_may v opened) ∙ idle))
 
 -- words that ask for nothing, or no memory to read them
@@ -98,7 +119,12 @@ module _ (words : List (String Global)) (v : Verdict) where
   pub run_opened : (known : Option Files) (order : Order) → asked_of words ≡ Some (ToRun order) → IfSome known (λ files. IsOpenedFor (λ setting u. may_have_run u) v (as_verdict (opening_of files order)))
       → IfSome known (λ files. IsOpenedFor may_end v (work_of files words))
   run_opened None order asked is = tt
-  run_opened (Some files) order asked is = rw asked (opened_named (Run order.ledger) (λ setting u. may_have_run u) may_end v (λ setting. refl) (as_verdict (opening_of files order)) is)
+  run_opened (Some files) order asked is = rw asked (opened_named (λ s. Run (task_in files order s)) (λ setting u. may_have_run u) may_end v (λ setting. refl) (as_verdict (opening_of files order)) is)
+
+  pub resume_opened : (known : Option Files) (names : Halted) → asked_of words ≡ Some (ToResume names) → IfSome known (λ files. IsOpenedFor (λ going u. may_have_run u) v (going_in files names))
+      → IfSome known (λ files. IsOpenedFor may_end v (work_of files words))
+  resume_opened None names asked is = tt
+  resume_opened (Some files) names asked is = rw asked (opened_named Resume (λ going u. may_have_run u) may_end v (λ going. refl) (going_in files names) is)
 
   pub check_opened : (known : Option Files) (names : Names) → asked_of words ≡ Some (ToCheck names) → IfSome known (λ files. IsOpenedFor (λ checked u. was_opened u) v (checked_in files names))
       → IfSome known (λ files. IsOpenedFor may_end v (work_of files words))

@@ -3,7 +3,9 @@ mod Commands
 mod Openings
 mod Audits
 mod Checks
+mod Halts
 mod Headlines
+mod Goings
 mod Ends
 mod Given
 mod Passed

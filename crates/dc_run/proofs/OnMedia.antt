@@ -1,8 +1,8 @@
 -- What is said of the medium of a plan, by what it was opened with.
 use Rattle.std.proofs.Common.{◌≡◌, ◌⊎◌, inl, inr, ℕ, List, length, Option, None, Some, IfSome, String, refl, subst, sym}
 use Rattle.std.specs.declared.alloc.Global.{Global}
-use Rattle.dc_command.specs.Command.{Order, asked_of}
-use Rattle.dc_command.specs.Command.Asked.{ToRun}
+use Rattle.dc_command.specs.Command.{Halted, Order, asked_of}
+use Rattle.dc_command.specs.Command.Asked.{ToResume, ToRun}
 use Rattle.dc_media.specs.Causes.{Rose}
 use Rattle.dc_media.specs.declared.disks.Disks as disks
 use Rattle.dc_media.specs.declared.keeps.Keeps as keeps
@@ -36,6 +36,11 @@ each_so (Some files) by P all = all (by files)
 pub medium_asked : (known : Option Files) (words : List (String Global)) (order : Order) (P : Medium → Type 0) → asked_of words ≡ Some (ToRun order) → IfSome known (λ files. P (medium_at files order.plan)) → IfSome known (λ files. P (medium_of files words))
 medium_asked None words order P asked is = tt
 medium_asked (Some files) words order P asked is = rw asked is
+
+-- of words that ask to go on it is that of disks
+pub disk_asked : (known : Option Files) (words : List (String Global)) (names : Halted) (P : Medium → Type 0) → asked_of words ≡ Some (ToResume names) → P Disk → IfSome known (λ files. P (medium_of files words))
+disk_asked None words names P asked is = tt
+disk_asked (Some files) words names P asked is = rw asked is
 
 module _ {K D : Type 0} where
   -- nothing was called

@@ -50,8 +50,13 @@ use Rattle.dc_shows.specs.Typed.{IsGivenRun}
 use Rattle.dc_shows.proofs.Passes.{listed, shown}
 use Rattle.dc_audit.specs.declared.journal.Line.{Line}
 use Rattle.dc_command.specs.declared.command.Ledger.TheVariants as ledger
-use Rattle.dc_run.specs.Headline.{IsReported, Loan, Reports, SinkCourse, account_of, is_used_up, journal_or_report, ledger_text, verdict_at}
-use Rattle.dc_run.specs.Opening.{guests}
+use Rattle.dc_run.specs.Headline.{IsReported, Loan, Reports, SinkCourse, account_of, is_used_up, journal_or_report, keeps_journal, ledger_text, unreported, used_up_at, verdict_at}
+use Rattle.dc_run.specs.Opening.{Task, guests, is_halted, part_of}
+use Rattle.dc_run.proofs.Halts.{drawn_more, drawn_within, entries_few, turns_run}
+use Rattle.dc_run.proofs.Headlines.{not_used, used_said}
+use Rattle.dc_model.specs.Drawn.{Drawn}
+use Rattle.dc_model.specs.declared.act.Taken.{Taken}
+use Rattle.dc_recovery.specs.Unstopped.{AreTurns}
 use Rattle.dc_run.specs.Outcomes.{status_of}
 use Rattle.dc_run.specs.Passing.{PassesFor, WritesSaved}
 use Rattle.dc_run.specs.Settings.{IsCalm}
@@ -89,23 +94,30 @@ there protocol p k schedule None at part = absurd (let never : ⊥ = cc in never
 there protocol p k schedule (Some e) at part = slice_get_within schedule k e at
 
 -- a run of which no line was cut off
-module _ (setting : Setting) (given : IsGivenRun setting.images setting.inputs setting.schedule) (run : Account) (last : Last) (up : ℕ → Bool) (core : Core) (before after : Option (List ℕ))
-    (headline : IsHeadline setting run last up core before after) (whole : torn_at last ≡ []) where
+module _ (task : Task) (given : IsGivenRun task.setting.images task.setting.inputs task.setting.schedule) (run : Account) (last : Last) (up : ℕ → Bool) (core : Core) (before after : Option (List ℕ))
+    (headline : IsHeadline (part_of task) run last up core before after) (whole : torn_at last ≡ []) where
+  drawn : Drawn (length task.setting.images) task.setting.schedule run.acts
+  drawn = drawn_more (length task.setting.images) task.halt task.setting.schedule 0 run.acts headline.acts_drawn
+
   thinned : thin headline.whole ≡ headline.world.visibles
   thinned = ap thin (sym (append-nil headline.whole)) ∙ sym (ap (λ torn. thin (headline.whole ++ torn)) whole) ∙ headline.lines_shown.thinned
 
   agree : RepeatsAgree (reverse headline.whole)
   agree = subst (λ (l : List Visible). RepeatsAgree (reverse l)) (append-nil headline.whole) (subst (λ torn. RepeatsAgree (reverse (headline.whole ++ torn))) whole headline.repeats_equal.agree)
 
-  pub output_passes : finding_of (guests setting) setting.schedule run.acts (text_of headline.whole) ≡ Passes (length headline.world.visibles)
-  output_passes = shown setting.images setting.inputs setting.schedule given run.acts headline.world headline.whole headline.acts_drawn headline.acts_run thinned agree
+  pub output_passes : finding_of (guests task.setting) task.setting.schedule run.acts (text_of headline.whole) ≡ Passes (length headline.world.visibles)
+  output_passes = shown task.setting.images task.setting.inputs task.setting.schedule given run.acts headline.world headline.whole drawn headline.acts_run thinned agree
 
-  pub report_passes : (status : ℕ) → is_status status ≡ true → length run.marks ≤ ENTRIES → run.lines ≤ length run.marks
-      → report_of (length setting.images) (report_text status (length run.marks) run.acts run.lines) ≡ Ok (record { status = status; entries = length run.marks; acts = run.acts; lines = run.lines })
-  report_passes status is few lines = listed setting.images setting.inputs setting.schedule given (record { status = status; entries = length run.marks; acts = run.acts; lines = run.lines }) headline.world headline.acts_drawn headline.acts_run is few lines
+  -- where its entries are used up, its marks reach all its acts
+  reached : turn_after (part_of task) run.marks ≡ length (part_of task).schedule → All (λ x. x.t < length run.marks) run.acts
+  reached used = subst (λ (n : ℕ). All (λ (x : Taken). x.t < n) run.acts) (let zero = headline.from_is in omega (arith, used, zero)) (drawn_within (length task.setting.images) (part_of task).schedule 0 run.acts headline.acts_drawn)
+
+  pub report_passes : (status : ℕ) → is_status status ≡ true → length run.marks ≤ ENTRIES → run.lines ≤ length run.marks → (status ≡ 15 → turn_after (part_of task) run.marks ≡ length (part_of task).schedule)
+      → report_of (length task.setting.images) (report_text status (length run.marks) run.acts run.lines) ≡ Ok (record { status = status; entries = length run.marks; acts = run.acts; lines = run.lines })
+  report_passes status is few lines halted = listed task.setting.images task.setting.inputs task.setting.schedule given (record { status = status; entries = length run.marks; acts = run.acts; lines = run.lines }) headline.world drawn headline.acts_run is few lines (λ e. reached (halted e))
 
   -- no more lines than notes
-  lines_noted : run.lines ≤ length (numbers (notes setting.schedule (marks_at last run.marks)))
+  lines_noted : run.lines ≤ length (numbers (notes (part_of task).schedule (marks_at last run.marks)))
   lines_noted = let numbered = ap (λ l. length l) headline.repeats_equal.numbered in
       let long = length-map {B = ℕ × ℕ} (reverse (headline.whole ++ torn_at last)) (λ x. (x.p, x.k)) in
       let back = length-reverse (headline.whole ++ torn_at last) in
@@ -114,9 +126,10 @@ module _ (setting : Setting) (given : IsGivenRun setting.images setting.inputs s
       omega (arith, numbered, long, back, none, count)
 
 -- by how it ended
-record EndsWhole (setting : Setting) (run : Account) (last : Last) (e : Ending) : Type 0 where
+record EndsWhole (setting : Setting) (run : Account) (last : Last) (halted : Bool) (e : Ending) : Type 0 where
   whole : torn_at last ≡ []
-  status : is_status (status_of (verdict_at e)) ≡ true
+  status : is_status (status_of (verdict_at halted e)) ≡ true
+  used : status_of (verdict_at halted e) ≡ 15 → turn_after setting run.marks ≡ length setting.schedule
   few : length run.marks ≤ length setting.schedule
   notes_few : length (numbers (notes setting.schedule (marks_at last run.marks))) ≤ length run.marks
 
@@ -127,28 +140,34 @@ notes_broken : (schedule : List Entry) (marks : List Mark) → length (numbers (
 notes_broken schedule marks = let h = few_notes schedule (reverse marks) in let l = length-reverse marks in
     let same = ap (λ ns. length (numbers ns)) (no_note (slice_get schedule (length (reverse marks))) (notes schedule (reverse marks))) in omega (arith, h, l, same)
 
-ends_whole : (setting : Setting) (run : Account) (last : Last) (core : Core) (e : Ending) → IsEnding setting e run.marks last core → (e ≡ ending.Sink → ⊥) → ((p : ℕ) → e ≡ ending.Stopped p → ⊥) → EndsWhole setting run last e
-ends_whole setting run last core ending.Done is not_sink not_stopped = record {
-  whole = ap torn_at is.0.1;
-  status = refl;
-  few = (let h = is.0.0 in omega (arith, h));
-  notes_few = subst (λ l. length (numbers (notes setting.schedule (marks_at l run.marks))) ≤ length run.marks) (sym is.0.1) (notes_whole setting.schedule run.marks);
+-- the statuses of entries that are used up
+used_status : (halted : Bool) (stood : Verdict) → is_status (status_of stood) ≡ true → is_status (status_of (used_up_at halted stood)) ≡ true
+used_status true stood is = refl
+used_status false stood is = is
+
+-- one whose entries are used up
+ends_used_up : (setting : Setting) (run : Account) (last : Last) (halted : Bool) (e : Ending) → is_status (status_of (verdict_at halted e)) ≡ true → (turn_after setting run.marks ≡ length setting.schedule) × (last ≡ Whole) → EndsWhole setting run last halted e
+ends_used_up setting run last halted e is used = record {
+  whole = ap torn_at used.1;
+  status = is;
+  used = λ same. used.0;
+  few = (let h = used.0 in omega (arith, h));
+  notes_few = subst (λ l. length (numbers (notes setting.schedule (marks_at l run.marks))) ≤ length run.marks) (sym used.1) (notes_whole setting.schedule run.marks);
 }
-ends_whole setting run last core ending.Unfinished is not_sink not_stopped = record {
-  whole = ap torn_at is.0.1;
-  status = refl;
-  few = (let h = is.0.0 in omega (arith, h));
-  notes_few = subst (λ l. length (numbers (notes setting.schedule (marks_at l run.marks))) ≤ length run.marks) (sym is.0.1) (notes_whole setting.schedule run.marks);
-}
-ends_whole setting run last core (ending.Device p) is not_sink not_stopped = record {
+
+ends_whole : (setting : Setting) (run : Account) (last : Last) (core : Core) (halted : Bool) (e : Ending) → IsEnding setting e run.marks last core → (e ≡ ending.Sink → ⊥) → ((p : ℕ) → e ≡ ending.Stopped p → ⊥) → EndsWhole setting run last halted e
+ends_whole setting run last core halted ending.Done is not_sink not_stopped = ends_used_up setting run last halted ending.Done (used_status halted Done refl) is.0
+ends_whole setting run last core halted ending.Unfinished is not_sink not_stopped = ends_used_up setting run last halted ending.Unfinished (used_status halted Unfinished refl) is.0
+ends_whole setting run last core halted (ending.Device p) is not_sink not_stopped = record {
   whole = ap torn_at is.0;
   status = refl;
+  used = λ same. absurd (omega (arith, same));
   few = (let h = there setting.protocol p (turn_after setting run.marks) setting.schedule (slice_get setting.schedule (turn_after setting run.marks)) refl is.1 in omega (arith, h));
   notes_few = subst (λ l. length (numbers (notes setting.schedule (marks_at l run.marks))) ≤ length run.marks) (sym is.0) (notes_broken setting.schedule run.marks);
 }
-ends_whole setting run last core (ending.Store p why) is not_sink not_stopped = absurd is
-ends_whole setting run last core ending.Sink is not_sink not_stopped = absurd (not_sink refl)
-ends_whole setting run last core (ending.Stopped p) is not_sink not_stopped = absurd (not_stopped p refl)
+ends_whole setting run last core halted (ending.Store p why) is not_sink not_stopped = absurd is
+ends_whole setting run last core halted ending.Sink is not_sink not_stopped = absurd (not_sink refl)
+ends_whole setting run last core halted (ending.Stopped p) is not_sink not_stopped = absurd (not_stopped p refl)
 
 -- what stands on a sink that held nothing
 stands_on : (before after : Option (List ℕ)) (text now : List ℕ) → before ≡ Some [] → after ≡ Some now → Becomes before after (λ x y. y ≡ x ++ text) → now ≡ text
@@ -174,13 +193,16 @@ reported_whole : (stood v : Verdict) (text : List ℕ) (sink : SinkCourse) → I
 reported_whole stood v text sink calm (inl whole) = whole.1
 reported_whole stood v text sink calm (inr cut) = absurd (no_rise sink.faults_before sink.faults_after calm cut.1)
 
-module _ {S : Type 0} (on : Devices S) (setting : Setting) (o : Outcome) (lent : Loan S) (out report : SinkCourse) (given : IsGivenRun setting.images setting.inputs setting.schedule)
-    (is : IsReported ledger.Report on setting o lent out report) (tells : on.tell (length setting.images) lent.before lent.after) (calm : IsCalm out.faults_before out.faults_after)
+module _ {S : Type 0} (on : Devices S) (task : Task) (report_it : task.ledger ≡ ledger.Report) (o : Outcome) (lent : Loan S) (out report : SinkCourse) (given : IsGivenRun task.setting.images task.setting.inputs task.setting.schedule)
+    (is : IsReported task on o lent out report) (tells : on.tell (length task.setting.images) lent.before lent.after) (calm : IsCalm out.faults_before out.faults_after)
     (calm' : IsCalm report.faults_before report.faults_after) (sink : o.verdict ≡ SinkFault outlet.Out → Rose out.faults_before out.faults_after) (unstopped : (p : ℕ) → o.verdict ≡ DeviceStopped p → ⊥)
     (empty : out.before ≡ Some []) (empty' : report.before ≡ Some []) where
+  abbrev halted : Bool
+  halted = is_halted task
+
   -- what was written at its end, where it ended so
-  told_at : (e : Ending) → is.ending ≡ e → Reports (verdict_at e) o.verdict (ledger_text (length setting.images) (verdict_at e) (account_of o is.journal)) report
-  told_at e same = subst (λ x. Reports (verdict_at x) o.verdict (ledger_text (length setting.images) (verdict_at x) (account_of o is.journal)) report) same is.report_told
+  told_at : (e : Ending) → is.ending ≡ e → Reports (verdict_at halted e) o.verdict (ledger_text (length task.setting.images) (verdict_at halted e) (account_of o is.journal)) report
+  told_at e same = subst (λ x. Reports (verdict_at halted x) o.verdict (ledger_text (length task.setting.images) (verdict_at halted x) (account_of o is.journal)) report) same is.report_told
 
   not_sink : is.ending ≡ ending.Sink → ⊥
   not_sink e = no_rise out.faults_before out.faults_after calm (sink (sink_said o.verdict _ report (told_at ending.Sink e)))
@@ -189,83 +211,87 @@ module _ {S : Type 0} (on : Devices S) (setting : Setting) (o : Outcome) (lent :
   not_stopped p e = unstopped p (stopped_said p o.verdict _ report (told_at (ending.Stopped p) e))
 
   -- it is the report
-  report_is : ledger_text (length setting.images) (verdict_at is.ending) (account_of o is.journal) ≡ report_text (status_of (verdict_at is.ending)) (length o.marks.items) o.acts.items o.lines
-  report_is = ap (λ j. journal_or_report j (length setting.images) (verdict_at is.ending) (account_of o is.journal)) (none_is is.journal is.journal_is)
+  report_is : ledger_text (length task.setting.images) (verdict_at halted is.ending) (account_of o is.journal) ≡ report_text (status_of (verdict_at halted is.ending)) (length o.marks.items) o.acts.items o.lines
+  report_is = ap (λ j. journal_or_report j (length task.setting.images) (verdict_at halted is.ending) (account_of o is.journal)) (none_is is.journal (is.journal_is ∙ ap keeps_journal report_it))
 
-  pub run_passes : (shown' listed' : List ℕ) → out.after ≡ Some shown' → report.after ≡ Some listed' → PassesFor setting listed' shown' o.acts.items
+  pub run_passes : (shown' listed' : List ℕ) → out.after ≡ Some shown' → report.after ≡ Some listed' → PassesFor task.setting listed' shown' o.acts.items
   run_passes shown' listed' at at' =
       let kept = is.kept tells in
       let h = kept.headline in
-      let ends = ends_whole setting (account_of o is.journal) kept.last kept.core is.ending kept.ending_is not_sink not_stopped in
-      let few = ends.few in let most = given.schedule_is.0 in
-      let lines = lines_noted setting given (account_of o is.journal) kept.last kept.up kept.core out.before out.after h ends.whole in let noted = ends.notes_few in
+      let ends = ends_whole (part_of task) (account_of o is.journal) kept.last kept.core halted is.ending kept.ending_is not_sink not_stopped in
+      let few = ends.few in let most = given.schedule_is.0 in let part = entries_few task.halt task.setting.schedule in
+      let lines = lines_noted task given (account_of o is.journal) kept.last kept.up kept.core out.before out.after h ends.whole in let noted = ends.notes_few in
       let text = shows_on h.whole (torn_at kept.last) out.before out.after shown' ends.whole empty at h.lines_shown.written in
-      let list = stands_on report.before report.after _ listed' empty' at' (reported_whole (verdict_at is.ending) o.verdict _ report calm' is.report_told) ∙ report_is in
-      let reads = report_passes setting given (account_of o is.journal) kept.last kept.up kept.core out.before out.after h ends.whole (status_of (verdict_at is.ending)) ends.status (omega (arith, few, most)) (omega (arith, lines, noted)) in
-      let passes = output_passes setting given (account_of o is.journal) kept.last kept.up kept.core out.before out.after h ends.whole in
+      let list = stands_on report.before report.after _ listed' empty' at' (reported_whole (verdict_at halted is.ending) o.verdict _ report calm' is.report_told) ∙ report_is in
+      let reads = report_passes task given (account_of o is.journal) kept.last kept.up kept.core out.before out.after h ends.whole (status_of (verdict_at halted is.ending)) ends.status (omega (arith, few, most, part)) (omega (arith, lines, noted)) ends.used in
+      let passes = output_passes task given (account_of o is.journal) kept.last kept.up kept.core out.before out.after h ends.whole in
       λ files names opens here here'. (length h.world.visibles, rw (opens, here, here', list, reads, text, passes) refl)
 
+abbrev is_of_output : Verdict → Bool
+is_of_output (SinkFault outlet.Out) = true
+is_of_output _ = false
+
+abbrev is_of_device : Verdict → Bool
+is_of_device (DeviceFault p) = true
+is_of_device _ = false
+
+abbrev is_of_stop : Verdict → Bool
+is_of_stop (DeviceStopped p) = true
+is_of_stop _ = false
+
+-- a verdict that stands whether the report was written or not
+same_said : (stood v : Verdict) (text : List ℕ) (sink : SinkCourse) → unreported stood ≡ stood → Reports stood v text sink → v ≡ stood
+same_said stood v text sink same (inl whole) = whole.0
+same_said stood v text sink same (inr cut) = cut.0 ∙ same
+
+-- so it is none that a test tells from it
+not_said : (f : Verdict → Bool) (stood v : Verdict) → f stood ≡ false → v ≡ stood → f v ≡ true → ⊥
+not_said f stood v other e is = true≢false (sym is ∙ ap f e ∙ other)
+
 -- the run ended by its sink where the call says so
-pub sink_ending : (e : Ending) (v : Verdict) (text : List ℕ) (sink : SinkCourse) → Reports (verdict_at e) v text sink → v ≡ SinkFault outlet.Out → e ≡ ending.Sink
-sink_ending ending.Done v text sink (inl whole) e = absurd (let no_way : Done ≡ SinkFault outlet.Out = sym whole.0 ∙ e in let never : ⊥ = cc in never)
-sink_ending ending.Done v text sink (inr cut) e = absurd (let no_way : SinkFault outlet.Report ≡ SinkFault outlet.Out = sym cut.0 ∙ e in let never : ⊥ = cc in never)
-sink_ending ending.Unfinished v text sink (inl whole) e = absurd (let no_way : Unfinished ≡ SinkFault outlet.Out = sym whole.0 ∙ e in let never : ⊥ = cc in never)
-sink_ending ending.Unfinished v text sink (inr cut) e = absurd (let no_way : SinkFault outlet.Report ≡ SinkFault outlet.Out = sym cut.0 ∙ e in let never : ⊥ = cc in never)
-sink_ending (ending.Device p) v text sink (inl whole) e = absurd (let no_way : DeviceFault p ≡ SinkFault outlet.Out = sym whole.0 ∙ e in let never : ⊥ = cc in never)
-sink_ending (ending.Device p) v text sink (inr cut) e = absurd (let no_way : DeviceFault p ≡ SinkFault outlet.Out = sym cut.0 ∙ e in let never : ⊥ = cc in never)
-sink_ending (ending.Store p why) v text sink (inl whole) e = absurd (let no_way : StoreRefused p why ≡ SinkFault outlet.Out = sym whole.0 ∙ e in let never : ⊥ = cc in never)
-sink_ending (ending.Store p why) v text sink (inr cut) e = absurd (let no_way : StoreRefused p why ≡ SinkFault outlet.Out = sym cut.0 ∙ e in let never : ⊥ = cc in never)
-sink_ending ending.Sink v text sink reports e = refl
-sink_ending (ending.Stopped q) v text sink (inl whole) e = absurd (let no_way : DeviceStopped q ≡ SinkFault outlet.Out = sym whole.0 ∙ e in let never : ⊥ = cc in never)
-sink_ending (ending.Stopped q) v text sink (inr cut) e = absurd (let no_way : DeviceStopped q ≡ SinkFault outlet.Out = sym cut.0 ∙ e in let never : ⊥ = cc in never)
+pub sink_ending : (halted : Bool) (e : Ending) (v : Verdict) (text : List ℕ) (sink : SinkCourse) → Reports (verdict_at halted e) v text sink → v ≡ SinkFault outlet.Out → e ≡ ending.Sink
+sink_ending halted ending.Done v text sink reports e = absurd (not_used is_of_output Done v refl refl refl (used_said halted Done v text sink refl reports) (ap is_of_output e))
+sink_ending halted ending.Unfinished v text sink reports e = absurd (not_used is_of_output Unfinished v refl refl refl (used_said halted Unfinished v text sink refl reports) (ap is_of_output e))
+sink_ending halted (ending.Device p) v text sink reports e = absurd (not_said is_of_output (DeviceFault p) v refl (same_said (DeviceFault p) v text sink refl reports) (ap is_of_output e))
+sink_ending halted (ending.Store p why) v text sink reports e = absurd (not_said is_of_output (StoreRefused p why) v refl (same_said (StoreRefused p why) v text sink refl reports) (ap is_of_output e))
+sink_ending halted ending.Sink v text sink reports e = refl
+sink_ending halted (ending.Stopped q) v text sink reports e = absurd (not_said is_of_output (DeviceStopped q) v refl (same_said (DeviceStopped q) v text sink refl reports) (ap is_of_output e))
 
 -- or by a device
-pub device_ending : (e : Ending) (v : Verdict) (text : List ℕ) (sink : SinkCourse) (p : ℕ) → Reports (verdict_at e) v text sink → v ≡ DeviceFault p → e ≡ ending.Device p
-device_ending ending.Done v text sink p (inl whole) e = absurd (let no_way : Done ≡ DeviceFault p = sym whole.0 ∙ e in let never : ⊥ = cc in never)
-device_ending ending.Done v text sink p (inr cut) e = absurd (let no_way : SinkFault outlet.Report ≡ DeviceFault p = sym cut.0 ∙ e in let never : ⊥ = cc in never)
-device_ending ending.Unfinished v text sink p (inl whole) e = absurd (let no_way : Unfinished ≡ DeviceFault p = sym whole.0 ∙ e in let never : ⊥ = cc in never)
-device_ending ending.Unfinished v text sink p (inr cut) e = absurd (let no_way : SinkFault outlet.Report ≡ DeviceFault p = sym cut.0 ∙ e in let never : ⊥ = cc in never)
-device_ending (ending.Device q) v text sink p (inl whole) e = let same : DeviceFault q ≡ DeviceFault p = sym whole.0 ∙ e in let is : q ≡ p = cc in ap ending.Device is
-device_ending (ending.Device q) v text sink p (inr cut) e = let same : DeviceFault q ≡ DeviceFault p = sym cut.0 ∙ e in let is : q ≡ p = cc in ap ending.Device is
-device_ending (ending.Store q why) v text sink p (inl whole) e = absurd (let no_way : StoreRefused q why ≡ DeviceFault p = sym whole.0 ∙ e in let never : ⊥ = cc in never)
-device_ending (ending.Store q why) v text sink p (inr cut) e = absurd (let no_way : StoreRefused q why ≡ DeviceFault p = sym cut.0 ∙ e in let never : ⊥ = cc in never)
-device_ending ending.Sink v text sink p (inl whole) e = absurd (let no_way : SinkFault outlet.Out ≡ DeviceFault p = sym whole.0 ∙ e in let never : ⊥ = cc in never)
-device_ending ending.Sink v text sink p (inr cut) e = absurd (let no_way : SinkFault outlet.Out ≡ DeviceFault p = sym cut.0 ∙ e in let never : ⊥ = cc in never)
-device_ending (ending.Stopped q) v text sink p (inl whole) e = absurd (let no_way : DeviceStopped q ≡ DeviceFault p = sym whole.0 ∙ e in let never : ⊥ = cc in never)
-device_ending (ending.Stopped q) v text sink p (inr cut) e = absurd (let no_way : DeviceStopped q ≡ DeviceFault p = sym cut.0 ∙ e in let never : ⊥ = cc in never)
+pub device_ending : (halted : Bool) (e : Ending) (v : Verdict) (text : List ℕ) (sink : SinkCourse) (p : ℕ) → Reports (verdict_at halted e) v text sink → v ≡ DeviceFault p → e ≡ ending.Device p
+device_ending halted ending.Done v text sink p reports e = absurd (not_used is_of_device Done v refl refl refl (used_said halted Done v text sink refl reports) (ap is_of_device e))
+device_ending halted ending.Unfinished v text sink p reports e = absurd (not_used is_of_device Unfinished v refl refl refl (used_said halted Unfinished v text sink refl reports) (ap is_of_device e))
+device_ending halted (ending.Device q) v text sink p reports e = let same : DeviceFault q ≡ DeviceFault p = sym (same_said (DeviceFault q) v text sink refl reports) ∙ e in let is : q ≡ p = cc in ap ending.Device is
+device_ending halted (ending.Store q why) v text sink p reports e = absurd (not_said is_of_device (StoreRefused q why) v refl (same_said (StoreRefused q why) v text sink refl reports) (ap is_of_device e))
+device_ending halted ending.Sink v text sink p reports e = absurd (not_said is_of_device (SinkFault outlet.Out) v refl (same_said (SinkFault outlet.Out) v text sink refl reports) (ap is_of_device e))
+device_ending halted (ending.Stopped q) v text sink p reports e = absurd (not_said is_of_device (DeviceStopped q) v refl (same_said (DeviceStopped q) v text sink refl reports) (ap is_of_device e))
 
 -- or by a stop
-pub stop_ending : (e : Ending) (v : Verdict) (text : List ℕ) (sink : SinkCourse) (p : ℕ) → Reports (verdict_at e) v text sink → v ≡ DeviceStopped p → e ≡ ending.Stopped p
-stop_ending ending.Done v text sink p (inl whole) e = absurd (let no_way : Done ≡ DeviceStopped p = sym whole.0 ∙ e in let never : ⊥ = cc in never)
-stop_ending ending.Done v text sink p (inr cut) e = absurd (let no_way : SinkFault outlet.Report ≡ DeviceStopped p = sym cut.0 ∙ e in let never : ⊥ = cc in never)
-stop_ending ending.Unfinished v text sink p (inl whole) e = absurd (let no_way : Unfinished ≡ DeviceStopped p = sym whole.0 ∙ e in let never : ⊥ = cc in never)
-stop_ending ending.Unfinished v text sink p (inr cut) e = absurd (let no_way : SinkFault outlet.Report ≡ DeviceStopped p = sym cut.0 ∙ e in let never : ⊥ = cc in never)
-stop_ending (ending.Device q) v text sink p (inl whole) e = absurd (let no_way : DeviceFault q ≡ DeviceStopped p = sym whole.0 ∙ e in let never : ⊥ = cc in never)
-stop_ending (ending.Device q) v text sink p (inr cut) e = absurd (let no_way : DeviceFault q ≡ DeviceStopped p = sym cut.0 ∙ e in let never : ⊥ = cc in never)
-stop_ending (ending.Store q why) v text sink p (inl whole) e = absurd (let no_way : StoreRefused q why ≡ DeviceStopped p = sym whole.0 ∙ e in let never : ⊥ = cc in never)
-stop_ending (ending.Store q why) v text sink p (inr cut) e = absurd (let no_way : StoreRefused q why ≡ DeviceStopped p = sym cut.0 ∙ e in let never : ⊥ = cc in never)
-stop_ending ending.Sink v text sink p (inl whole) e = absurd (let no_way : SinkFault outlet.Out ≡ DeviceStopped p = sym whole.0 ∙ e in let never : ⊥ = cc in never)
-stop_ending ending.Sink v text sink p (inr cut) e = absurd (let no_way : SinkFault outlet.Out ≡ DeviceStopped p = sym cut.0 ∙ e in let never : ⊥ = cc in never)
-stop_ending (ending.Stopped q) v text sink p (inl whole) e = let same : DeviceStopped q ≡ DeviceStopped p = sym whole.0 ∙ e in let is : q ≡ p = cc in ap ending.Stopped is
-stop_ending (ending.Stopped q) v text sink p (inr cut) e = let same : DeviceStopped q ≡ DeviceStopped p = sym cut.0 ∙ e in let is : q ≡ p = cc in ap ending.Stopped is
+pub stop_ending : (halted : Bool) (e : Ending) (v : Verdict) (text : List ℕ) (sink : SinkCourse) (p : ℕ) → Reports (verdict_at halted e) v text sink → v ≡ DeviceStopped p → e ≡ ending.Stopped p
+stop_ending halted ending.Done v text sink p reports e = absurd (not_used is_of_stop Done v refl refl refl (used_said halted Done v text sink refl reports) (ap is_of_stop e))
+stop_ending halted ending.Unfinished v text sink p reports e = absurd (not_used is_of_stop Unfinished v refl refl refl (used_said halted Unfinished v text sink refl reports) (ap is_of_stop e))
+stop_ending halted (ending.Device q) v text sink p reports e = absurd (not_said is_of_stop (DeviceFault q) v refl (same_said (DeviceFault q) v text sink refl reports) (ap is_of_stop e))
+stop_ending halted (ending.Store q why) v text sink p reports e = absurd (not_said is_of_stop (StoreRefused q why) v refl (same_said (StoreRefused q why) v text sink refl reports) (ap is_of_stop e))
+stop_ending halted ending.Sink v text sink p reports e = absurd (not_said is_of_stop (SinkFault outlet.Out) v refl (same_said (SinkFault outlet.Out) v text sink refl reports) (ap is_of_stop e))
+stop_ending halted (ending.Stopped q) v text sink p reports e = let same : DeviceStopped q ≡ DeviceStopped p = sym (same_said (DeviceStopped q) v text sink refl reports) ∙ e in let is : q ≡ p = cc in ap ending.Stopped is
 
 -- a run that used up its schedule ended so
-record EndsUsed (e : Ending) : Type 0 where
-  used : is_used_up (verdict_at e) ≡ true
+record EndsUsed (halted : Bool) (e : Ending) : Type 0 where
+  used : is_used_up (verdict_at halted e) ≡ true
   uncut : (up : ℕ → Bool) (marks : List Mark) → EndsAtFirstStop e up marks → ((p : ℕ) → up p ≡ true) × Unstopped marks
   marked : (setting : Setting) (marks : List Mark) (last : Last) (core : Core) → IsEnding setting e marks last core → length marks ≤ length setting.schedule
 
-ends_used : (e : Ending) (v : Verdict) (text : List ℕ) (sink : SinkCourse) → Reports (verdict_at e) v text sink → is_used_up v ≡ true → EndsUsed e
-ends_used ending.Done v text sink reports used = record { used = refl; uncut = λ up marks is. is; marked = λ setting marks last core is. (let h = is.0.0 in omega (arith, h)) }
-ends_used ending.Unfinished v text sink reports used = record { used = refl; uncut = λ up marks is. is; marked = λ setting marks last core is. (let h = is.0.0 in omega (arith, h)) }
-ends_used (ending.Device p) v text sink (inl whole) used = absurd (true≢false (sym used ∙ ap is_used_up whole.0))
-ends_used (ending.Device p) v text sink (inr cut) used = absurd (true≢false (sym used ∙ ap is_used_up cut.0))
-ends_used (ending.Store p why) v text sink (inl whole) used = absurd (true≢false (sym used ∙ ap is_used_up whole.0))
-ends_used (ending.Store p why) v text sink (inr cut) used = absurd (true≢false (sym used ∙ ap is_used_up cut.0))
-ends_used ending.Sink v text sink (inl whole) used = absurd (true≢false (sym used ∙ ap is_used_up whole.0))
-ends_used ending.Sink v text sink (inr cut) used = absurd (true≢false (sym used ∙ ap is_used_up cut.0))
-ends_used (ending.Stopped p) v text sink (inl whole) used = absurd (true≢false (sym used ∙ ap is_used_up whole.0))
-ends_used (ending.Stopped p) v text sink (inr cut) used = absurd (true≢false (sym used ∙ ap is_used_up cut.0))
+ends_used : (halted : Bool) (e : Ending) (v : Verdict) (text : List ℕ) (sink : SinkCourse) → Reports (verdict_at halted e) v text sink → is_used_up v ≡ true → EndsUsed halted e
+ends_used true ending.Done v text sink (inl whole) used = absurd (true≢false (sym used ∙ ap is_used_up whole.0))
+ends_used true ending.Done v text sink (inr cut) used = absurd (true≢false (sym used ∙ ap is_used_up cut.0))
+ends_used false ending.Done v text sink reports used = record { used = refl; uncut = λ up marks is. is; marked = λ setting marks last core is. (let h = is.0.0 in omega (arith, h)) }
+ends_used true ending.Unfinished v text sink (inl whole) used = absurd (true≢false (sym used ∙ ap is_used_up whole.0))
+ends_used true ending.Unfinished v text sink (inr cut) used = absurd (true≢false (sym used ∙ ap is_used_up cut.0))
+ends_used false ending.Unfinished v text sink reports used = record { used = refl; uncut = λ up marks is. is; marked = λ setting marks last core is. (let h = is.0.0 in omega (arith, h)) }
+ends_used halted (ending.Device p) v text sink reports used = absurd (not_said is_used_up (DeviceFault p) v refl (same_said (DeviceFault p) v text sink refl reports) used)
+ends_used halted (ending.Store p why) v text sink reports used = absurd (not_said is_used_up (StoreRefused p why) v refl (same_said (StoreRefused p why) v text sink refl reports) used)
+ends_used halted ending.Sink v text sink reports used = absurd (not_said is_used_up (SinkFault outlet.Out) v refl (same_said (SinkFault outlet.Out) v text sink refl reports) used)
+ends_used halted (ending.Stopped p) v text sink reports used = absurd (not_said is_used_up (DeviceStopped p) v refl (same_said (DeviceStopped p) v text sink refl reports) used)
 
 -- the lines of a journal that is there
 some_is : (journal : Option (List Line)) → is_some journal ≡ true → (lines : List Line) × (journal ≡ Some lines)
@@ -281,28 +307,35 @@ taken_few (m ∷ marks) = let less = taken_few marks in by (is_taken m) less
     by true less = omega (arith, less)
     by false less = omega (arith, less)
 
-module _ {S : Type 0} (on : Devices S) (setting : Setting) (o : Outcome) (lent : Loan S) (out report : SinkCourse) (given : IsGivenRun setting.images setting.inputs setting.schedule)
-    (some : 0 < length setting.images) (seven : is_causal setting.protocol ≡ false) (is : IsReported ledger.Journal on setting o lent out report) (tells : on.tell (length setting.images) lent.before lent.after)
+module _ {S : Type 0} (on : Devices S) (task : Task) (journal_it : task.ledger ≡ ledger.Journal) (o : Outcome) (lent : Loan S) (out report : SinkCourse) (given : IsGivenRun task.setting.images task.setting.inputs task.setting.schedule)
+    (some : 0 < length task.setting.images) (seven : is_causal task.setting.protocol ≡ false) (is : IsReported task on o lent out report) (tells : on.tell (length task.setting.images) lent.before lent.after)
     (used : is_used_up o.verdict ≡ true) where
+  abbrev setting : Setting
+  setting = part_of task
+
+  -- its turns
+  turns : AreTurns setting.schedule
+  turns = turns_run task.halt task.setting.schedule (is.turns (ap keeps_journal journal_it)).0
+
   -- what it promises
   kept_is : IsCourse setting (account_of o is.journal) is.ending (output out.before out.after) (counts_of on.stops on.calls lent.before lent.after) (λ core x. on.left setting core x)
   kept_is = is.kept tells
 
   -- how it ended
-  ends : EndsUsed is.ending
-  ends = ends_used is.ending o.verdict _ report is.report_told used
+  ends : EndsUsed (is_halted task) is.ending
+  ends = ends_used (is_halted task) is.ending o.verdict _ report is.report_told used
 
   -- its lines
   abbrev lines : List Line
-  lines = (some_is is.journal is.journal_is).0
+  lines = (some_is is.journal (is.journal_is ∙ ap keeps_journal journal_it)).0
 
   -- are its journal's
   journal_lines : is.journal ≡ Some lines
-  journal_lines = (some_is is.journal is.journal_is).1
+  journal_lines = (some_is is.journal (is.journal_is ∙ ap keeps_journal journal_it)).1
 
   -- of which is known
   known_journal : EndsAtFirstStop is.ending kept_is.up o.marks.items × IsJournalOf setting kept_is.up o.marks.items lines
-  known_journal = subst (λ j. IfSome j (λ ls. EndsAtFirstStop is.ending kept_is.up o.marks.items × IsJournalOf setting kept_is.up o.marks.items ls)) journal_lines (kept_is.journal (is.turns refl).0)
+  known_journal = subst (λ j. IfSome j (λ ls. EndsAtFirstStop is.ending kept_is.up o.marks.items × IsJournalOf setting kept_is.up o.marks.items ls)) journal_lines (kept_is.journal turns)
 
   -- that it was not stopped
   whole : ((p : ℕ) → kept_is.up p ≡ true) × Unstopped o.marks.items
@@ -331,40 +364,40 @@ module _ {S : Type 0} (on : Devices S) (setting : Setting) (o : Outcome) (lent :
 
   -- so they have Save-work
   saved : HasSaveWork false lines
-  saved = subst (HasSaveWork false) (sym known_journal.1.lines_are) (led_work (system_in setting) sound few setting.schedule (is.turns refl).0 (reverse o.marks.items) core led back seven)
+  saved = subst (HasSaveWork false) (sym known_journal.1.lines_are) (led_work (system_in setting) sound few setting.schedule turns (reverse o.marks.items) core led back seven)
 
   -- and are a journal
   journal_is : IsJournal (length setting.images) lines
   journal_is = subst (IsJournal (length setting.images)) (sym known_journal.1.lines_are)
-      (led_journal (system_in setting) sound few (λ p q message answers at. addressed setting.images setting.inputs p q message answers at) setting.schedule (is.turns refl).0 (reverse o.marks.items) core led back)
+      (led_journal (system_in setting) sound few (λ p q message answers at. addressed setting.images setting.inputs p q message answers at) setting.schedule turns (reverse o.marks.items) core led back)
 
   -- each commit of which is of somebody
   members : All HasMembers lines
   members = subst (All HasMembers) (sym known_journal.1.lines_are)
-      (λ i x within. (plain_all (system_in setting) sound few setting.schedule (is.turns refl).0 (reverse o.marks.items) core led back i x within).1)
+      (λ i x within. (plain_all (system_in setting) sound few setting.schedule turns (reverse o.marks.items) core led back i x within).1)
 
   -- there are not too many
   short : length lines + 2 ≤ 4000000
   short =
       let two = ap (λ ls. length ls) known_journal.1.lines_are in
       let acts = journal_short (system_in setting) core.acts in
-      let turns = ap (λ ts. length ts) (lead (system_in setting) setting.schedule (is.turns refl).0 (reverse o.marks.items) core led back).turns in
+      let turned = ap (λ ts. length ts) (lead (system_in setting) setting.schedule turns (reverse o.marks.items) core led back).turns in
       let mapped = length-map core.acts (λ (x : Given). x.t) in
       let taken = taken_few (reverse o.marks.items) in
       let long = length-reverse o.marks.items in
       let marked = ends.marked setting o.marks.items kept_is.last kept_is.core kept_is.ending_is in
-      let most = given.schedule_is.0 in omega (arith, two, acts, turns, mapped, taken, long, marked, most)
+      let most = given.schedule_is.0 in let part = entries_few task.halt task.setting.schedule in omega (arith, two, acts, turned, mapped, taken, long, marked, most, part)
 
   -- it wrote them whole
-  whole_is : ledger_text (length setting.images) (verdict_at is.ending) (account_of o is.journal) ≡ whole_text (length setting.images) false lines
-  whole_is = ap (λ j. journal_or_report j (length setting.images) (verdict_at is.ending) (account_of o is.journal)) journal_lines
+  whole_is : ledger_text (length setting.images) (verdict_at (is_halted task) is.ending) (account_of o is.journal) ≡ whole_text (length setting.images) false lines
+  whole_is = ap (λ j. journal_or_report j (length setting.images) (verdict_at (is_halted task) is.ending) (account_of o is.journal)) journal_lines
       ∙ ap (λ b. if b then whole_text (length setting.images) false lines else journal_text (length setting.images) false lines) ends.used
 
   -- so the text is that of a journal with Save-work
-  pub run_saves : WritesSaved setting report
+  pub run_saves : WritesSaved task.setting report
   run_saves calm empty listed' at = (
     record { n = length setting.images; causal = false; lines = lines },
-    ap journal_of (stands_on report.before report.after _ listed' empty at (reported_whole (verdict_at is.ending) o.verdict _ report calm is.report_told) ∙ whole_is)
+    ap journal_of (stands_on report.before report.after _ listed' empty at (reported_whole (verdict_at (is_halted task) is.ending) o.verdict _ report calm is.report_told) ∙ whole_is)
         ∙ text_again (length setting.images) false lines some few journal_is members short,
     refl,
     refl,

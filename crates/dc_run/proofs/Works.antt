@@ -5,11 +5,11 @@ use Rattle.dc_run.specs.Commands.{IsExact, IsOpenedFor}
 use Rattle.dc_words.specs.Results.{◌>>=◌}
 use Rattle.dc_run.specs.Opening.{Files}
 use Rattle.dc_run.specs.Refusals.{as_verdict, verdict_of}
-use Rattle.dc_run.specs.Settings.{is_free, has_ended, is_free_refusal, is_of_run, is_refusal, may_have_run, stands_in, was_opened}
+use Rattle.dc_run.specs.Settings.{is_free, has_ended, is_free_refusal, is_of_going_on, is_of_run, is_refusal, may_have_run, stands_in, was_opened}
 use Rattle.dc_run.specs.declared.refusal.Refusal.{Refusal}
 use Rattle.dc_run.specs.declared.refusal.Refusal.TheVariants as refusal
 use Rattle.dc_run.specs.declared.verdict.Verdict.{Verdict}
-use Rattle.dc_run.specs.declared.verdict.Verdict.TheVariants.{Done, Unfinished, Usage, PlanRefused, GuestRefused, Missing, LibraryFault, DeviceFault, DeviceStopped, SinkFault, NotARun, Differs, WantOfMemory, ScheduleRefused, StoreRefused, ReportRefused, AsmRefused, JournalRefused, NotSaved}
+use Rattle.dc_run.specs.declared.verdict.Verdict.TheVariants.{Done, Unfinished, Halted, NotHalted, StoreUnsuited, Usage, PlanRefused, GuestRefused, Missing, LibraryFault, DeviceFault, DeviceStopped, SinkFault, NotARun, Differs, WantOfMemory, ScheduleRefused, StoreRefused, ReportRefused, AsmRefused, JournalRefused, NotSaved}
 
 pub for_known : (known : Option Files) {P : Files → Type 0} → ((files : Files) → known ≡ Some files → P files) → IfSome known P
 for_known None at = tt
@@ -20,6 +20,9 @@ pub opened_ended : (v : Verdict) → was_opened v ≡ true → has_ended v ≡ t
 opened_ended (NotSaved event line) e = refl
 opened_ended Done e = e
 opened_ended Unfinished e = e
+opened_ended Halted e = e
+opened_ended NotHalted e = e
+opened_ended (StoreUnsuited p) e = e
 opened_ended Usage e = e
 opened_ended (PlanRefused fault) e = e
 opened_ended (GuestRefused p fault) e = e
@@ -42,6 +45,9 @@ pub opened_may : (v : Verdict) → was_opened v ≡ true → may_have_run v ≡ 
 opened_may (NotSaved event line) e = e
 opened_may Done e = e
 opened_may Unfinished e = e
+opened_may Halted e = e
+opened_may NotHalted e = e
+opened_may (StoreUnsuited p) e = refl
 opened_may Usage e = e
 opened_may (PlanRefused fault) e = e
 opened_may (GuestRefused p fault) e = e
@@ -78,6 +84,9 @@ stands_free WantOfMemory e = e
 stands_free (LibraryFault which) e = e
 stands_free Done e = e
 stands_free Unfinished e = e
+stands_free Halted e = e
+stands_free NotHalted e = e
+stands_free (StoreUnsuited p) e = refl
 stands_free Usage e = e
 stands_free (PlanRefused fault) e = e
 stands_free (GuestRefused p fault) e = e
@@ -100,6 +109,16 @@ closed_refusal (refusal.Library which) = refl
 closed_refusal (refusal.Schedule fault) = refl
 closed_refusal (refusal.Report fault) = refl
 closed_refusal refusal.Memory = refl
+
+-- nor of one that goes on
+pub begun_refusal : (r : Refusal) → is_of_going_on (verdict_of r) ≡ false
+begun_refusal (refusal.Plan fault) = refl
+begun_refusal (refusal.Guest p fault) = refl
+begun_refusal (refusal.Missing which) = refl
+begun_refusal (refusal.Library which) = refl
+begun_refusal (refusal.Schedule fault) = refl
+begun_refusal (refusal.Report fault) = refl
+begun_refusal refusal.Memory = refl
 
 pub other_refusal : (r : Refusal) → is_of_run (verdict_of r) ≡ false
 other_refusal (refusal.Plan fault) = refl

@@ -16,11 +16,12 @@ use Rattle.dc_media.specs.Told.{Becomes}
 use Rattle.dc_world.specs.declared.faults.OpenFault.{OpenFault}
 use Rattle.dc_world.specs.declared.faults.OpenFault.TheVariants as opening
 use Rattle.dc_run.specs.Media.{Devices}
+use Rattle.dc_run.specs.Opening.{Task, is_halted, part_of}
 use Rattle.dc_run.specs.Outcomes.{status_of}
 use Rattle.dc_run.specs.declared.outcome.Outcome.{Outcome}
 use Rattle.dc_run.specs.declared.verdict.Outlet.TheVariants.{Out, Report}
 use Rattle.dc_run.specs.declared.verdict.Verdict.{Verdict}
-use Rattle.dc_run.specs.declared.verdict.Verdict.TheVariants.{Done, Unfinished, DeviceFault, DeviceStopped, SinkFault, StoreRefused, WantOfMemory}
+use Rattle.dc_run.specs.declared.verdict.Verdict.TheVariants.{Done, Unfinished, Halted, DeviceFault, DeviceStopped, SinkFault, StoreRefused, WantOfMemory}
 
 -- what an outcome lists of a run, with the journal that it kept, if it kept one
 abbrev pub account_of : Outcome → Option (List Line) → Account
@@ -29,6 +30,7 @@ account_of o journal = record { acts = o.acts.items; marks = o.marks.items; line
 -- a run that is to write this keeps its journal
 abbrev pub keeps_journal : Ledger → Bool
 keeps_journal ledger.Report = false
+keeps_journal ledger.Total = false
 keeps_journal ledger.Journal = true
 
 -- what a sink held before and after a call, where it is told, and how often it had failed
@@ -51,24 +53,29 @@ pub record Loan (S : Type 0) : Type 0 where
 abbrev pub loan : {S : Type 0} → S → S → Loan S
 loan before after = record { before = before; after = after }
 
--- the verdict of a run that ended so
-abbrev pub verdict_at : Ending → Verdict
-verdict_at ending.Done = Done
-verdict_at ending.Unfinished = Unfinished
-verdict_at (ending.Device p) = DeviceFault p
-verdict_at (ending.Store p fault) = StoreRefused p fault
-verdict_at ending.Sink = SinkFault Out
-verdict_at (ending.Stopped p) = DeviceStopped p
+-- the verdict of a run whose entries are used up: where it was halted there are more
+abbrev pub used_up_at : Bool → Verdict → Verdict
+used_up_at halted verdict = if halted then Halted else verdict
+
+-- the verdict of a run that ended so, by whether it is halted before its schedule is used up
+abbrev pub verdict_at : Bool → Ending → Verdict
+verdict_at halted ending.Done = used_up_at halted Done
+verdict_at halted ending.Unfinished = used_up_at halted Unfinished
+verdict_at halted (ending.Device p) = DeviceFault p
+verdict_at halted (ending.Store p fault) = StoreRefused p fault
+verdict_at halted ending.Sink = SinkFault Out
+verdict_at halted (ending.Stopped p) = DeviceStopped p
 
 -- the verdict of a run that was not opened
 abbrev pub unopened_by : OpenFault → Verdict
 unopened_by opening.Memory = WantOfMemory
 unopened_by (opening.Failed p) = DeviceFault p
 
--- the verdict where the report could not be written whole: its fault takes the place of done and unfinished, and of no other
+-- the verdict where the report could not be written whole: its fault takes the place of done, unfinished and halted, and of no other
 abbrev pub unreported : Verdict → Verdict
 unreported Done = SinkFault Report
 unreported Unfinished = SinkFault Report
+unreported Halted = SinkFault Report
 unreported stood = stood
 
 -- the schedule of a run that came to this was used up
@@ -97,14 +104,15 @@ abbrev pub IsKept : {S : Type 0} → Devices S → Setting → Account → Endin
 IsKept on setting run ending out lent = on.tell (length setting.images) lent.before lent.after
     → IsCourse setting run ending out (counts_of on.stops on.calls lent.before lent.after) (λ core x. on.left setting core x)
 
--- with what it wrote at its end: the status is that of the verdict before that. One that wrote its journal was given turns alone, and no stop was planned
-pub record IsReported {S : Type 0} (ledger : Ledger) (on : Devices S) (setting : Setting) (o : Outcome) (lent : Loan S) (out report : SinkCourse) : Type 0 where
+-- with what it wrote at its end: the status is that of the verdict before that. Of a task the entries before its halt are run. One that wrote its journal was
+-- given turns alone, and no stop was planned
+pub record IsReported {S : Type 0} (task : Task) (on : Devices S) (o : Outcome) (lent : Loan S) (out report : SinkCourse) : Type 0 where
   pub ending : Ending
   pub journal : Option (List Line)
-  pub journal_is : is_some journal ≡ keeps_journal ledger
-  pub turns : keeps_journal ledger ≡ true → AreTurns setting.schedule × (setting.stops ≡ [])
-  pub kept : IsKept on setting (account_of o journal) ending (output out.before out.after) lent
-  pub report_told : Reports (verdict_at ending) o.verdict (ledger_text (length setting.images) (verdict_at ending) (account_of o journal)) report
+  pub journal_is : is_some journal ≡ keeps_journal task.ledger
+  pub turns : keeps_journal task.ledger ≡ true → AreTurns task.setting.schedule × (task.setting.stops ≡ [])
+  pub kept : IsKept on (part_of task) (account_of o journal) ending (output out.before out.after) lent
+  pub report_told : Reports (verdict_at (is_halted task) ending) o.verdict (ledger_text (length task.setting.images) (verdict_at (is_halted task) ending) (account_of o journal)) report
 
 -- the line of an outcome was written whole, or its sink failed and a part of its front was
 abbrev pub Concludes : List ℕ → SinkCourse → Type 0

@@ -9,4 +9,7 @@ pub mod Assembling
 pub mod Auditing
 pub mod Checking
 pub mod Commands
+pub mod Resuming
+pub mod Resumed
+pub mod Again
 pub mod Passing

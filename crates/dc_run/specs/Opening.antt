@@ -1,5 +1,5 @@
 -- What a run is opened with, by the told files, or the refusal that comes first.
-use Rattle.std.specs.Prelude.{ℕ, suc, Bool, true, false, List, [], ◌∷◌, Option, None, Some, IsOkAnd, IsSome, IsSomeAnd, Result, Ok, Err, if◌then◌else◌, length, slice_get, take}
+use Rattle.std.specs.Prelude.{ℕ, suc, Bool, true, false, List, [], ◌∷◌, Option, None, Some, IsOkAnd, IsSome, IsSomeAnd, Result, Ok, Err, if◌then◌else◌, length, nat_lt, slice_get, take}
 use Rattle.dc_command.specs.Command.{Order}
 use Rattle.dc_command.specs.declared.command.Ledger.{Ledger}
 use Rattle.dc_command.specs.declared.command.Ledger.TheVariants as ledger
@@ -10,7 +10,7 @@ use Rattle.dc_elf.specs.declared.faults.ElfFault.{ElfFault}
 use Rattle.dc_guest.specs.Guest.{Guest, guests_of}
 use Rattle.dc_model.specs.Guests.{Guests}
 use Rattle.dc_model.specs.declared.entry.Entry.{Entry}
-use Rattle.dc_plan.specs.Plans.{Plan, Source, InFile, FromSeed, plan_of}
+use Rattle.dc_plan.specs.Plans.{Plan, Source, InFile, FromSeed, may_halt, plan_of}
 use Rattle.dc_media.specs.declared.planned.PlannedStop.{PlannedStop}
 use Rattle.dc_plan.specs.declared.fault.PlanFault.{PlanFault}
 use Rattle.dc_plan.specs.declared.fault.PlanFault.TheVariants.{Range}
@@ -33,6 +33,30 @@ guests setting = guests_of setting.images setting.inputs
 -- an order to run the plan of this name and write its report
 abbrev pub to_report : List ℕ → Order
 to_report plan = record { plan = plan; ledger = ledger.Report }
+
+-- a run that is to be carried out: what it writes at its end, what it is opened with, and the first entry that is not run, if it is to be halted
+pub record Task : Type 0 where
+  pub ledger : Ledger
+  pub setting : Setting
+  pub halt : Option ℕ
+
+-- the entries that are run: all, or those before the halt
+abbrev pub entries_run : Option ℕ → List Entry → List Entry
+entries_run None schedule = schedule
+entries_run (Some halt) schedule = take halt schedule
+
+-- a halt leaves entries over
+abbrev pub leaves_over : Option ℕ → List Entry → Bool
+leaves_over None schedule = false
+leaves_over (Some halt) schedule = nat_lt halt (length schedule)
+
+-- the part of a task that is run
+abbrev pub part_of : Task → Setting
+part_of task = record task.setting { schedule = entries_run task.halt task.setting.schedule }
+
+-- it is halted before its schedule is used up
+abbrev pub is_halted : Task → Bool
+is_halted task = leaves_over task.halt task.setting.schedule
 
 -- told files: the bytes of each name
 abbrev pub Files : Type 0
@@ -61,9 +85,10 @@ abbrev pub has_stops : List PlannedStop → Bool
 has_stops [] = false
 has_stops (stop ∷ stops) = true
 
--- a plan that leaves what is to be written: of a journal a seed would stop processes, and so would planned stops
+-- a plan that leaves what is to be written: of a journal a seed would stop processes, and so would planned stops; and a run goes on from stores that are there
 abbrev pub allowed_by : Ledger → Plan → Result Plan Refusal
 allowed_by ledger.Report plan = Ok plan
+allowed_by ledger.Total plan = if may_halt plan.medium then Ok plan else Err (refusal.Plan (Range key.Medium))
 allowed_by ledger.Journal plan = if is_seed plan.schedule then Err (refusal.Plan (Range key.Seed)) else (if has_stops plan.stops then Err (refusal.Plan (Range key.Stop)) else Ok plan)
 
 -- the plan of an order
@@ -78,6 +103,19 @@ medium_in (Err refusal) = medium.Rio
 -- by the plan's name
 abbrev pub medium_at : Files → List ℕ → Medium
 medium_at files name = medium_in (plan_in files name)
+
+-- the halt of a plan that is read
+abbrev pub halt_in : Result Plan Refusal → Option ℕ
+halt_in (Ok plan) = plan.halt
+halt_in (Err refusal) = None
+
+-- by the plan's name
+abbrev pub halt_at : Files → List ℕ → Option ℕ
+halt_at files name = halt_in (plan_in files name)
+
+-- the run of an order, by what it is opened with
+abbrev pub task_in : Files → Order → Setting → Task
+task_in files order setting = record { ledger = order.ledger; setting = setting; halt = halt_at files order.plan }
 
 -- the image, or the fault of the file of guest p
 abbrev pub image_or_fault : ℕ → Option ElfFault → Image → Result Image Refusal
@@ -105,6 +143,7 @@ schedule_or_fault (Err fault) = Err (refusal.Schedule fault)
 -- the schedule of a text: of a run that is to leave its journal a line that stops a process is a fault of form
 abbrev pub entries_of : Ledger → ℕ → List ℕ → Result (List Entry) ScheduleFault
 entries_of ledger.Report n text = schedule_of n text
+entries_of ledger.Total n text = schedule_of n text
 entries_of ledger.Journal n text = turns_of n text
 
 -- the schedule of n guests: that of the file, or the one that is drawn from the seed

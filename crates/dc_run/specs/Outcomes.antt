@@ -11,14 +11,14 @@ use Rattle.dc_elf.specs.declared.faults.ElfFault.{ElfFault}
 use Rattle.dc_checkpoint.specs.StoreFaults.{store_fault_text}
 use Rattle.dc_checkpoint.specs.declared.faults.StoreFault.{StoreFault}
 use Rattle.dc_run.specs.declared.verdict.Did.{Did}
-use Rattle.dc_run.specs.declared.verdict.Did.TheVariants.{Nothing, Run, Checked, Assembled, Audited}
+use Rattle.dc_run.specs.declared.verdict.Did.TheVariants.{Nothing, Run, Checked, Assembled, Audited, Resumed}
 use Rattle.dc_run.specs.declared.verdict.Outlet.{Outlet}
 use Rattle.dc_run.specs.declared.verdict.Outlet.TheVariants.{Out, Report}
 use Rattle.dc_plan.specs.Faults.{fault_text as plan_fault_text}
 use Rattle.dc_report.specs.Reading.{kind_text as report_kind_text}
 use Rattle.dc_schedule.specs.Schedules.{kind_text as schedule_kind_text}
 use Rattle.dc_run.specs.declared.verdict.Verdict.{Verdict}
-use Rattle.dc_run.specs.declared.verdict.Verdict.TheVariants.{Done, Unfinished, Usage, PlanRefused, GuestRefused, Missing, LibraryFault, DeviceFault, DeviceStopped, SinkFault, NotARun, Differs, WantOfMemory, ScheduleRefused, StoreRefused, ReportRefused, AsmRefused, JournalRefused, NotSaved}
+use Rattle.dc_run.specs.declared.verdict.Verdict.TheVariants.{Done, Unfinished, Halted, NotHalted, StoreUnsuited, Usage, PlanRefused, GuestRefused, Missing, LibraryFault, DeviceFault, DeviceStopped, SinkFault, NotARun, Differs, WantOfMemory, ScheduleRefused, StoreRefused, ReportRefused, AsmRefused, JournalRefused, NotSaved}
 use Rattle.dc_run.specs.declared.verdict.Which.{Which}
 use Rattle.dc_run.specs.declared.verdict.Which.TheVariants as which
 
@@ -40,7 +40,10 @@ status_of WantOfMemory = 10
 status_of (ScheduleRefused fault) = 11
 status_of (StoreRefused p fault) = 12
 status_of (ReportRefused fault) = 13
+status_of (StoreUnsuited p) = 12
 status_of (AsmRefused fault) = 14
+status_of Halted = 15
+status_of NotHalted = 16
 status_of (JournalRefused fault) = 18
 status_of (NotSaved event line) = 19
 
@@ -70,6 +73,10 @@ device_stop_text p = codes "device of " ++ decimal p ++ codes " stopped"
 abbrev pub refused_store_text : ℕ → StoreFault → List ℕ
 refused_store_text p fault = codes "store of " ++ decimal p ++ codes " refused: " ++ store_fault_text fault
 
+-- a store that does not belong to the run that was to go on
+abbrev pub unsuited_store_text : ℕ → List ℕ
+unsuited_store_text p = codes "store of " ++ decimal p ++ codes " refused: strange"
+
 -- the faulty line of a text
 abbrev pub refused_text : List ℕ → ℕ → List ℕ → List ℕ
 refused_text what number kind = what ++ codes " line " ++ decimal number ++ codes " refused: " ++ kind
@@ -91,6 +98,7 @@ counts_text name acts lines = name ++ decimal acts ++ codes " acts " ++ decimal 
 abbrev pub done_text : Did → ℕ → ℕ → List ℕ
 done_text Nothing acts lines = counts_text (codes "done ") acts lines
 done_text Run acts lines = counts_text (codes "done ") acts lines
+done_text Resumed acts lines = counts_text (codes "done ") acts lines
 done_text (Checked visibles) acts lines = counts_text (codes "done ") acts visibles
 done_text (Assembled bytes) acts lines = codes "done " ++ decimal bytes ++ codes " bytes"
 done_text (Audited events) acts lines = codes "saved " ++ decimal events ++ codes " events"
@@ -99,7 +107,9 @@ done_text (Audited events) acts lines = codes "saved " ++ decimal events ++ code
 abbrev pub verdict_text : Verdict → Did → ℕ → ℕ → List ℕ
 verdict_text Done did acts lines = done_text did acts lines
 verdict_text Unfinished did acts lines = counts_text (codes "unfinished ") acts lines
-verdict_text Usage did acts lines = codes "usage: dc run PLAN | dc check PLAN REPORT OUT | dc asm SOURCE | dc journal PLAN | dc audit JOURNAL"
+verdict_text Halted did acts lines = counts_text (codes "halted ") acts lines
+verdict_text NotHalted did acts lines = codes "not halted"
+verdict_text Usage did acts lines = codes "usage: dc run PLAN | dc check PLAN REPORT OUT | dc asm SOURCE | dc resume PLAN REPORT | dc journal PLAN | dc audit JOURNAL"
 verdict_text (PlanRefused fault) did acts lines = codes "plan refused: " ++ plan_fault_text fault
 verdict_text (GuestRefused p fault) did acts lines = refused_guest_text p fault
 verdict_text (Missing which) did acts lines = codes "missing: " ++ which_text which
@@ -112,6 +122,7 @@ verdict_text (Differs line) did acts lines = codes "differs: line " ++ decimal l
 verdict_text WantOfMemory did acts lines = codes "out of memory"
 verdict_text (ScheduleRefused fault) did acts lines = refused_text (codes "schedule") fault.line (schedule_kind_text fault.kind)
 verdict_text (StoreRefused p fault) did acts lines = refused_store_text p fault
+verdict_text (StoreUnsuited p) did acts lines = unsuited_store_text p
 verdict_text (ReportRefused fault) did acts lines = refused_text (codes "report") fault.line (report_kind_text fault.kind)
 verdict_text (AsmRefused fault) did acts lines = refused_text (codes "source") fault.line (asm_kind_text fault.kind)
 verdict_text (JournalRefused fault) did acts lines = refused_text (codes "journal") fault.line (journal_kind_text fault.kind)

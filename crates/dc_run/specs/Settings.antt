@@ -4,13 +4,13 @@ use Rattle.dc_elf.specs.Loaded.{seen_image}
 use Rattle.dc_words.specs.Lists.{lists_of}
 use Rattle.dc_media.specs.Told.{Becomes, TellsOn}
 use Rattle.dc_course.specs.Headline.{Setting}
-use Rattle.dc_run.specs.Opening.{Files}
+use Rattle.dc_run.specs.Opening.{Files, Task}
 use Rattle.dc_run.specs.Refusals.{verdict_of}
 use Rattle.dc_run.specs.declared.refusal.Refusal.{Refusal}
 use Rattle.dc_run.specs.declared.setting.Setting as code
 use Rattle.dc_run.specs.declared.verdict.Outlet.TheVariants.{Report}
 use Rattle.dc_run.specs.declared.verdict.Verdict.{Verdict}
-use Rattle.dc_run.specs.declared.verdict.Verdict.TheVariants.{Done, Unfinished, LibraryFault, DeviceFault, DeviceStopped, SinkFault, Differs, NotSaved, WantOfMemory, StoreRefused}
+use Rattle.dc_run.specs.declared.verdict.Verdict.TheVariants.{Done, Unfinished, Halted, NotHalted, LibraryFault, DeviceFault, DeviceStopped, SinkFault, Differs, NotSaved, WantOfMemory, StoreRefused, StoreUnsuited}
 
 -- a verdict that may stand in for a refusal: no told file decides it, and it may come before the refusal is found
 abbrev pub stands_in : Verdict → Bool
@@ -23,12 +23,14 @@ abbrev pub is_free : Verdict → Bool
 is_free (DeviceFault p) = true
 is_free (DeviceStopped p) = true
 is_free (StoreRefused p fault) = true
+is_free (StoreUnsuited p) = true
 is_free verdict = stands_in verdict
 
 -- the verdict of a command that was carried out to its end, but for a fault of a sink
 abbrev pub was_opened : Verdict → Bool
 was_opened Done = true
 was_opened Unfinished = true
+was_opened Halted = true
 was_opened (SinkFault outlet) = true
 was_opened _ = false
 
@@ -37,33 +39,45 @@ abbrev pub has_ended : Verdict → Bool
 has_ended (NotSaved event line) = true
 has_ended verdict = was_opened verdict
 
--- the verdict of a call that may have run a plan
+-- the verdict of a call that may have run a plan, or read the stores of one that was to go on
 abbrev pub may_have_run : Verdict → Bool
 may_have_run Done = true
 may_have_run Unfinished = true
+may_have_run Halted = true
 may_have_run (DeviceFault p) = true
 may_have_run (DeviceStopped p) = true
 may_have_run (SinkFault outlet) = true
 may_have_run (StoreRefused p fault) = true
+may_have_run (StoreUnsuited p) = true
 may_have_run _ = false
 
 -- of these a call that is asked to run a plan says that it ran: only where a device failed it may not have opened the run
 abbrev pub has_run : Verdict → Bool
 has_run Done = true
 has_run Unfinished = true
+has_run Halted = true
 has_run (DeviceStopped p) = true
 has_run (SinkFault outlet) = true
 has_run (StoreRefused p fault) = true
 has_run _ = false
 
--- a verdict that no other command than a run comes to
+-- a verdict that no other command comes to than a run, from its opening or going on
 abbrev pub is_of_run : Verdict → Bool
 is_of_run Unfinished = true
+is_of_run Halted = true
+is_of_run NotHalted = true
 is_of_run (DeviceFault p) = true
 is_of_run (DeviceStopped p) = true
 is_of_run (SinkFault Report) = true
 is_of_run (StoreRefused p fault) = true
+is_of_run (StoreUnsuited p) = true
 is_of_run _ = false
+
+-- a verdict that no other command comes to than one that goes on with a run
+abbrev pub is_of_going_on : Verdict → Bool
+is_of_going_on NotHalted = true
+is_of_going_on (StoreUnsuited p) = true
+is_of_going_on _ = false
 
 -- a count of faults that stays, below its last value
 abbrev pub IsCalm : ℕ → ℕ → Type 0
@@ -97,6 +111,15 @@ abbrev pub Agrees : {A X : Type 0} → (X → A) → Result X Refusal → Result
 Agrees view (Ok x) told = told ≡ Ok (view x)
 Agrees view (Err refusal) told = (is_free_refusal refusal ≡ true) ⊎ (told ≡ Err refusal)
 
+-- a verdict or the value that the told files give, where no verdict takes its place that may stand in
+abbrev pub Answers : {A X : Type 0} → (X → A) → Result X Verdict → Result A Verdict → Type 0
+Answers view (Ok x) told = told ≡ Ok (view x)
+Answers view (Err verdict) told = (stands_in verdict ≡ true) ⊎ (told ≡ Err verdict)
+
 -- a setting by the fields that the code has of it
 abbrev pub setting_of : code.Setting → Setting
 setting_of s = record { protocol = s.protocol; images = map seen_image s.images.items; inputs = lists_of s.inputs.items; schedule = s.schedule.items; stops = s.stops.items; from = 0 }
+
+-- what is to be run of it
+abbrev pub task_of : code.Setting → Task
+task_of s = record { ledger = s.ledger; setting = setting_of s; halt = s.halt }

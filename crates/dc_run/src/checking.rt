@@ -1,4 +1,5 @@
 ghost use Rattle.std.specs.Prelude.{◌≡◌, ◌≤◌, ◌<◌, ℕ, All, Ok, Some, false, true, IfOk, IfSome, IsErrOf, IsSome, IsOkAnd, OnOk, length};
+ghost use Rattle.dc_report.specs.Reading.{IsReport};
 ghost use Rattle.dc_report.specs.Reads.{seen};
 ghost use Rattle.dc_media.specs.Causes.{Rose};
 ghost use Rattle.dc_media.specs.Told.{TellsOn};
@@ -31,10 +32,16 @@ pub struct Found {
 }
 
 /// The report of that name, for `n` guests.
-fn report_at<L: Library>(alloc: Global, lib: &mut L, n: u32, name: &str) -> Result<Report, Refusal>
+pub fn report_at<L: Library>(
+    alloc: Global,
+    lib: &mut L,
+    n: u32,
+    name: &str,
+) -> Result<Report, Refusal>
     requires some { 0 < n }
     requires few { n ≤ PROCESSES }
     ensures told { (files : Files) → L.files lib.old ≡ Some files → Agrees seen result (report_in files n name.now) }
+    ensures is { IfOk result (λ report. IsReport n (seen report)) }
     ensures processes { IfOk result (λ report. All (λ x. x.p < n) report.acts.items) }
     ensures few { IfOk result (λ report. length report.acts.items ≤ ENTRIES) }
     ensures which { (w : Whose) → IsErrOf result (Refusal.Library w) → w ≡ Which.Report }

@@ -5,10 +5,12 @@
 mod assembling;
 mod auditing;
 mod checking;
+mod halting;
 mod opening;
 mod outcome;
 mod program;
 mod refusal;
+mod resuming;
 mod setting;
 mod verdict;
 mod words;

@@ -4,6 +4,7 @@ ghost use Rattle.dc_media.specs.Causes.{Rose};
 ghost use Rattle.dc_elf.specs.Loaded.{seen_image};
 ghost use Rattle.dc_plan.specs.Allowed.{IsAllowed, IsSourceAllowed};
 ghost use Rattle.dc_plan.specs.Plans.{InFile, plan_view, source_view};
+ghost use Rattle.dc_plan.specs.declared.plan.Medium.TheVariants as Media;
 ghost use Rattle.dc_schedule.specs.Entries.{IsSchedule};
 ghost use Rattle.dc_shows.specs.Typed.{IsGivenRun, IsImage};
 ghost use Rattle.dc_words.specs.Lists.{lists_of};
@@ -12,7 +13,7 @@ ghost use Rattle.dc_world.specs.Opened.{CanOpen};
 ghost use Rattle.dc_command.specs.Command.{order_view};
 ghost use Rattle.dc_recovery.specs.Unstopped.{AreTurns};
 ghost use Rattle.dc_schedule.specs.Schedules.{Reads};
-ghost use Rattle.dc_run.specs.Opening.{AsksAtPlan, AsksForGuest, AsksToRun, Files, IsSourceThere, allowed_by, entries_of, file_in, guest_in, images_in, is_seed, medium_at, opening_at_plan, opening_of, plan_in, schedule_in};
+ghost use Rattle.dc_run.specs.Opening.{AsksAtPlan, AsksForGuest, AsksToRun, Files, IsSourceThere, allowed_by, entries_of, file_in, guest_in, halt_at, images_in, is_seed, medium_at, opening_at_plan, opening_of, plan_in, schedule_in};
 ghost use Rattle.dc_run.specs.Settings.{Agrees, LibraryKept, setting_of};
 ghost use Rattle.dc_run.specs.declared.verdict.Which.{Which as Whose};
 
@@ -24,7 +25,7 @@ use dc_elf::{Image, LoadFault, load};
 use dc_limits::PROCESSES;
 use dc_media::{Fetch, Library};
 use dc_model::Entry;
-use dc_plan::{Key, Plan, PlanError, PlanFault, ScheduleSource, read_plan};
+use dc_plan::{Key, Medium, Plan, PlanError, PlanFault, ScheduleSource, read_plan};
 use dc_schedule::{ReadError, generate, read, read_turns};
 use std::alloc::{AllocError, Global};
 
@@ -68,16 +69,13 @@ fn plan_at<L: Library>(alloc: Global, lib: &mut L, name: &str) -> Result<Plan, R
     }
 }
 
-/// A plan that leaves what is to be written, or why it does not: a journal is of turns alone, and a seed would stop processes too.
-fn allowed_by(ledger: Ledger, plan: Plan) -> Result<Plan, Refusal>
-    ensures told { Agrees plan_view result (allowed_by ledger (plan_view plan)) }
+/// A plan that leaves a journal, or why it does not: that is of turns alone, and a seed would stop processes too.
+fn noted_by(plan: Plan) -> Result<Plan, Refusal>
+    ensures told { Agrees plan_view result (allowed_by Ledger.Journal (plan_view plan)) }
     ensures same { IfOk result (λ allowed. allowed ≡ plan) }
-    ensures none { IfOk result (λ allowed. ledger ≡ Ledger.Journal → allowed.stops.items ≡ []) }
+    ensures none { IfOk result (λ allowed. allowed.stops.items ≡ []) }
     ensures which { (w : Whose) → ¬ (result ≡ Err (Refusal.Library w)) }
 {
-    if ledger == Ledger::Report {
-        return Ok(plan);
-    }
     if let ScheduleSource::Seed(_) = plan.schedule {
         return Err(Refusal::Plan(PlanFault::Range(Key::Seed)));
     }
@@ -85,6 +83,34 @@ fn allowed_by(ledger: Ledger, plan: Plan) -> Result<Plan, Refusal>
         return Err(Refusal::Plan(PlanFault::Range(Key::Stop)));
     }
     Ok(plan)
+}
+
+/// A plan whose stores outlive the program, so that its run can go on, or why they do not.
+fn lasting_by(plan: Plan) -> Result<Plan, Refusal>
+    ensures told { Agrees plan_view result (allowed_by Ledger.Total (plan_view plan)) }
+    ensures same { IfOk result (λ allowed. allowed ≡ plan) }
+    ensures disk { IfOk result (λ allowed. allowed.medium ≡ Media.Disk) }
+    ensures which { (w : Whose) → ¬ (result ≡ Err (Refusal.Library w)) }
+{
+    match plan.medium {
+        Medium::Disk => Ok(plan),
+        Medium::Rio => Err(Refusal::Plan(PlanFault::Range(Key::Medium))),
+    }
+}
+
+/// A plan that leaves what is to be written, or why it does not.
+fn allowed_by(ledger: Ledger, plan: Plan) -> Result<Plan, Refusal>
+    ensures told { Agrees plan_view result (allowed_by ledger (plan_view plan)) }
+    ensures same { IfOk result (λ allowed. allowed ≡ plan) }
+    ensures none { IfOk result (λ allowed. ledger ≡ Ledger.Journal → allowed.stops.items ≡ []) }
+    ensures disk { IfOk result (λ allowed. ledger ≡ Ledger.Total → allowed.medium ≡ Media.Disk) }
+    ensures which { (w : Whose) → ¬ (result ≡ Err (Refusal.Library w)) }
+{
+    match ledger {
+        Ledger::Report => Ok(plan),
+        Ledger::Journal => noted_by(plan),
+        Ledger::Total => lasting_by(plan),
+    }
 }
 
 /// How many bytes an image has. They are bytes, and its entry is a word.
@@ -169,6 +195,7 @@ fn entries_in(alloc: Global, ledger: Ledger, n: u32, text: &[u8]) -> Result<Vec<
 {
     match ledger {
         Ledger::Report => read(alloc, text, n),
+        Ledger::Total => read(alloc, text, n),
         Ledger::Journal => read_turns(alloc, text, n),
     }
 }
@@ -239,6 +266,7 @@ fn open_plan<L: Library>(
     ensures ledger { IfOk result (λ s. (s.ledger ≡ ledger) × (s.stops ≡ plan.stops)) }
     ensures turns { IfOk result (λ s. ledger ≡ Ledger.Journal → is_seed (plan_view plan).schedule ≡ false → AreTurns s.schedule.items) }
     ensures medium { IfOk result (λ s. s.medium ≡ plan.medium) }
+    ensures halt { IfOk result (λ s. s.halt ≡ plan.halt) }
     ensures given { IfOk result (λ s. IsGivenRun (map seen_image s.images.items) (lists_of s.inputs.items) s.schedule.items) }
     ensures reached { (files : Files) (w : Whose) → L.files lib.old ≡ Some files → IsErrOf result (Refusal.Library w) → AsksAtPlan files (plan_view plan) w }
     ensures files { OnOk result (L.files lib.new ≡ L.files lib.old) }
@@ -256,6 +284,7 @@ fn open_plan<L: Library>(
         inputs: plan.inputs,
         schedule,
         stops: plan.stops,
+        halt: plan.halt,
     })
 }
 
@@ -263,6 +292,8 @@ fn open_plan<L: Library>(
 pub fn open<L: Library>(alloc: Global, order: &Order, lib: &mut L) -> Result<Setting, Refusal>
     ensures told { (files : Files) → L.files lib.old ≡ Some files → Agrees setting_of result (opening_of files (order_view order.now)) }
     ensures medium { (files : Files) → L.files lib.old ≡ Some files → IfOk result (λ s. medium_at files order.now.plan.now ≡ s.medium) }
+    ensures halt { (files : Files) → L.files lib.old ≡ Some files → IfOk result (λ s. halt_at files order.now.plan.now ≡ s.halt) }
+    ensures disk { IfOk result (λ s. s.ledger ≡ Ledger.Total → s.medium ≡ Media.Disk) }
     ensures ledger { IfOk result (λ s. s.ledger ≡ order.now.ledger) }
     ensures turns { IfOk result (λ s. s.ledger ≡ Ledger.Journal → AreTurns s.schedule.items × (s.stops.items ≡ [])) }
     ensures given { IfOk result (λ s. IsGivenRun (map seen_image s.images.items) (lists_of s.inputs.items) s.schedule.items) }

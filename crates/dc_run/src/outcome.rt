@@ -11,7 +11,7 @@ ghost use Rattle.dc_media.specs.Told.{TellsOn};
 ghost use Rattle.dc_plan.specs.Faults.{fault_text as plan_fault_text};
 ghost use Rattle.dc_schedule.specs.Schedules.{kind_text as schedule_kind_text};
 ghost use Rattle.dc_run.specs.Headline.{Concludes, course};
-ghost use Rattle.dc_run.specs.Outcomes.{IsNothing, counts_text, device_fault_text, device_stop_text, done_text, meant_for, meant_text, not_saved_text, outcome_line, outlet_text, refused_guest_text, refused_store_text, refused_text, status_of, verdict_text, which_text};
+ghost use Rattle.dc_run.specs.Outcomes.{IsNothing, counts_text, device_fault_text, device_stop_text, done_text, meant_for, meant_text, not_saved_text, outcome_line, outlet_text, refused_guest_text, refused_store_text, refused_text, status_of, unsuited_store_text, verdict_text, which_text};
 
 use crate::{
     AsmFault, AuditFault, Did, ElfFault, Outlet, PlanFault, ReportFault, ScheduleFault, StoreFault,
@@ -63,6 +63,8 @@ impl Outcome {
         match self.verdict {
             Verdict::Done => 0,
             Verdict::Unfinished => 1,
+            Verdict::Halted => 15,
+            Verdict::NotHalted => 16,
             Verdict::Usage => 2,
             Verdict::PlanRefused(_) => 3,
             Verdict::GuestRefused(_, _) => 4,
@@ -76,6 +78,7 @@ impl Outcome {
             Verdict::WantOfMemory => 10,
             Verdict::ScheduleRefused(_) => 11,
             Verdict::StoreRefused(_, _) => 12,
+            Verdict::StoreUnsuited(_) => 12,
             Verdict::ReportRefused(_) => 13,
             Verdict::AsmRefused(_) => 14,
             Verdict::JournalRefused(_) => 18,
@@ -107,14 +110,16 @@ impl Outcome {
     fn push_verdict(&self, line: &mut Line)
         requires { length line.old ≤ 4 }
         ensures text { line.new ≡ line.old ++ verdict_text self.now.verdict self.now.did (length self.now.acts.items) self.now.lines }
-        ensures length { length line.new ≤ length line.old + 100 }
+        ensures length { length line.new ≤ length line.old + 130 }
     {
         match self.verdict {
             Verdict::Done => self.push_done(line),
             Verdict::Unfinished => self.push_counts(line, b"unfinished ", self.lines),
+            Verdict::Halted => self.push_counts(line, b"halted ", self.lines),
+            Verdict::NotHalted => line.push(b"not halted"),
             Verdict::Usage => {
                 line.push(
-                    b"usage: dc run PLAN | dc check PLAN REPORT OUT | dc asm SOURCE | dc journal PLAN | dc audit JOURNAL",
+                    b"usage: dc run PLAN | dc check PLAN REPORT OUT | dc asm SOURCE | dc resume PLAN REPORT | dc journal PLAN | dc audit JOURNAL",
                 );
             }
             Verdict::PlanRefused(fault) => push_plan_fault(line, fault),
@@ -129,6 +134,7 @@ impl Outcome {
             Verdict::WantOfMemory => line.push(b"out of memory"),
             Verdict::ScheduleRefused(fault) => push_schedule_fault(line, fault),
             Verdict::StoreRefused(p, fault) => push_store_fault(line, p, fault),
+            Verdict::StoreUnsuited(p) => push_unsuited(line, p),
             Verdict::ReportRefused(fault) => push_report_fault(line, fault),
             Verdict::AsmRefused(fault) => push_asm_fault(line, fault),
             Verdict::JournalRefused(fault) => push_journal_fault(line, fault),
@@ -145,6 +151,7 @@ impl Outcome {
         match self.did {
             Did::Nothing => self.push_counts(line, b"done ", self.lines),
             Did::Run => self.push_counts(line, b"done ", self.lines),
+            Did::Resumed => self.push_counts(line, b"done ", self.lines),
             Did::Checked(visibles) => self.push_counts(line, b"done ", visibles),
             Did::Assembled(bytes) => {
                 line.push(b"done ");
@@ -176,7 +183,7 @@ impl Outcome {
 
 /// What is said of the command that was probably meant.
 fn push_meant(line: &mut Line, meant: Option<CommandName>)
-    requires { length line.old ≤ 104 }
+    requires { length line.old ≤ 134 }
     ensures text { line.new ≡ line.old ++ meant_text meant }
     ensures length { length line.new ≤ length line.old + 30 }
 {
@@ -365,6 +372,16 @@ fn push_store_fault(line: &mut Line, p: u32, fault: StoreFault)
     line.push_number(u64::from(p));
     line.push(b" refused: ");
     push_store_kind(line, fault);
+}
+
+fn push_unsuited(line: &mut Line, p: u32)
+    requires { length line.old ≤ 4 }
+    ensures text { line.new ≡ line.old ++ unsuited_store_text p }
+    ensures length { length line.new ≤ length line.old + 100 }
+{
+    line.push(b"store of ");
+    line.push_number(u64::from(p));
+    line.push(b" refused: strange");
 }
 
 fn push_store_kind(line: &mut Line, fault: StoreFault)

@@ -5,7 +5,7 @@ ghost use Rattle.dc_audit.specs.Journals.{IsOfSixteen};
 ghost use Rattle.dc_audit.specs.Reading.{IsVerdict, Journal as Journals};
 ghost use Rattle.dc_audit.specs.declared.verdict.Verdict.TheVariants as found;
 ghost use Rattle.dc_course.specs.Courses.{account_of, journal_in};
-ghost use Rattle.dc_course.specs.Headline.{Setting as Settings};
+ghost use Rattle.dc_checkpoint.specs.declared.faults.StoreFault.{StoreFault as StoreFaults};
 ghost use Rattle.dc_course.specs.Running.{output};
 ghost use Rattle.dc_course.specs.Lent.{AreLeftFrom, KeepsTold};
 ghost use Rattle.dc_course.specs.declared.ending.Ending.TheVariants as endings;
@@ -22,15 +22,17 @@ ghost use Rattle.dc_run.specs.Checking.{Checked, IsChecked, TellsDifference, Tel
 ghost use Rattle.dc_command.specs.Command.{Names, asked_of, order_view, to_run};
 ghost use Rattle.dc_command.specs.Command.{Order as Orders};
 ghost use Rattle.dc_command.specs.Command.Asked.{ToAssemble, ToAudit, ToCheck, ToRun};
-ghost use Rattle.dc_run.specs.Commands.{AreCalm, Asks, AsksToRunPlan, IfAssembly, IfAudit, IfCheck, IfFound, IfRun, IsCarriedOut, IsExact, IsOpenedFor, TellsFor, may_end, medium_of, stores_used, unasked_by, work_by, work_of};
+ghost use Rattle.dc_run.specs.Commands.{AreCalm, Asks, AsksToGoOn, AsksToRunPlan, IfAssembly, IfAudit, IfCheck, IfFound, IfResume, IfRun, IsCarriedOut, IsExact, IsOpenedFor, TellsFor, may_end, medium_of, stores_used, unasked_by, work_by, work_of};
 ghost use Rattle.dc_run.specs.Headline.{account_of as outcome_account};
-ghost use Rattle.dc_run.specs.Headline.{IsKept, IsReported, Reports, course, is_used_up, keeps_journal, ledger_text, loan, unopened_by, unreported, verdict_at};
+ghost use Rattle.dc_run.specs.Headline.{IsKept, IsReported, Reports, course, is_used_up, keeps_journal, ledger_text, loan, unopened_by, unreported, used_up_at, verdict_at};
 ghost use Rattle.dc_run.specs.Media.{HasFailed, HasStopped, IsOtherSame, devices_of, lent};
-ghost use Rattle.dc_run.specs.Opening.{AsksToRun, medium_at, opening_of};
+ghost use Rattle.dc_run.specs.Opening.{AsksToRun, Task, medium_at, opening_of, part_of, task_in};
+ghost use Rattle.dc_run.specs.Resumed.{HaveStood, IsRefusedStore, IsResumed, IsUnsuited};
+ghost use Rattle.dc_run.specs.Resuming.{Going as Goings};
 ghost use Rattle.dc_run.specs.Outcomes.{IsNothing, status_of};
 ghost use Rattle.dc_run.specs.Passing.{WritesPassing, WritesSaved};
 ghost use Rattle.dc_run.specs.Refusals.{as_verdict};
-ghost use Rattle.dc_run.specs.Settings.{LibraryKept, has_run, is_of_run, is_refusal, may_have_run, setting_of, was_opened};
+ghost use Rattle.dc_run.specs.Settings.{LibraryKept, has_ended, has_run, is_of_going_on, is_of_run, is_refusal, may_have_run, setting_of, task_of, was_opened};
 ghost use Rattle.dc_plan.specs.declared.plan.Medium.{Medium as Media};
 ghost use Rattle.dc_run.specs.declared.verdict.Verdict.{Verdict as Verdicts};
 ghost use Rattle.dc_run.specs.declared.verdict.Which.{Which as Whose};
@@ -38,9 +40,11 @@ ghost use Rattle.dc_run.specs.declared.verdict.Which.{Which as Whose};
 use crate::assembling::assemble_source;
 use crate::auditing::audit_journal;
 use crate::checking::check_output;
+use crate::halting::{entries_run, leaves_over};
 use crate::opening::open;
 use crate::outcome::Outcome;
 use crate::refusal::verdict_of;
+use crate::resuming::resume_run;
 use crate::setting::Setting;
 use crate::{Did, Outlet, Verdict};
 use dc_command::{Asked, CommandFault, Ledger, Order, command_in};
@@ -63,7 +67,9 @@ use std::alloc::Global;
 /// stop of a device. `check PLAN REPORT OUT` fetches what a run is opened with, then a report and an output, plays the report's acts in the
 /// failure-free world, compares the output's lines with those that they show, and writes `ok`, the counts of acts and of visible records to
 /// `out` where both belong together. `asm SOURCE` fetches the source, assembles it and writes the ELF file to `out`. `audit JOURNAL`
-/// fetches the journal, and writes `ok` and the count of its events to `out` where it has Save-work.
+/// fetches the journal, and writes `ok` and the count of its events to `out` where it has Save-work. `resume PLAN REPORT` goes on with a
+/// run on disks that its plan halted: it fetches what a run is opened with and the report of the part before, reads the store of each
+/// process and compares it with the report's acts, and runs what the halt left over, with turns counted from the first entry of all.
 pub fn dc<L: Library, K: Keeps, D: Disks, O: Sink, R: Sink>(
     alloc: Global,
     words: &[String],
@@ -91,7 +97,7 @@ pub fn dc<L: Library, K: Keeps, D: Disks, O: Sink, R: Sink>(
     ensures library_asked { (which : Whose) → IfSome (L.files lib.old) (λ files. result.verdict ≡ Verdict.LibraryFault which → Asks files words.now which) }
     ensures device_fault { (p : ℕ) → result.verdict ≡ Verdict.DeviceFault p → Rose (K.faults keeps.old p) (K.faults keeps.new p) ⊎ Rose (D.faults disks.old p) (D.faults disks.new p) }
     ensures medium_fault { IfSome (L.files lib.old) (λ files. (p : ℕ) → result.verdict ≡ Verdict.DeviceFault p → HasFailed (devices_of K.Keeps D.Disks (medium_of files words.now)) (lent keeps.old disks.old) (lent keeps.new disks.new) p) }
-    ensures stopped_alone { (p : ℕ) → result.verdict ≡ Verdict.DeviceStopped p → (plan : List ℕ) × (asked_of words.now ≡ Some (to_run Ledger.Journal plan)) }
+    ensures stopped_alone { (p : ℕ) → result.verdict ≡ Verdict.DeviceStopped p → ((plan : List ℕ) × (asked_of words.now ≡ Some (to_run Ledger.Journal plan))) ⊎ AsksToGoOn words.now }
     ensures wanting { result.verdict ≡ Verdict.WantOfMemory → (p : ℕ) → IsCalmUnlessStopped K.stops K.faults p keeps.old keeps.new × IsCalmUnlessStopped D.stops D.faults p disks.old disks.new }
     ensures device_stop { (p : ℕ) → result.verdict ≡ Verdict.DeviceStopped p → Rose (K.stops keeps.old p) (K.stops keeps.new p) ⊎ Rose (D.stops disks.old p) (D.stops disks.new p) }
     ensures medium_stop { IfSome (L.files lib.old) (λ files. (p : ℕ) → result.verdict ≡ Verdict.DeviceStopped p → HasStopped (devices_of K.Keeps D.Disks (medium_of files words.now)) (lent keeps.old disks.old) (lent keeps.new disks.new) p) }
@@ -99,29 +105,46 @@ pub fn dc<L: Library, K: Keeps, D: Disks, O: Sink, R: Sink>(
     ensures report_fault { result.verdict ≡ Verdict.SinkFault Outlet.Report → Rose (R.faults report.old) (R.faults report.new) }
 
     // What users see of a run that was opened, and its report.
-    ensures headline { result.did ≡ Did.Run → IfSome (L.files lib.old) (λ files. IsOkAnd (work_of files words.now) (λ work. IfRun work (λ ledger setting.
-        IsReported ledger (devices_of K.Keeps D.Disks (medium_of files words.now)) setting result (loan (lent keeps.old disks.old) (lent keeps.new disks.new)) (course (O.held out.old) (O.held out.new) (O.faults out.old) (O.faults out.new))
+    ensures headline { result.did ≡ Did.Run → IfSome (L.files lib.old) (λ files. IsOkAnd (work_of files words.now) (λ work. IfRun work (λ task.
+        IsReported task (devices_of K.Keeps D.Disks (medium_of files words.now)) result (loan (lent keeps.old disks.old) (lent keeps.new disks.new)) (course (O.held out.old) (O.held out.new) (O.faults out.old) (O.faults out.new))
         (course (R.held report.old) (R.held report.new) (R.faults report.old) (R.faults report.new))))) }
 
     // What a run wrote on sinks that held nothing and did not fail passes the check of it, wherever files hold it. The journal that it wrote in place of its
     // report, where its schedule was used up, has Save-work: an audit of it answers so.
-    ensures passes { result.did ≡ Did.Run → IfSome (L.files lib.old) (λ files. IsOkAnd (work_of files words.now) (λ work. IfRun work (λ ledger setting.
-        ledger ≡ Ledger.Report → (devices_of K.Keeps D.Disks (medium_of files words.now)).tell (length setting.images) (lent keeps.old disks.old) (lent keeps.new disks.new) → WritesPassing setting (course (O.held out.old) (O.held out.new) (O.faults out.old) (O.faults out.new))
+    ensures passes { result.did ≡ Did.Run → IfSome (L.files lib.old) (λ files. IsOkAnd (work_of files words.now) (λ work. IfRun work (λ task.
+        task.ledger ≡ Ledger.Report → (devices_of K.Keeps D.Disks (medium_of files words.now)).tell (length task.setting.images) (lent keeps.old disks.old) (lent keeps.new disks.new) → WritesPassing task.setting (course (O.held out.old) (O.held out.new) (O.faults out.old) (O.faults out.new))
         (course (R.held report.old) (R.held report.new) (R.faults report.old) (R.faults report.new)) result.acts.items))) }
 
-    ensures saves { result.did ≡ Did.Run → IfSome (L.files lib.old) (λ files. IsOkAnd (work_of files words.now) (λ work. IfRun work (λ ledger setting.
-        ledger ≡ Ledger.Journal → (devices_of K.Keeps D.Disks (medium_of files words.now)).tell (length setting.images) (lent keeps.old disks.old) (lent keeps.new disks.new) → is_used_up result.verdict ≡ true →
-        WritesSaved setting (course (R.held report.old) (R.held report.new) (R.faults report.old) (R.faults report.new))))) }
+    ensures saves { result.did ≡ Did.Run → IfSome (L.files lib.old) (λ files. IsOkAnd (work_of files words.now) (λ work. IfRun work (λ task.
+        task.ledger ≡ Ledger.Journal → (devices_of K.Keeps D.Disks (medium_of files words.now)).tell (length task.setting.images) (lent keeps.old disks.old) (lent keeps.new disks.new) → is_used_up result.verdict ≡ true →
+        WritesSaved task.setting (course (R.held report.old) (R.held report.new) (R.faults report.old) (R.faults report.new))))) }
 
     // The same where the files are not told: there is a medium and a setting of which it holds. Words that ask to run a plan do a run or nothing: a
     // run wherever the verdict is one of a run and no fault of a device. No other words come to a run, or to a verdict that only runs have.
-    ensures ran { result.did ≡ Did.Run → (order : Orders) × (asked_of words.now ≡ Some (ToRun order)) × (medium : Media) × (setting : Settings) ×
-        IsReported order.ledger (devices_of K.Keeps D.Disks medium) setting result (loan (lent keeps.old disks.old) (lent keeps.new disks.new)) (course (O.held out.old) (O.held out.new) (O.faults out.old) (O.faults out.new))
+    ensures ran { result.did ≡ Did.Run → (order : Orders) × (asked_of words.now ≡ Some (ToRun order)) × (medium : Media) × (task : Task) × (task.ledger ≡ order.ledger) ×
+        IsReported task (devices_of K.Keeps D.Disks medium) result (loan (lent keeps.old disks.old) (lent keeps.new disks.new)) (course (O.held out.old) (O.held out.new) (O.faults out.old) (O.faults out.new))
         (course (R.held report.old) (R.held report.new) (R.faults report.old) (R.faults report.new)) }
     ensures did { AsksToRunPlan words.now → has_run result.verdict ≡ true → result.did ≡ Did.Run }
     ensures did_run { AsksToRunPlan words.now → (result.did ≡ Did.Run) ⊎ (result.did ≡ Did.Nothing) }
-    ensures runs_alone { (result.did ≡ Did.Run) ⊎ (is_of_run result.verdict ≡ true) → AsksToRunPlan words.now }
+    ensures runs_alone { is_of_run result.verdict ≡ true → AsksToRunPlan words.now ⊎ AsksToGoOn words.now }
+    ensures goes_on_alone { (result.did ≡ Did.Resumed) ⊎ (is_of_going_on result.verdict ≡ true) → AsksToGoOn words.now }
+    ensures did_resumed { AsksToGoOn words.now → has_ended result.verdict ≡ true → result.did ≡ Did.Resumed }
+    ensures did_go_on { AsksToGoOn words.now → (result.did ≡ Did.Resumed) ⊎ (result.did ≡ Did.Nothing) }
     ensures idle { may_have_run result.verdict ≡ false → result.did ≡ Did.Nothing }
+
+    // What users see of a run that went on behind a part that was halted, over both parts, and its report, of both. The same where the files are not told.
+    ensures resumed { result.did ≡ Did.Resumed → IfSome (L.files lib.old) (λ files. IsOkAnd (work_of files words.now) (λ work. IfResume work (λ going.
+        IsResumed going D.Disks result (loan disks.old disks.new) (course (O.held out.old) (O.held out.new) (O.faults out.old) (O.faults out.new)) (course (R.held report.old) (R.held report.new) (R.faults report.old) (R.faults report.new))))) }
+    ensures went { result.did ≡ Did.Resumed → (going : Goings) ×
+        IsResumed going D.Disks result (loan disks.old disks.new) (course (O.held out.old) (O.held out.new) (O.faults out.old) (O.faults out.new)) (course (R.held report.old) (R.held report.new) (R.faults report.old) (R.faults report.new)) }
+    // One that did not go on: its stores stand, under the decided number, for what they stood for; one that is refused, or that is the first that does not
+    // belong to the run, is so by what it holds.
+    ensures unsuited { (p : ℕ) → result.verdict ≡ Verdict.StoreUnsuited p → IfSome (L.files lib.old) (λ files. IsOkAnd (work_of files words.now) (λ work. IfResume work (λ going.
+        IsUnsuited D.Disks going (loan disks.old disks.new) p))) }
+    ensures store { (p : ℕ) (fault : StoreFaults) → result.verdict ≡ Verdict.StoreRefused p fault → result.did ≡ Did.Nothing → IfSome (L.files lib.old) (λ files. IsOkAnd (work_of files words.now) (λ work. IfResume work (λ going.
+        IsRefusedStore D.Disks going (loan disks.old disks.new) p fault))) }
+    ensures stood { result.did ≡ Did.Nothing → may_have_run result.verdict ≡ true → IfSome (L.files lib.old) (λ files. IsOkAnd (work_of files words.now) (λ work. IfResume work (λ going.
+        HaveStood D.Disks going (loan disks.old disks.new)))) }
 
     // An output that passes: `ok`, the counts of its report's acts and of the visible records that they show; and how another differs.
     // The same where the files are not told: some acts and some count. A difference is told exactly where a line differs, of that line.
@@ -166,7 +189,7 @@ pub fn dc<L: Library, K: Keeps, D: Disks, O: Sink, R: Sink>(
     ensures keeps_tells { (p : ℕ) → KeepsTold (of_words K.Keeps) keeps.old keeps.new p }
     ensures keeps_others { IfSome (L.files lib.old) (λ files. AreLeftFrom (stores_used (work_of files words.now)) (of_words K.Keeps) keeps.old keeps.new) }
     ensures keeps_beyond { AreLeftFrom PROCESSES (of_words K.Keeps) keeps.old keeps.new }
-    ensures disks { (AsksToRunPlan words.now → ⊥) → disks.new ≡ disks.old }
+    ensures disks { (AsksToRunPlan words.now → ⊥) → (AsksToGoOn words.now → ⊥) → disks.new ≡ disks.old }
     ensures disks_refused { may_have_run result.verdict ≡ false → (result.verdict ≡ Verdict.WantOfMemory → ⊥) → disks.new ≡ disks.old }
     ensures disks_later { (p : ℕ) → (D.stops disks.old p ≤ D.stops disks.new p) × (D.faults disks.old p ≤ D.faults disks.new p) }
     ensures disks_tells { (p : ℕ) → KeepsTold (of_disks D.Disks) disks.old disks.new p }
@@ -178,6 +201,7 @@ pub fn dc<L: Library, K: Keeps, D: Disks, O: Sink, R: Sink>(
         Ok(Asked::Check(names)) => check_output(alloc, &names, lib, out),
         Ok(Asked::Assemble(source)) => assemble_source(alloc, source, lib, out),
         Ok(Asked::Audit(journal)) => audit_journal(alloc, journal, lib, out),
+        Ok(Asked::Resume(names)) => resume_run(alloc, &names, lib, disks, out, report),
         Err(fault) => Outcome::idle(alloc, unasked(fault)),
     }
 }
@@ -194,13 +218,20 @@ fn unasked(fault: CommandFault) -> Verdict
     }
 }
 
-/// The verdict of a run that ended so.
-fn verdict_at(ending: Ending) -> Verdict
-    ensures { result ≡ verdict_at ending }
+/// The verdict of a run whose entries are used up: where it was halted there are more.
+fn used_up_at(halted: bool, verdict: Verdict) -> Verdict
+    ensures { result ≡ used_up_at halted verdict }
+{
+    if halted { Verdict::Halted } else { verdict }
+}
+
+/// The verdict of a run that ended so, by whether it is halted before its schedule is used up.
+pub fn verdict_at(halted: bool, ending: Ending) -> Verdict
+    ensures { result ≡ verdict_at halted ending }
 {
     match ending {
-        Ending::Done => Verdict::Done,
-        Ending::Unfinished => Verdict::Unfinished,
+        Ending::Done => used_up_at(halted, Verdict::Done),
+        Ending::Unfinished => used_up_at(halted, Verdict::Unfinished),
         Ending::Device(p) => Verdict::DeviceFault(p),
         Ending::Store(p, fault) => Verdict::StoreRefused(p, fault),
         Ending::Sink => Verdict::SinkFault(Outlet::Out),
@@ -208,9 +239,9 @@ fn verdict_at(ending: Ending) -> Verdict
     }
 }
 
-/// The outcome of a run, and its journal.
-fn outcome_of(course: Course) -> (Outcome, Journal)
-    ensures outcome { result.0 ≡ record { verdict = verdict_at course.ending; did = Did.Run; acts = course.acts; marks = course.marks; lines = course.lines; difference = None } }
+/// The outcome of a run, by whether it is halted before its schedule is used up, and its journal.
+fn outcome_of(halted: bool, course: Course) -> (Outcome, Journal)
+    ensures outcome { result.0 ≡ record { verdict = verdict_at halted course.ending; did = Did.Run; acts = course.acts; marks = course.marks; lines = course.lines; difference = None } }
     ensures journal { result.1 ≡ course.journal }
 {
     let Course {
@@ -221,7 +252,7 @@ fn outcome_of(course: Course) -> (Outcome, Journal)
         ending,
     } = course;
     let outcome = Outcome {
-        verdict: verdict_at(ending),
+        verdict: verdict_at(halted, ending),
         did: Did::Run,
         acts,
         marks,
@@ -256,7 +287,7 @@ fn run_setting<K: Keeps, D: Disks, O: Sink>(
     disks: &mut D,
     out: &mut O,
 ) -> Result<Course, OpenFault>
-    ensures headline { IfOk result (λ run. IsKept (devices_of K.Keeps D.Disks setting.medium) (setting_of setting) (account_of run) run.ending (output (O.held out.old) (O.held out.new)) (loan (lent keeps.old disks.old) (lent keeps.new disks.new))) }
+    ensures headline { IfOk result (λ run. IsKept (devices_of K.Keeps D.Disks setting.medium) (part_of (task_of setting)) (account_of run) run.ending (output (O.held out.old) (O.held out.new)) (loan (lent keeps.old disks.old) (lent keeps.new disks.new))) }
     ensures stop { IfOk result (λ run. setting.stops.items ≡ [] → (p : ℕ) → run.ending ≡ endings.Stopped p → HasStopped (devices_of K.Keeps D.Disks setting.medium) (lent keeps.old disks.old) (lent keeps.new disks.new) p) }
     ensures kept { IfOk result (λ run. run.journal.kept ≡ keeps_journal setting.ledger) }
     ensures sixteen { IfOk result (λ run. All IsOfSixteen run.journal.lines.items) }
@@ -287,6 +318,7 @@ fn run_setting<K: Keeps, D: Disks, O: Sink>(
         inputs,
         schedule,
         stops,
+        halt,
     } = setting;
     let setup = Setup {
         protocol,
@@ -294,9 +326,10 @@ fn run_setting<K: Keeps, D: Disks, O: Sink>(
         inputs,
     };
     let kept = keeps_journal(ledger);
+    let entries = entries_run(halt, &schedule);
     match medium {
-        Medium::Rio => run_on_memory(alloc, setup, &schedule, stops, kept, keeps, out),
-        Medium::Disk => run_on_disks(alloc, setup, &schedule, stops, kept, disks, out),
+        Medium::Rio => run_on_memory(alloc, setup, entries, stops, kept, keeps, out),
+        Medium::Disk => run_on_disks(alloc, setup, entries, stops, kept, disks, out),
     }
 }
 
@@ -324,17 +357,18 @@ fn run_plan<L: Library, K: Keeps, D: Disks, O: Sink, R: Sink>(
     ensures output_fault { result.verdict ≡ Verdict.SinkFault Outlet.Out → Rose (O.faults out.old) (O.faults out.new) }
     ensures report_fault { result.verdict ≡ Verdict.SinkFault Outlet.Report → Rose (R.faults report.old) (R.faults report.new) }
     ensures headline { result.did ≡ Did.Run → IfSome (L.files lib.old) (λ files. IsOkAnd (as_verdict (opening_of files (order_view order.now))) (λ setting.
-        IsReported order.now.ledger (devices_of K.Keeps D.Disks (medium_at files order.now.plan.now)) setting result (loan (lent keeps.old disks.old) (lent keeps.new disks.new)) (course (O.held out.old) (O.held out.new) (O.faults out.old) (O.faults out.new))
+        IsReported (task_in files (order_view order.now) setting) (devices_of K.Keeps D.Disks (medium_at files order.now.plan.now)) result (loan (lent keeps.old disks.old) (lent keeps.new disks.new)) (course (O.held out.old) (O.held out.new) (O.faults out.old) (O.faults out.new))
         (course (R.held report.old) (R.held report.new) (R.faults report.old) (R.faults report.new)))) }
     ensures saves { result.did ≡ Did.Run → IfSome (L.files lib.old) (λ files. IsOkAnd (as_verdict (opening_of files (order_view order.now))) (λ setting.
         order.now.ledger ≡ Ledger.Journal → (devices_of K.Keeps D.Disks (medium_at files order.now.plan.now)).tell (length setting.images) (lent keeps.old disks.old) (lent keeps.new disks.new) → is_used_up result.verdict ≡ true →
         WritesSaved setting (course (R.held report.old) (R.held report.new) (R.faults report.old) (R.faults report.new)))) }
     ensures stopped_alone { (p : ℕ) → result.verdict ≡ Verdict.DeviceStopped p → order.now.ledger ≡ Ledger.Journal }
+    ensures begun { is_of_going_on result.verdict ≡ false }
     ensures passes { result.did ≡ Did.Run → IfSome (L.files lib.old) (λ files. IsOkAnd (as_verdict (opening_of files (order_view order.now))) (λ setting.
         order.now.ledger ≡ Ledger.Report → (devices_of K.Keeps D.Disks (medium_at files order.now.plan.now)).tell (length setting.images) (lent keeps.old disks.old) (lent keeps.new disks.new) → WritesPassing setting (course (O.held out.old) (O.held out.new) (O.faults out.old) (O.faults out.new))
         (course (R.held report.old) (R.held report.new) (R.faults report.old) (R.faults report.new)) result.acts.items)) }
-    ensures ran { result.did ≡ Did.Run → (medium : Media) × (setting : Settings) ×
-        IsReported order.now.ledger (devices_of K.Keeps D.Disks medium) setting result (loan (lent keeps.old disks.old) (lent keeps.new disks.new)) (course (O.held out.old) (O.held out.new) (O.faults out.old) (O.faults out.new))
+    ensures ran { result.did ≡ Did.Run → (medium : Media) × (task : Task) × (task.ledger ≡ order.now.ledger) ×
+        IsReported task (devices_of K.Keeps D.Disks medium) result (loan (lent keeps.old disks.old) (lent keeps.new disks.new)) (course (O.held out.old) (O.held out.new) (O.faults out.old) (O.faults out.new))
         (course (R.held report.old) (R.held report.new) (R.faults report.old) (R.faults report.new)) }
     ensures did { has_run result.verdict ≡ true → result.did ≡ Did.Run }
     ensures did_run { (result.did ≡ Did.Run) ⊎ (result.did ≡ Did.Nothing) }
@@ -364,9 +398,10 @@ fn run_plan<L: Library, K: Keeps, D: Disks, O: Sink, R: Sink>(
         Err(refusal) => return Outcome::idle(alloc, verdict_of(refusal)),
     };
     let n = setting.images.len() as u32;
+    let halted = leaves_over(setting.halt, &setting.schedule);
     match run_setting(alloc, setting, keeps, disks, out) {
         Ok(course) => {
-            let (outcome, journal) = outcome_of(course);
+            let (outcome, journal) = outcome_of(halted, course);
             reported(outcome, &journal, n, report)
         }
         Err(fault) => Outcome::idle(alloc, unopened(fault)),
@@ -374,12 +409,13 @@ fn run_plan<L: Library, K: Keeps, D: Disks, O: Sink, R: Sink>(
 }
 
 /// The verdict of a run whose report was not written whole.
-fn unreported(verdict: Verdict) -> Verdict
+pub fn unreported(verdict: Verdict) -> Verdict
     ensures { result ≡ unreported verdict }
 {
     match verdict {
         Verdict::Done => Verdict::SinkFault(Outlet::Report),
         Verdict::Unfinished => Verdict::SinkFault(Outlet::Report),
+        Verdict::Halted => Verdict::SinkFault(Outlet::Report),
         stood => stood,
     }
 }

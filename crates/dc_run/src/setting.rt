@@ -13,8 +13,8 @@ use dc_model::Entry;
 use dc_plan::Medium;
 use dc_protocols::Protocol;
 
-/// What a run is opened with: what it writes at its end, its protocol, the medium of its stores, the image of each guest, the records of each one's input, its schedule, and the stops
-/// that are planned.
+/// What a run is opened with: what it writes at its end, its protocol, the medium of its stores, the image of each guest, the records of each one's input, its schedule, the stops
+/// that are planned, and the first entry that is not run, if it is to be halted.
 #[derive(Drop)]
 pub struct Setting {
     pub ledger: Ledger,
@@ -24,6 +24,7 @@ pub struct Setting {
     pub inputs: Vec<Vec<Message>>,
     pub schedule: Vec<Entry>,
     pub stops: Vec<PlannedStop>,
+    pub halt: Option<u32>,
     ghost seven: { is_causal protocol ≡ false },
     ghost some: { 0 < length images.items },
     ghost few: { length images.items ≤ PROCESSES },

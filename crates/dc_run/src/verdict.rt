@@ -41,6 +41,8 @@ pub enum Did {
     Nothing,
     /// It ran a plan, and wrote its report or its journal.
     Run,
+    /// It went on with a run that was halted, and wrote the report of both parts.
+    Resumed,
     /// It checked an output, and found so many visible records in it.
     Checked(u32),
     /// It assembled a source to a file of so many bytes.
@@ -57,6 +59,10 @@ pub enum Verdict {
     Done,
     /// The schedule is used up and some guest has not ended.
     Unfinished,
+    /// The run was halted as its plan asks, with entries of its schedule left over.
+    Halted,
+    /// The report is not that of a run that was halted with entries of its schedule left over.
+    NotHalted,
     /// The words are not those of a command.
     Usage,
     /// The plan breaks that rule first.
@@ -69,7 +75,7 @@ pub enum Verdict {
     LibraryFault(Which),
     /// The device of that process failed.
     DeviceFault(u32),
-    /// The device of that process was stopped, in a run that was to leave its journal: it ended there.
+    /// The device of that process was stopped, in a run that was to leave its journal and ended there, or before a run went on.
     DeviceStopped(u32),
     /// That sink failed.
     SinkFault(Outlet),
@@ -77,12 +83,14 @@ pub enum Verdict {
     NotARun(u32),
     /// That line of the output is the first that differs; `Outcome::difference` has what stands there and what would.
     Differs(u64),
-    /// There was no memory to open the run, to check the output, to assemble the source, or to audit the journal.
+    /// There was no memory to open the run or to go on with it, to check the output, to assemble the source, or to audit the journal.
     WantOfMemory,
     /// The schedule's first faulty line.
     ScheduleRefused(ScheduleFault),
     /// The checkpoint in the store of that process is refused, by the first thing that is wrong with it.
     StoreRefused(u32, StoreFault),
+    /// The checkpoint in the store of that process does not belong to the run that was to go on; those of the processes before it do.
+    StoreUnsuited(u32),
     /// The report's first faulty line.
     ReportRefused(ReportFault),
     /// The source's first faulty line.

@@ -15,12 +15,14 @@ mod cases;
 mod devices;
 mod files;
 mod guest_files;
+mod parts;
 mod planned;
+mod resumed;
 
 use cases::{
     ANSWERS, CALLS, CHECKS, COMMANDS, COMMITTED_TOGETHER, DECIDED_TOGETHER, DISKS, FAILING, GUESTS,
-    JOURNALS, LONG, PLANS, RECOVERED_TOGETHER, RUNS, SCHEDULES, SOURCES, STOPPED, STOPS, TOGETHER,
-    TOO_LONG, WRITTEN,
+    JOURNALS, LONG, PARTED, PLANS, RECOVERED_TOGETHER, RESUMED, RUNS, SCHEDULES, SOURCES, STOPPED,
+    STOPS, TOGETHER, TOO_LONG, WRITTEN,
 };
 use dc_cases::{
     coded, holds, is_read, number, numbers, passing, says, text, value, wanted_report, words,
@@ -29,7 +31,9 @@ use dc_memmedia::{MemDisks, MemKeeps, MemLibrary, MemSink};
 use dc_model::{Idle, Mark};
 use dc_run::{Did, Outcome, conclude};
 use devices::{Devices, called, called_aside};
+use parts::parted_under;
 use planned::{library, refused, tried_calls};
+use resumed::all_resumed;
 use std::alloc::Global;
 use std::test::Fail;
 
@@ -402,6 +406,21 @@ fn calls_stopped(rt: HostRuntime) -> Result<(), Fail> {
 #[test]
 fn calls_failing(rt: HostRuntime) -> Result<(), Fail> {
     all(rt.alloc(), FAILING)
+}
+
+#[test]
+fn parts_alone(rt: HostRuntime) -> Result<(), Fail> {
+    parted_under(rt.alloc(), PARTED, "cand cand-log cpvs cbndvs cbndvs-log")
+}
+
+#[test]
+fn parts_together(rt: HostRuntime) -> Result<(), Fail> {
+    parted_under(rt.alloc(), PARTED, "cpv-2pc cbndv-2pc")
+}
+
+#[test]
+fn resumed_runs(rt: HostRuntime) -> Result<(), Fail> {
+    all_resumed(rt.alloc(), RESUMED)
 }
 
 /// Each front of a text is tried as one of a case's, by a key.

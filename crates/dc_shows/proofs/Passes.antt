@@ -1,5 +1,5 @@
 -- What a drawn run lists and shows passes.
-use Rattle.std.proofs.Common.{◌≡◌, ◌<◌, ◌≤◌, ◌^◌, ℕ, true, List, [], ◌∷◌, Ok, Some, arith, length, reverse}
+use Rattle.std.proofs.Common.{All, ◌≡◌, ◌<◌, ◌≤◌, ◌^◌, ℕ, true, List, [], ◌∷◌, Ok, Some, arith, length, reverse}
 use Rattle.std.specs.List.{AllByRecursion}
 use Rattle.dc_acts.specs.Lines.{text_of}
 use Rattle.dc_report.specs.Reading.{Report, is_status, report_of, text_of_report}
@@ -34,9 +34,10 @@ module _ (images : List Image) (inputs : List (List (List ℕ))) (schedule : Lis
   few = let h = is.few in omega (arith, h)
 
   pub listed : (report : Report) (w : World Guest) → Drawn (length images) schedule report.acts → run (guests_of images inputs) report.acts ≡ Some w
-      → is_status report.status ≡ true → report.entries ≤ ENTRIES → report.lines ≤ report.entries → report_of (length images) (text_of_report report) ≡ Ok report
-  listed report w drawn ran status entries lines = report_again (length images) report is.few
-      (record { status = status; acts = (run_written images inputs few is.images_are is.inputs_are schedule is.schedule_is report.acts w drawn ran).1; entries = entries; lines = lines })
+      → is_status report.status ≡ true → report.entries ≤ ENTRIES → report.lines ≤ report.entries
+      → (report.status ≡ 15 → All (λ x. x.t < report.entries) report.acts) → report_of (length images) (text_of_report report) ≡ Ok report
+  listed report w drawn ran status entries lines halted = report_again (length images) report is.few
+      (record { status = status; acts = (run_written images inputs few is.images_are is.inputs_are schedule is.schedule_is report.acts w drawn ran).1; entries = entries; lines = lines; halted = halted })
 
   pub shown : (acts : List Taken) (w : World Guest) (records : List Visible) → Drawn (length images) schedule acts → run (guests_of images inputs) acts ≡ Some w
       → thin records ≡ w.visibles → RepeatsAgree (reverse records) → finding_of (guests_of images inputs) schedule acts (text_of records) ≡ Passes (length w.visibles)

@@ -1,4 +1,4 @@
-ghost use Rattle.std.specs.Prelude.{◌≡◌, ◌≤◌, ◌<◌, ◌^◌, Ok, Some, true, List, ℕ, length, reverse};
+ghost use Rattle.std.specs.Prelude.{◌≡◌, ◌≤◌, ◌<◌, ◌^◌, All, Ok, Some, true, List, ℕ, length, reverse};
 ghost use Rattle.std.specs.List.{AllByRecursion};
 ghost use Rattle.dc_report.specs.Reading.{AreActs, Report, is_status, report_of, text_of_report};
 ghost use Rattle.dc_acts.specs.Lines.{text_of};
@@ -29,11 +29,13 @@ pub fn runs_can_be_written()
         AllByRecursion (CanWrite (length images) (length acts)) w.visibles × AreActs (length images) 0 acts }
 {}
 
-/// What a drawn run lists is read back from its report, and what it shows, with repeats that agree, passes the check.
+/// What a drawn run lists is read back from its report, where a halted one, of status 15, took the entries of all its acts; and what it
+/// shows, with repeats that agree, passes the check.
 pub fn drawn_runs_pass()
     ensures listed { (images : List Image) (inputs : List (List (List ℕ))) (schedule : List Entry) (report : Report) (w : World Guest) → IsGivenRun images inputs schedule →
         Drawn (length images) schedule report.acts → run (guests_of images inputs) report.acts ≡ Some w →
-        is_status report.status ≡ true → report.entries ≤ ENTRIES → report.lines ≤ report.entries → report_of (length images) (text_of_report report) ≡ Ok report }
+        is_status report.status ≡ true → report.entries ≤ ENTRIES → report.lines ≤ report.entries →
+        (report.status ≡ 15 → All (λ x. x.t < report.entries) report.acts) → report_of (length images) (text_of_report report) ≡ Ok report }
     ensures shown { (images : List Image) (inputs : List (List (List ℕ))) (schedule : List Entry) (acts : List Taken) (w : World Guest) (records : List Visible) → IsGivenRun images inputs schedule →
         Drawn (length images) schedule acts → run (guests_of images inputs) acts ≡ Some w → thin records ≡ w.visibles → RepeatsAgree (reverse records) →
         finding_of (guests_of images inputs) schedule acts (text_of records) ≡ Passes (length w.visibles) }

@@ -78,8 +78,11 @@ ok|^close 1 0 0 0~
 ok|^close 7 0 0 0~
 ok|^close 8 0 0 0~
 ok|^close 12 0 0 0~
+ok|^close 15 0 0 0~
 line 2: form|^close 2 0 0 0~
 line 2: form|^close 13 0 0 0~
+line 2: form|^close 14 0 0 0~
+line 2: form|^close 16 0 0 0~
 line 2: form|^close 1000000000000000000000000 0 0 0~
 line 1: cut|
 line 2: cut|^
@@ -127,6 +130,13 @@ line 2: count|^close 0 1 0 2~
 line 2: count|^close 0 0 1 0~
 line 2: count|^close 0 0 1000000000000000000000000 0~
 line 2: count|^close 0 9 0 1000000000000000000000000~
+ok|^act 0 0 plain~act 1 1 plain~act 4 2 plain~close 15 5 3 1~
+line 5: count|^act 0 0 plain~act 1 1 plain~act 5 2 plain~close 15 5 3 1~
+ok|^act 0 0 plain~act 1 1 plain~act 5 2 plain~close 15 6 3 1~
+ok|^act 0 0 plain~act 1 1 plain~act 5 2 plain~close 7 5 3 1~
+line 3: count|^act 0 0 plain~close 15 0 1 0~
+ok|^act 999999 0 plain~close 15 1000000 1 0~
+line 3: form|^act 5 0 plain~close 15 5 1 01~
 line 2: form|^close 0 9 1 01~
 line 2: form|^close 0 0 0~
 line 2: form|^close 0 0 0 0 0~

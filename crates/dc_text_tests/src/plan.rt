@@ -108,6 +108,9 @@ schedule|schedule = \"\\u0073\"|
 guests memory|memory = 131072~guests = ['a']|
 protocol|protocol = '''~cand'''|
 medium|medium = 'disk'|
+medium|medium = 'disk'~halt = 0|
+medium|medium = 'disk'~halt = 1000000|
+medium|halt = 1~medium = 'disk'~stop = []|
 ";
 
 #[test]
@@ -128,6 +131,8 @@ const KEYS: &str = "\
 protocol|protocol.name = 'cand'~memo = 1|unknown
 protocol|memo = 1|unknown
 |[[stop]]~turns = 1|unknown
+medium|medium = 'disk'~[[stop]]~halt = 1|unknown
+|Halt = 1|unknown
 |stop = [1, {}, {turn = 1, halt = 1}]|unknown
 ";
 
@@ -277,11 +282,37 @@ fn stops_are_whole(rt: HostRuntime) -> Result<(), Fail> {
     each_row(rt.alloc(), STOPS)
 }
 
+/// No plans, for where they halt.
+const HALTS: &str = "\
+medium|medium = 'disk'~halt = '5'|kind halt
+medium|medium = 'disk'~halt = 5.0|kind halt
+medium|medium = 'disk'~halt = [5]|kind halt
+medium|medium = 'disk'~halt = 1000001|range halt
+medium|medium = 'disk'~halt = 4294967296|range halt
+medium|medium = 'disk'~halt = -1|range halt
+|halt = '5'|kind halt
+|halt = 5|range halt
+|halt = 0|range halt
+|halt = 1000001|range halt
+schedule|halt = '5'|missing schedule
+|turns = 1~halt = '5'|range turns
+medium|medium = 'disk'~halt = 5~stop = [{}]|missing stop
+medium|medium = 'disk'~halt = '5'~stop = 1|kind stop
+medium|medium = 'disk'~halt = -1~stop = [{turn = 1000000, process = 0, call = 1, keep = 0}]|range stop
+medium|medium = 'disk'~halt = -1~stop = [{turn = 0, process = 0, call = 1, keep = 0}]|range halt
+";
+
+#[test]
+fn halts_are_entries_on_disks(rt: HostRuntime) -> Result<(), Fail> {
+    each_row(rt.alloc(), HALTS)
+}
+
 fn has_values(plan: &Plan) -> Result<(), Fail> {
     holds(plan.protocol == Protocol::Cbndvs, "protocol")?;
     holds(plan.medium == Medium::Rio, "medium")?;
     holds(plan.memory == 1048576, "memory")?;
-    holds(plan.stops.is_empty(), "stops")
+    holds(plan.stops.is_empty(), "stops")?;
+    holds(plan.halt.is_none(), "halt")
 }
 
 fn has_guest(guests: &[String]) -> Result<(), Fail> {
@@ -395,17 +426,21 @@ fn stop_text(alloc: Global, stop: &PlannedStop) -> Result<String, AllocError> {
     Ok(text)
 }
 
-/// What a plan says of its schedule and its stops, as text.
+/// What a plan says of its schedule, its stops and where it halts, as text.
 fn plan_text(alloc: Global, plan: &Plan) -> Result<String, AllocError> {
     let mut text = source_text(alloc, &plan.schedule)?;
     for stop in &plan.stops {
         text.push_str("; ")?;
         text.push_str(stop_text(alloc, stop)?.as_str())?;
     }
+    if let Some(entry) = plan.halt {
+        let halt = format!(in alloc; "; halt {entry}")?;
+        text.push_str(halt.as_str())?;
+    }
     Ok(text)
 }
 
-/// Plans with what they say of their schedule and their stops.
+/// Plans with what they say of their schedule, their stops and where they halt.
 const SAID: &str = "\
 schedule|schedule = ''|file=
 schedule|seed = 0~turns = 0|seed 0 0
@@ -414,6 +449,8 @@ schedule|seed = 9223372036854775807~turns = 1000000|seed 9223372036854775807 100
 |stop = []|file=s
 |[[stop]]~turn = 0~process = 0~call = 1~keep = 0|file=s; 0 0 1 0
 medium|medium = 'disk'~stop = [{turn = 1, process = 0, call = 2, keep = 3, fill = 255}, {turn = 1, process = 0, call = 2, keep = 3}]|file=s; 1 0 2 3 255; 1 0 2 3
+medium|medium = 'disk'~halt = 0|file=s; halt 0
+medium|medium = 'disk'~halt = 1000000~stop = [{turn = 1, process = 0, call = 2, keep = 3}]|file=s; 1 0 2 3; halt 1000000
 guests schedule|guests = ['1', '2', '3', '4', '5', '6', '7', '8']~seed = 7~turns = 3~stop = [{turn = 999999, process = 7, call = 4000000000, keep = 4000000000}, {keep = 4, call = 3, process = 2, turn = 1}]|seed 7 3; 999999 7 4000000000 4000000000; 1 2 3 4
 ";
 
@@ -432,7 +469,7 @@ fn plan_says(alloc: Global, row: &str) -> Result<(), Fail> {
 }
 
 #[test]
-fn a_plan_says_its_schedule_and_stops(rt: HostRuntime) -> Result<(), Fail> {
+fn a_plan_says_its_schedule_its_stops_and_its_halt(rt: HostRuntime) -> Result<(), Fail> {
     for row in SAID.lines() {
         plan_says(rt.alloc(), row)?;
     }
@@ -458,6 +495,7 @@ fn a_fault_names_its_key(rt: HostRuntime) -> Result<(), Fail> {
         (PlanFault::Kind(Key::Seed), "kind seed"),
         (PlanFault::Missing(Key::Turns), "missing turns"),
         (PlanFault::TooMany(Key::Stop), "too many stop"),
+        (PlanFault::Range(Key::Halt), "range halt"),
     ];
     for (fault, text) in texts {
         has_text(rt.alloc(), fault, text)?;

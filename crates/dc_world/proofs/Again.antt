@@ -29,8 +29,8 @@ use Rattle.dc_twophase.proofs.Pairs.{known}
 use Rattle.dc_twophase.specs.Stores.{At, Each}
 use Rattle.dc_words.specs.Lists.{lists_of}
 use Rattle.dc_world.proofs.Resumed.{resumed}
-use Rattle.dc_world.specs.Opened.{AreMadeFor}
-use Rattle.dc_world.specs.Reopened.{AreDownAt, AreExposed, AreOver, IsAgain, IsFirstSteady, IsLeftDown, IsReadBeside, IsReopened}
+use Rattle.dc_world.specs.Opened.{AreMadeFor, AreOver}
+use Rattle.dc_world.specs.Reopened.{AreDownAt, AreExposed, IsAgain, IsFirstSteady, IsLeftDown, IsReadBeside, IsReopened}
 use Rattle.dc_world.specs.Worlds.{IsReady}
 use Rattle.dc_world.specs.declared.opening.Setup.{Setup}
 use Rattle.dc_world.specs.declared.reopening.Earlier.{Earlier}

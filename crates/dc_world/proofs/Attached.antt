@@ -6,6 +6,7 @@ use Rattle.dc_checkpoint.specs.Handles.{IsSame}
 use Rattle.dc_checkpoint.specs.States.{Reading}
 use Rattle.dc_checkpoint.specs.declared.checkpoint.Checkpoint as checkpoint
 use Rattle.dc_checkpoint.specs.declared.faults.StoreFault.{StoreFault}
+use Rattle.dc_elf.specs.Loaded.{seen_image}
 use Rattle.dc_elf.specs.declared.image.Image.{Image}
 use Rattle.dc_guest.specs.Guest.{Guest}
 use Rattle.dc_model.specs.Runs.{Given, IsRun}
@@ -21,33 +22,14 @@ use Rattle.dc_twophase.proofs.Pairs.{before_it, known}
 use Rattle.dc_twophase.specs.Commits.{AllOld}
 use Rattle.dc_twophase.specs.Recoveries.{IsRefusal}
 use Rattle.dc_twophase.specs.Stores.{AtPair, EachPair, on}
-use Rattle.dc_world.specs.Reopened.{AreAttached, AreOver, HasHandle, HasNumber, IsFirstSteady, IsOver, IsReadBeside, OverAny, Refuses, Stood}
+use Rattle.dc_world.proofs.Over.{over_same, over_still}
+use Rattle.dc_world.specs.Opened.{AreOver, IsOver}
+use Rattle.dc_world.specs.Reopened.{AreAttached, HasHandle, HasNumber, IsFirstSteady, IsReadBeside, OverAny, Refuses, Stood}
 
 module _ {C D : Type 0} (g : checkpoint.Ghosts C D) where
-  -- two handles over one store
-  pub over_same : (n p : ℕ) (image : Image) (b c : C) → IsOver g n p image b → IsOver g n p image c → IsSame g b c
-  over_same n p image b c was is = record {
-    index_same = is.belongs.index_is ∙ sym was.belongs.index_is;
-    size_same = let x = was.sized in let y = is.sized in omega (arith, x, y);
-    form_same = own_form g n p c is.belongs ∙ sym (own_form g n p b was.belongs);
-    first_same = is.first_is ∙ sym was.first_is;
-  }
-
-  -- and what is the same store as one that is over it
-  pub over_still : (n p : ℕ) (image : Image) (b c : C) → IsSame g b c → IsOver g n p image b → IsOver g n p image c
-  over_still n p image b c same was = record {
-    belongs = record {
-      index_is = same.index_same ∙ was.belongs.index_is;
-      form_n = subst (λ f. f.n ≡ n) (sym same.form_same) was.belongs.form_n;
-      form_p = subst (λ f. f.p ≡ p) (sym same.form_same) was.belongs.form_p;
-    };
-    sized = let x = was.sized in let y = same.size_same in omega (arith, x, y);
-    first_is = same.first_same ∙ was.first_is;
-  }
-
   pub are_over : (images : List Image) (dev : D) (stores stores1 : List C) → length stores1 ≡ length stores → length stores ≡ length images → EachPair stores stores1 (λ i. IsSame g) → AreAttached g images dev stores → AreOver g images stores1
   are_over images dev stores stores1 as_many long same attached p c there image at =
-      let b = before_it stores stores1 p c as_many there in over_still (length images) p image b.0 c (same p b.0 c b.1 there) (attached p b.0 b.1 image at).over
+      let b = before_it stores stores1 p c as_many there in over_still g (length images) p (seen_image image) b.0 c (same p b.0 c b.1 there) (attached p b.0 b.1 image at).over
 
   -- there is one over each store
   pub attached_handles : (images : List Image) (dev : D) (stores : List C) → length stores ≡ length images → AreAttached g images dev stores → (p : ℕ) → HasHandle g images p
@@ -79,23 +61,23 @@ module _ {C D : Type 0} (g : checkpoint.Ghosts C D) (leaves_alike : (b c : C) (d
   within : (p : ℕ) (image : Image) → slice_get images p ≡ Some image → p < n
   within p image at = slice_get_within images p image at
 
-  was_over : (p : ℕ) (image : Image) (at : slice_get images p ≡ Some image) → IsOver g n p image (before p (within p image at)).0
+  was_over : (p : ℕ) (image : Image) (at : slice_get images p ≡ Some image) → IsOver g n p (seen_image image) (before p (within p image at)).0
   was_over p image at = let b = before p (within p image at) in (attached p b.0 b.1 image at).over
 
-  is_over : (p : ℕ) (image : Image) (at : slice_get images p ≡ Some image) → IsOver g n p image (after p (within p image at)).0
-  is_over p image at = let b = before p (within p image at) in let c = after p (within p image at) in over_still g n p image b.0 c.0 (same p b.0 c.0 b.1 c.1) (was_over p image at)
+  is_over : (p : ℕ) (image : Image) (at : slice_get images p ≡ Some image) → IsOver g n p (seen_image image) (after p (within p image at)).0
+  is_over p image at = let b = before p (within p image at) in let c = after p (within p image at) in over_still g n p (seen_image image) b.0 c.0 (same p b.0 c.0 b.1 c.1) (was_over p image at)
 
   pub has_handle : (p : ℕ) → HasHandle g images p
   has_handle p image at = ((after p (within p image at)).0, is_over p image at)
 
   -- what any handle stands for now, the one that was read does, and the other way
-  now_read : (p : ℕ) (image : Image) (at : slice_get images p ≡ Some image) (x : C) → IsOver g n p image x → (d : ℕ) (r : Reading) → g.leaves x new d r → g.leaves (after p (within p image at)).0 new d r
-  now_read p image at x over = let c = (after p (within p image at)).0 in leaves_alike x c new (over_same g n p image x c over (is_over p image at))
+  now_read : (p : ℕ) (image : Image) (at : slice_get images p ≡ Some image) (x : C) → IsOver g n p (seen_image image) x → (d : ℕ) (r : Reading) → g.leaves x new d r → g.leaves (after p (within p image at)).0 new d r
+  now_read p image at x over = let c = (after p (within p image at)).0 in leaves_alike x c new (over_same g n p (seen_image image) x c over (is_over p image at))
 
   pub all_stood : (d : ℕ) → AllOld g (on stores old) (on stores1 new) d → Stood g images d old new
   all_stood d all p image x at over r left =
       let b = before p (within p image at) in let c = after p (within p image at) in
-      leaves_alike b.0 x old (over_same g n p image b.0 x (was_over p image at) over) d r (all p b.0 c.0 b.1 c.1 r (now_read p image at x over d r left))
+      leaves_alike b.0 x old (over_same g n p (seen_image image) b.0 x (was_over p image at) over) d r (all p b.0 c.0 b.1 c.1 r (now_read p image at x over d r left))
 
   pub all_read : (d : ℕ) (stored : ℕ → Stored) → AreReadAs g d stored (on stores1 new) → (p : ℕ) → OverAny g images p (λ c. (r : Reading) → g.leaves c new d r → r ≡ reading_of (stored p))
   all_read d stored read p image x at over r left = let c = after p (within p image at) in read p c.0 c.1 r (now_read p image at x over d r left)
@@ -122,13 +104,13 @@ module _ {C D : Type 0} (g : checkpoint.Ghosts C D) (leaves_alike : (b c : C) (d
   pub all_numbered : (d : ℕ) → AtPair 0 stores stores1 (λ b c. g.steady b old → AreAll d (g.numbers c new)) → IsFirstSteady g images old → OverAny g images 0 (λ c. AreAll d (g.numbers c new))
   all_numbered d pair first image x at over e counts =
       let b = before 0 (within 0 image at) in let c = after 0 (within 0 image at) in
-      pair b.0 c.0 b.1 c.1 (steady_before first b.0 b.1) e (numbers_alike x c.0 new (over_same g n 0 image x c.0 over (is_over 0 image at)) e counts)
+      pair b.0 c.0 b.1 c.1 (steady_before first b.0 b.1) e (numbers_alike x c.0 new (over_same g n 0 (seen_image image) x c.0 over (is_over 0 image at)) e counts)
 
   -- a number that a handle may hold now, the one that was read may
   pub number_read : (d : ℕ) → HasNumber g images new d → (b c : C) × (slice_get stores 0 ≡ Some b) × (slice_get stores1 0 ≡ Some c) × g.numbers c new d × (g.numbers b old d → HasNumber g images old d)
   number_read d (image, x, at, over, counts) =
       let b = before 0 (within 0 image at) in let c = after 0 (within 0 image at) in
-      (b.0, c.0, b.1, c.1, numbers_alike x c.0 new (over_same g n 0 image x c.0 over (is_over 0 image at)) d counts, λ held. (image, b.0, at, was_over 0 image at, held))
+      (b.0, c.0, b.1, c.1, numbers_alike x c.0 new (over_same g n 0 (seen_image image) x c.0 over (is_over 0 image at)) d counts, λ held. (image, b.0, at, was_over 0 image at, held))
 
   -- what was read of all
   unfoldable pub is_beside : (S : System Guest) (acts : List Taken) (d : ℕ) (given : List Given) (stored : ℕ → Stored) → IsRun S.guests given → reported given ≡ acts → AreStored S stored → AreReadAs g d stored (on stores1 new) → AllOld g (on stores old) (on stores1 new) d

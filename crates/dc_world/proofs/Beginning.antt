@@ -5,6 +5,7 @@ use Rattle.dc_checkpoint.specs.Calls.{AreAll, FallsStore}
 use Rattle.dc_checkpoint.specs.Handles.{showing_of}
 use Rattle.dc_checkpoint.specs.States.{Reading, form_in, number_in, unlogged}
 use Rattle.dc_checkpoint.specs.declared.checkpoint.Checkpoint as checkpoint
+use Rattle.dc_elf.specs.Loaded.{seen_image}
 use Rattle.dc_elf.specs.declared.image.Image.{Image}
 use Rattle.dc_kernel.specs.Kernels.{IsKernel, Kernel}
 use Rattle.dc_kernel.specs.Texts.{text_of}
@@ -16,10 +17,11 @@ use Rattle.dc_proc.specs.Ups.{IsWhole, held}
 use Rattle.dc_proc.specs.declared.down.Down.{Down as Fallen}
 use Rattle.dc_proc.specs.declared.up.Up.{Up as Process}
 use Rattle.dc_protocols.specs.declared.protocol.Protocol.{Protocol}
-use Rattle.dc_words.specs.Words.{bytes_in}
+use Rattle.dc_words.specs.Words.{bytes_in, words_in}
 use Rattle.dc_processes.proofs.Handling.{counts_same}
 use Rattle.dc_together.specs.Joints.{whose}
-use Rattle.dc_world.specs.Opened.{CanOpen, IsBegun, first_kernel}
+use Rattle.dc_world.proofs.Over.{over_still}
+use Rattle.dc_world.specs.Opened.{CanOpen, IsBegun, IsOver, first_kernel}
 use Rattle.dc_processes.specs.Slots.{IsOf}
 use Rattle.dc_processes.specs.declared.slot.Slot.TheVariants.{Down, Up}
 
@@ -51,7 +53,7 @@ module _ {C D : Type 0} (g : checkpoint.Ghosts C D) (protocol : Protocol) (n p :
     (held_is : (held u).kernel ≡ kernel) (fresh : ((held u).unread ≡ []) × ((held u).unlogged ≡ false) × ((held u).log_left ≡ 64)) (based : IsCopied kernel (held u).based)
     (others : (q : ℕ) → q < kernel.n → slice_index (held u).others q ≡ number_of_first (link_to kernel.links q)) (whole : IsWhole u)
     (of : (u.protocol ≡ protocol) × (u.size ≡ length image.memory.items)) (valid : IsKernel kernel.n kernel.p kernel)
-    (same : (g.index c ≡ p) × (g.size c ≡ length words) × (g.form c ≡ form_in text)) (lent : g.lent c dev) (floor : g.floor c ≡ 0)
+    (same : (g.index c ≡ p) × (g.size c ≡ length words) × (g.form c ≡ form_in text)) (first_is : g.first c ≡ unlogged words text) (exact : words ≡ words_in image.memory.items) (lent : g.lent c dev) (floor : g.floor c ≡ 0)
     (stands : (d : ℕ) (r : Reading) → g.leaves c dev d r → r ≡ Ok (unlogged words text)) (decided : AreAll 0 (g.numbers c dev)) (steady : g.steady c dev) where
   abbrev k : Kernel
   k = first_kernel n p image
@@ -85,13 +87,20 @@ module _ {C D : Type 0} (g : checkpoint.Ghosts C D) (protocol : Protocol) (n p :
       (record { n_same = refl; position_same = refl; visible_same = refl; inputs_same = refl; received_same = refl; commit_same = refl; sent_same = λ q less. refl })
       (subst (HasCountsFor turns) (sym held_first) (first_counts turns n p image few))
 
+  over : IsOver g n p (seen_image image) c
+  over = record {
+    belongs = record { index_is = same.0; form_n = ap (λ f. f.n) (same.2 ∙ form_is) ∙ ap (λ (x : Kernel). x.n) first; form_p = ap (λ f. f.p) (same.2 ∙ form_is) ∙ ap (λ (x : Kernel). x.p) first };
+    sized = sym long ∙ ap (λ m. 4 * m) (sym same.1);
+    first_is = first_is ∙ (λ i. unlogged (exact i) ((text_is ∙ ap text_of first) i));
+  }
+
   -- its store was made
   pub up_begun : g.ready c dev → IfSome (g.contents c dev) (λ told. told ≡ words) → (g.number c ≡ number_in text) × (g.logged c ≡ 0) → IsBegun g protocol (whose n p) image c dev (Some (Up u))
   up_begun ready memory number = record {
     words = words;
     bytes_are = bytes_are;
     of = λ s e. let is : IsOf protocol n p (Up u) = (whole, n_is, p_is, of.0) in let at : Up u ≡ s = cc in subst (IsOf protocol n p) at is;
-    belongs = record { index_is = same.0; form_n = ap (λ f. f.n) (same.2 ∙ form_is) ∙ ap (λ (x : Kernel). x.n) first; form_p = ap (λ f. f.p) (same.2 ∙ form_is) ∙ ap (λ (x : Kernel). x.p) first };
+    over = over;
     handled = λ turns few. (
       record {
         lent = lent;
@@ -118,11 +127,7 @@ module _ {C D : Type 0} (g : checkpoint.Ghosts C D) (protocol : Protocol) (n p :
     words = words;
     bytes_are = bytes_are;
     of = λ s e. let is : IsOf protocol n p (Down d) = (down, down_of.n_is ∙ n_is, down_of.p_is ∙ p_is, down_of.protocol_is ∙ of.0) in let at : Down d ≡ s = cc in subst (IsOf protocol n p) at is;
-    belongs = record {
-      index_is = falls.same.index_same ∙ same.0;
-      form_n = ap (λ f. f.n) (falls.same.form_same ∙ same.2 ∙ form_is) ∙ ap (λ (x : Kernel). x.n) first;
-      form_p = ap (λ f. f.p) (falls.same.form_same ∙ same.2 ∙ form_is) ∙ ap (λ (x : Kernel). x.p) first;
-    };
+    over = over_still g n p (seen_image image) c c2 falls.same over;
     handled = λ turns few. (falls.lent dev lent, down_of.size_is ∙ sized ∙ ap (λ m. 4 * m) (sym falls.same.size_same));
     kernel_ok = kernel_ok;
     leaves = λ e r left. stands_first e r (falls.stands dev e r (omega arith) left);

@@ -50,7 +50,7 @@ module _ {C D : Type 0} (g : checkpoint.Ghosts C D) (laws : Laws g) (quiet : Qui
     words = is.words;
     bytes_are = is.bytes_are;
     of = is.of;
-    belongs = is.belongs;
+    over = is.over;
     handled = λ turns few. handled_still g laws turns c old new slot still (is.handled turns few);
     kernel_ok = is.kernel_ok;
     leaves = λ d r left. is.leaves d r (laws.leaves_still c new old d r (laws.untouched_back old new (g.index c) still) left);
@@ -147,6 +147,6 @@ module _ {C D : Type 0} (g : checkpoint.Ghosts C D) (laws : Laws g) (quiet : Qui
             was.0,
             was.1,
             subst (IsBegun g protocol (whose (length images) q) was.0 c new) (sym (at_front q low))
-                (begun_still protocol (length images) q was.0 c mid new (slot_at slots q) (others (g.index c) (λ e. ne (sym e ∙ was.2.belongs.index_is))) was.2),
+                (begun_still protocol (length images) q was.0 c mid new (slot_at slots q) (others (g.index c) (λ e. ne (sym e ∙ was.2.over.belongs.index_is))) was.2),
           ))
           (cases_eq k q)

@@ -6,6 +6,7 @@ use Rattle.std.proofs.lemmas.Bool.{cases_eq, true≢false}
 use Rattle.std.proofs.lemmas.Option.{slice_get_within}
 use Rattle.dc_checkpoint.specs.States.{Form, IsFit}
 use Rattle.dc_checkpoint.specs.declared.checkpoint.Checkpoint as checkpoint
+use Rattle.dc_elf.specs.Loaded.{seen_image}
 use Rattle.dc_elf.specs.declared.image.Image.{Image}
 use Rattle.dc_kernel.specs.declared.saved.Saved.{Saved}
 use Rattle.dc_words.specs.Lists.{lists_of}
@@ -15,6 +16,7 @@ use Rattle.dc_twophase.proofs.Pairs.{before_it}
 use Rattle.dc_world.proofs.Begun.{get_end, get_front}
 use Rattle.dc_world.proofs.Felling.{handled_falls}
 use Rattle.dc_together.specs.Joints.{AreUp, FallTogether, whose}
+use Rattle.dc_world.proofs.Over.{over_still}
 use Rattle.dc_world.specs.Opened.{AreAlike, AreBegun, AreMadeFor, IsBegun, IsOpened}
 use Rattle.dc_processes.specs.Slots.{Falls, IsOf, slot_at}
 use Rattle.dc_world.specs.declared.opening.Setup.{Setup}
@@ -51,11 +53,7 @@ module _ {C D : Type 0} (g : checkpoint.Ghosts C D) where
     words = is.words;
     bytes_are = is.bytes_are;
     of = of;
-    belongs = record {
-      index_is = store.same.index_same ∙ is.belongs.index_is;
-      form_n = ap (λ (f : Form). f.n) store.same.form_same ∙ is.belongs.form_n;
-      form_p = ap (λ (f : Form). f.p) store.same.form_same ∙ is.belongs.form_p;
-    };
+    over = over_still g form.n form.p (seen_image image) c c1 store.same is.over;
     handled = λ turns few. handled_falls g turns turns c c1 dev old new falls store (is.handled turns few);
     kernel_ok = is.kernel_ok;
     leaves = λ d r left. is.leaves d r (store.stands dev d r (omega arith) left);

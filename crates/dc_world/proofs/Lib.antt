@@ -12,6 +12,7 @@ pub mod Partaking
 mod Leaves
 pub mod Added
 pub mod Resumed
+pub mod Over
 pub mod Attached
 pub mod Rereading
 pub mod Again

@@ -22,6 +22,7 @@ use Rattle.dc_proc.specs.Processes.{Held, IsAt, IsKernelAt, IsLinkOf, IsNumbered
 use Rattle.dc_proc.specs.Ups.{held}
 use Rattle.dc_processes.specs.Worlds.{IsUp, others_of}
 use Rattle.dc_protocols.specs.Rules.{is_causal, is_joint}
+use Rattle.dc_protocols.specs.declared.protocol.Protocol.{Protocol}
 use Rattle.dc_recovery.specs.Core.{Core, at_start, first_save, opened_core}
 use Rattle.dc_recovery.specs.Systems.{System}
 use Rattle.dc_rv32.specs.Machine.{machine_of}
@@ -32,7 +33,7 @@ use Rattle.dc_processes.proofs.Beside.{and_some, some_and}
 use Rattle.dc_together.proofs.Fitting.{own_form}
 use Rattle.dc_processes.proofs.Handling.{counts_same}
 use Rattle.dc_world.proofs.Joined.{alike, begun_together, opened_still}
-use Rattle.dc_world.specs.Opened.{AreAlike, AreBegun, AreMadeFor, IsBegun, IsHeldFirst, IsOpened, first_kernel}
+use Rattle.dc_world.specs.Opened.{AreAlike, AreBegun, AreMadeFor, AreOver, IsBegun, IsHeldFirst, IsOpened, IsOver, first_kernel}
 use Rattle.dc_processes.specs.Processes.{IsWell}
 use Rattle.dc_processes.specs.Slots.{IsOf, based_in, held_in, is_up, slot_at}
 use Rattle.dc_together.specs.Joints.{AreReady, AreUp, FallTogether, IsDownAt, IsFitAt, Belongs, IsRoomFor, whose}
@@ -148,6 +149,14 @@ told_words : (memory : Option (List ℕ)) (words : List ℕ) → IsSome memory �
 told_words None words there is = absurd (true≢false (sym there))
 told_words (Some told) words there is = ap Some is
 
+-- their stores are their own
+pub begun_over : {C D : Type 0} (g : checkpoint.Ghosts C D) (protocol : Protocol) (images : List Image) (slots : List (Option Slot)) (stores : List C) (dev : D) → AreBegun g protocol images slots stores dev → AreOver g images stores
+begun_over g protocol images slots stores dev begun p c there image at =
+    let (found, found_at, is) = begun p c there in
+    let e : Some found ≡ Some image = sym found_at ∙ at in
+    let same : found ≡ image = cc in
+    subst (λ im. IsOver g (length images) p (seen_image im) c) same is.over
+
 -- the world as a whole
 module _ {C D : Type 0} (g : checkpoint.Ghosts C D) (setup : Setup) (entries : ℕ) (stores : List C) (dev : D) (w : Processes) (begins : IsOpened setup entries w)
     (each : AreBegun g setup.protocol setup.images.items w.slots.items stores dev) (stores_long : length stores ≡ length setup.images.items) (few : entries ≤ 1000000) (some : 0 < length setup.images.items) where
@@ -190,14 +199,14 @@ module _ {C D : Type 0} (g : checkpoint.Ghosts C D) (setup : Setup) (entries : �
     is_room together = subst (λ n. IsRoomFor g stores n w.joint) (sym begins.slots_long) (record {
       texts = texts together;
       saved_long = saved_long together;
-      saved_fit = λ p c v there filled. subst (λ f. IsFit f v) (sym (own_form g (length images) p c (each p c there).2.belongs)) (saved_fit p v filled);
+      saved_fit = λ p c v there filled. subst (λ f. IsFit f v) (sym (own_form g (length images) p c (each p c there).2.over.belongs)) (saved_fit p v filled);
     })
 
     pub ready : length images ≤ 8 → length setup.inputs.items ≡ length images → entries ≤ w.acts.room → IsReady g stores dev w
     ready small inputs room = record {
       well = well small inputs;
       stores_long = stores_long ∙ sym begins.slots_long;
-      belongs = λ p c there. subst (λ m. Belongs g m p c) (sym begins.slots_long) (each p c there).2.belongs;
+      belongs = λ p c there. subst (λ m. Belongs g m p c) (sym begins.slots_long) (each p c there).2.over.belongs;
       handled = λ _ p c there. subst (λ turns. IsHandled g turns c dev (at p)) (sym begins.left_is) ((each p c there).2.handled entries (omega (arith, few)));
       together = λ is. let together = ap is_joint (sym begins.protocol_is) ∙ is in (are_ready (alike together), is_room together);
       room = let a = ap length begins.acts_are in let b = begins.left_is in omega (arith, a, b, room);
@@ -223,7 +232,7 @@ module _ {C D : Type 0} (g : checkpoint.Ghosts C D) (setup : Setup) (entries : �
     up_is p less on =
         let (c, store_is, image, image_is, is) = one p (within p less) in
         let held = is.held on in
-        let device : g.told dev (g.index c) = subst (g.told dev) (sym is.belongs.index_is) (told.told p (subst (λ m. p < m) (sym begins.slots_long) (within p less))) in
+        let device : g.told dev (g.index c) = subst (g.told dev) (sym is.over.belongs.index_is) (told.told p (subst (λ m. p < m) (sym begins.slots_long) (within p less))) in
         let contents_are = told_words (g.contents c dev) is.words (told_contents c dev (ready_up g 0 c dev (at p) on (is.handled 0 (omega arith))) device) (is.memory on) in
         let memory_is : memory_of g (store_of x p) dev ≡ Some is.words = ap (λ o. memory_of g o dev) store_is ∙ contents_are in
         record {
@@ -318,6 +327,9 @@ module _ {C D : Type 0} (g : checkpoint.Ghosts C D) (setup : Setup) (entries : �
       (subst (λ (j : Joint). is_joint setup.protocol ≡ true → length j.texts.items ≡ kernel_words count * count) joint_is texts)
       (subst (λ (j : Joint). is_joint setup.protocol ≡ true → length j.saved.items ≡ count) joint_is saved_long)
       (subst (λ (j : Joint). AreMadeFor count j.saved.items) joint_is saved_fit) small inputs (subst (λ (x : Processes). entries ≤ x.acts.room) (sym rest) room)
+
+  pub over_joined : AreOver g setup.images.items stores1
+  over_joined = begun_over g setup.protocol setup.images.items w1.slots.items stores1 dev begun1
 
   pub opened_joined : ((c : C) (d : D) → g.ready c d → g.told d (g.index c) → IsSome (g.contents c d)) → is_causal setup.protocol ≡ false → IsTold g (stage_of stores1 dev w1)
       → IsWorld g (system (map seen_image setup.images.items) (lists_of setup.inputs.items) setup.protocol) (opened_core (λ p. is_up (slot_at w1.slots.items p))) (stage_of stores1 dev w1)

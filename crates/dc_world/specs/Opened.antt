@@ -2,17 +2,19 @@
 use Rattle.std.specs.Prelude.{◌≡◌, ◌⊎◌, ◌<◌, ◌≤◌, ◌*◌, ◌-◌, ℕ, List, [], true, false, Option, Some, IfSome, length, replicate, slice_get, slice_index, slice_set}
 use Rattle.dc_limits.specs.declared.bounds.TheConstants.{LOGGED_EVENTS}
 use Rattle.dc_checkpoint.specs.Calls.{AreAll}
-use Rattle.dc_checkpoint.specs.States.{Form, IsFit, Reading}
+use Rattle.dc_checkpoint.specs.States.{Form, IsFit, Reading, State, unlogged}
 use Rattle.dc_checkpoint.specs.declared.checkpoint.Checkpoint as checkpoint
 use Rattle.dc_elf.specs.declared.image.Image.{Image}
 use Rattle.dc_kernel.specs.Kernels.{IsKernel, Kernel, fresh}
+use Rattle.dc_kernel.specs.Texts.{text_of}
 use Rattle.dc_kernel.specs.declared.saved.Saved.{Saved}
 use Rattle.dc_media.specs.Causes.{Rose}
-use Rattle.dc_elf.specs.Loaded.{CanStart}
+use Rattle.dc_elf.specs.Images.{Image as Seen}
+use Rattle.dc_elf.specs.Loaded.{CanStart, seen_image}
 use Rattle.dc_words.specs.Lists.{lists_of}
 use Rattle.dc_proc.specs.Processes.{Held, reading_of}
 use Rattle.dc_protocols.specs.declared.protocol.Protocol.{Protocol}
-use Rattle.dc_words.specs.Words.{bytes_in}
+use Rattle.dc_words.specs.Words.{bytes_in, words_in}
 use Rattle.dc_together.specs.Joints.{AreUp, Belongs, whose}
 use Rattle.dc_processes.specs.Slots.{IsOf, based_in, held_in, is_up, slot_at}
 use Rattle.dc_processes.specs.Stages.{IsHandled}
@@ -32,6 +34,20 @@ kernel_at n p size entry = record (fresh n p) { commit = 1; regs = record { x = 
 abbrev pub first_kernel : ℕ → ℕ → Image → Kernel
 first_kernel n p image = kernel_at n p (length image.memory.items) image.entry
 
+-- the state of process p of n before its first event, at its first commit
+abbrev pub first_state : ℕ → ℕ → Seen → State
+first_state n p image = unlogged (words_in image.memory) (text_of (kernel_at n p (length image.memory) image.entry))
+
+-- a handle over the store of process p of n, which began with this image
+pub record IsOver {C D : Type 0} (g : checkpoint.Ghosts C D) (n p : ℕ) (image : Seen) (c : C) : Type 0 where
+  pub belongs : Belongs g n p c
+  pub sized : length image.memory ≡ 4 * g.size c
+  pub first_is : g.first c ≡ first_state n p image
+
+-- each is over its process's
+abbrev pub AreOver : {C D : Type 0} → checkpoint.Ghosts C D → List Image → List C → Type 0
+AreOver g images stores = (p : ℕ) (c : _) → slice_get stores p ≡ Some c → (image : Image) → slice_get images p ≡ Some image → IsOver g (length images) p (seen_image image) c
+
 -- what is held beside the memory before the first event
 pub record IsHeldFirst (kernel : Kernel) (held : Held) : Type 0 where
   pub kernel_is : held.kernel ≡ kernel
@@ -45,7 +61,7 @@ pub record IsBegun {C D : Type 0} (g : checkpoint.Ghosts C D) (protocol : Protoc
   pub words : List ℕ
   pub bytes_are : bytes_in words ≡ image.memory.items
   pub of : (s : Slot) → slot ≡ Some s → IsOf protocol form.n form.p s
-  pub belongs : Belongs g form.n form.p c
+  pub over : IsOver g form.n form.p (seen_image image) c
   pub handled : (turns : ℕ) → turns ≤ 2000000 → IsHandled g turns c dev slot
   pub kernel_ok : IsKernel form.n form.p (first_kernel form.n form.p image)
   pub leaves : (d : ℕ) (r : Reading) → g.leaves c dev d r → r ≡ reading_of (record { words = words; kernel = first_kernel form.n form.p image; log = [] })

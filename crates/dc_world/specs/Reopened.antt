@@ -1,13 +1,13 @@
 -- A world over stores that are there, beside the acts that an earlier part of its run reported.
-use Rattle.std.specs.Prelude.{◌≡◌, ◌<◌, ◌≤◌, ◌*◌, ℕ, List, Option, Some, IsSomeAnd, Err, true, false, length, slice_get, slice_index, vec_capacity}
+use Rattle.std.specs.Prelude.{◌≡◌, ◌<◌, ◌≤◌, ℕ, List, Option, Some, IsSomeAnd, Err, true, false, length, slice_get, slice_index, vec_capacity}
 use Rattle.dc_checkpoint.specs.Calls.{AreAll}
-use Rattle.dc_checkpoint.specs.States.{IsRead, Reading, State, unlogged}
+use Rattle.dc_checkpoint.specs.States.{IsRead, Reading}
 use Rattle.dc_checkpoint.specs.declared.checkpoint.Checkpoint as checkpoint
 use Rattle.dc_checkpoint.specs.declared.faults.StoreFault.{StoreFault}
+use Rattle.dc_elf.specs.Loaded.{seen_image}
 use Rattle.dc_elf.specs.declared.image.Image.{Image}
 use Rattle.dc_guest.specs.Guest.{Guest}
 use Rattle.dc_kernel.specs.Kernels.{Kernel}
-use Rattle.dc_kernel.specs.Texts.{text_of}
 use Rattle.dc_kernel.specs.declared.saved.Saved.{Saved}
 use Rattle.dc_limits.specs.declared.bounds.TheConstants.{ENTRIES, LOGGED_EVENTS}
 use Rattle.dc_model.specs.Runs.{Given, IsRun, own}
@@ -27,30 +27,15 @@ use Rattle.dc_protocols.specs.declared.protocol.Protocol.{Protocol}
 use Rattle.dc_recovery.specs.Saves.{last_at}
 use Rattle.dc_recovery.specs.Systems.{System}
 use Rattle.dc_resume.specs.Suited.{AreStored}
-use Rattle.dc_together.specs.Joints.{Belongs, whose}
+use Rattle.dc_together.specs.Joints.{whose}
 use Rattle.dc_words.specs.Lists.{lists_of}
-use Rattle.dc_words.specs.Words.{words_in}
-use Rattle.dc_world.specs.Opened.{first_kernel}
+use Rattle.dc_world.specs.Opened.{IsOver}
 use Rattle.dc_world.specs.declared.opening.Setup.{Setup}
 use Rattle.dc_world.specs.declared.reopening.Earlier.{Earlier}
 
--- the state of process p of n before its first event, at its first commit
-abbrev pub first_state : ℕ → ℕ → Image → State
-first_state n p image = unlogged (words_in image.memory.items) (text_of (first_kernel n p image))
-
--- a handle over the store of process p of n, which began with this image
-pub record IsOver {C D : Type 0} (g : checkpoint.Ghosts C D) (n p : ℕ) (image : Image) (c : C) : Type 0 where
-  pub belongs : Belongs g n p c
-  pub sized : length image.memory.items ≡ 4 * g.size c
-  pub first_is : g.first c ≡ first_state n p image
-
--- each is over its process's
-abbrev pub AreOver : {C D : Type 0} → checkpoint.Ghosts C D → List Image → List C → Type 0
-AreOver g images stores = (p : ℕ) (c : _) → slice_get stores p ≡ Some c → (image : Image) → slice_get images p ≡ Some image → IsOver g (length images) p image c
-
--- one that was attached to it on this device
+-- a handle that was attached to the store of process p of n, which began with this image, on this device
 pub record IsAttached {C D : Type 0} (g : checkpoint.Ghosts C D) (n p : ℕ) (image : Image) (dev : D) (c : C) : Type 0 where
-  pub over : IsOver g n p image c
+  pub over : IsOver g n p (seen_image image) c
   pub lent : g.lent c dev
   pub floor_is : g.floor c ≡ 0
 
@@ -60,7 +45,7 @@ AreAttached g images dev stores = (p : ℕ) (c : _) → slice_get stores p ≡ S
 
 -- so it is with whatever handle over process p's store
 abbrev pub OverAny : {C D : Type 0} → checkpoint.Ghosts C D → List Image → ℕ → (C → Type 0) → Type 0
-OverAny g images p R = (image : Image) (c : _) → slice_get images p ≡ Some image → IsOver g (length images) p image c → R c
+OverAny g images p R = (image : Image) (c : _) → slice_get images p ≡ Some image → IsOver g (length images) p (seen_image image) c → R c
 
 -- the decided number of the first store is one that only a decision may change, in each handle that was attached to it
 abbrev pub IsFirstSteady : {C D : Type 0} → checkpoint.Ghosts C D → List Image → D → Type 0
@@ -68,7 +53,7 @@ IsFirstSteady g images dev = (image : Image) (c : _) → slice_get images 0 ≡ 
 
 -- a handle over the first store may hold this decided number
 abbrev pub HasNumber : {C D : Type 0} → checkpoint.Ghosts C D → List Image → D → ℕ → Type 0
-HasNumber g images dev d = (image : Image) × (c : _) × (slice_get images 0 ≡ Some image) × IsOver g (length images) 0 image c × g.numbers c dev d
+HasNumber g images dev d = (image : Image) × (c : _) × (slice_get images 0 ≡ Some image) × IsOver g (length images) 0 (seen_image image) c × g.numbers c dev d
 
 -- under this decided number each store stands for nothing that it did not stand for before
 abbrev pub Stood : {C D : Type 0} → checkpoint.Ghosts C D → List Image → ℕ → D → D → Type 0
@@ -76,7 +61,7 @@ Stood g images d old new = (p : ℕ) → OverAny g images p (λ c. (r : Reading)
 
 -- there is a handle over process p's store
 abbrev pub HasHandle : {C D : Type 0} → checkpoint.Ghosts C D → List Image → ℕ → Type 0
-HasHandle g images p = (image : Image) → slice_get images p ≡ Some image → (c : _) × IsOver g (length images) p image c
+HasHandle g images p = (image : Image) → slice_get images p ≡ Some image → (c : _) × IsOver g (length images) p (seen_image image) c
 
 -- under this decided number a store of these stands for this refusal alone
 pub record Refuses {C D : Type 0} (g : checkpoint.Ghosts C D) (images : List Image) (d : ℕ) (dev : D) (p : ℕ) (fault : StoreFault) : Type 0 where

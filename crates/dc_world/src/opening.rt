@@ -15,7 +15,7 @@ ghost use Rattle.dc_recovery.specs.Parts.{is_with};
 ghost use Rattle.dc_processes.specs.Processes.{IsWell};
 ghost use Rattle.dc_together.specs.Joints.{AreUp, FallTogether, whose};
 ghost use Rattle.dc_world.specs.Worlds.{IsReady};
-ghost use Rattle.dc_world.specs.Opened.{AreAlike, AreBegun, AreMadeFor, CanOpen, IsBegun, IsCalmUnlessStopped, IsOpened, IsUpFor, kernel_at};
+ghost use Rattle.dc_world.specs.Opened.{AreAlike, AreBegun, AreMadeFor, AreOver, CanOpen, IsBegun, IsCalmUnlessStopped, IsOpened, IsUpFor, kernel_at};
 ghost use Rattle.dc_processes.specs.Stages.{IsTold, IsWorld, KeepsTelling, stage_of};
 ghost use Rattle.dc_processes.specs.Slots.{is_up, slot_at};
 ghost use Rattle.dc_world.specs.declared.faults.OpenFault.TheVariants as faults;
@@ -244,6 +244,7 @@ impl<C: Checkpoint + Drop> World<C> {
         requires entries { entries ≤ ENTRIES }
         ensures ready { IfOk result (λ w. IsReady C.Checkpoint w.stores.items dev.new w.processes) }
         ensures begins { IfOk result (λ w. IsOpened setup entries w.processes) }
+        ensures over { IfOk result (λ w. AreOver C.Checkpoint setup.images.items w.stores.items) }
         ensures opened { IfOk result (λ w. is_causal setup.protocol ≡ false → IsTold C.Checkpoint (stage_of w.stores.items dev.new w.processes)
             → IsWorld C.Checkpoint (system (map seen_image setup.images.items) (lists_of setup.inputs.items) setup.protocol) (opened_core (λ p. is_up (slot_at w.processes.slots.items p))) (stage_of w.stores.items dev.new w.processes)) }
         ensures alike { IfOk result (λ w. is_joint setup.protocol ≡ true → AreAlike w.processes.slots.items) }

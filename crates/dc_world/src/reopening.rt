@@ -24,8 +24,8 @@ ghost use Rattle.dc_resume.specs.Suited.{AreSuited, IsFirstUnsuited, saves_in};
 ghost use Rattle.dc_together.specs.Joints.{whose};
 ghost use Rattle.dc_twophase.specs.Stores.{At, Each, EachPair};
 ghost use Rattle.dc_words.specs.Lists.{lists_of};
-ghost use Rattle.dc_world.specs.Opened.{AreMadeFor, CanOpen};
-ghost use Rattle.dc_world.specs.Reopened.{AreAttached, AreDownAt, AreExposed, AreLeftDown, AreOver, AreRead, HasHandle, HasNumber, IsAgain, IsAttached, IsFirstSteady, IsReadBeside, Refuses, Stood};
+ghost use Rattle.dc_world.specs.Opened.{AreMadeFor, AreOver, CanOpen};
+ghost use Rattle.dc_world.specs.Reopened.{AreAttached, AreDownAt, AreExposed, AreLeftDown, AreRead, HasHandle, HasNumber, IsAgain, IsAttached, IsFirstSteady, IsReadBeside, Refuses, Stood};
 ghost use Rattle.dc_world.specs.Worlds.{IsReady};
 
 use crate::opening::{Setup, acts_for, first_kernel, joint_for, saved_for, text_of};
@@ -296,6 +296,7 @@ impl<C: Checkpoint + Drop> World<C> {
         requires there { (p : ℕ) (words : ℕ) (image : Images) → slice_get setup.images.items p ≡ Some image → 4 * words ≡ length image.memory.items → C.fits dev.old p words (whose (length setup.images.items) p) }
         ensures ready { IfOk result (λ w. IsReady C.Checkpoint w.stores.items dev.new w.processes) }
         ensures begins { IfOk result (λ w. IsAgain setup earlier.now entries w.processes) }
+        ensures over { IfOk result (λ w. AreOver C.Checkpoint setup.images.items w.stores.items) }
         ensures unstopped { IfOk result (λ w. w.stopped ≡ None) }
         ensures reopened { IfOk result (λ w. (x : IsReadBeside C.Checkpoint (system (map seen_image setup.images.items) (lists_of setup.inputs.items) setup.protocol) setup.images.items earlier.now.acts.now dev.old dev.new)
             × AreSuited (system (map seen_image setup.images.items) (lists_of setup.inputs.items) setup.protocol) x.given x.decided x.stored

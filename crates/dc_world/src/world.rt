@@ -5,7 +5,7 @@ ghost use Rattle.std.specs.List.{All};
 ghost use Rattle.dc_acts.specs.Lines.{text_of};
 ghost use Rattle.dc_audit.specs.Journals.{IsOfSixteen};
 ghost use Rattle.dc_checkpoint.specs.Calls.{IsCounted};
-ghost use Rattle.dc_checkpoint.specs.Handles.{showing_of};
+ghost use Rattle.dc_checkpoint.specs.Handles.{IsSame, showing_of};
 ghost use Rattle.dc_checkpoint.specs.declared.faults.StoreFault as stores;
 ghost use Rattle.dc_media.specs.Causes.{HasCause, Rose};
 ghost use Rattle.dc_media.specs.Sinks.{TakesWhole};
@@ -21,6 +21,7 @@ ghost use Rattle.dc_world.specs.Leaving.{EntryLeaves};
 ghost use Rattle.dc_processes.specs.Slots.{have_ended};
 ghost use Rattle.dc_processes.specs.Turns.{GoesOn, HasNoRun, later, lines_of};
 ghost use Rattle.dc_world.specs.Worlds.{IsCutOff, IsOfProcesses, IsPartOf, IsReady, MayRun, stage_in};
+ghost use Rattle.dc_twophase.specs.Stores.{EachPair};
 ghost use Rattle.dc_twophase.specs.declared.faults.JointFault.TheVariants as joint;
 ghost use Rattle.dc_world.specs.declared.faults.TurnFault.TheVariants as faults;
 
@@ -79,6 +80,7 @@ impl<C: Checkpoint + Drop> World<C> {
         ensures ready { IsReady C.Checkpoint self.new.stores.items dev.new (counted self.new.processes) }
         ensures rest { self.new.processes ≡ record self.old.processes { slots = self.new.processes.slots; acts = self.new.processes.acts; exposed = self.new.processes.exposed } }
         ensures long { length self.new.processes.slots.items ≡ length self.old.processes.slots.items }
+        ensures same { EachPair self.old.stores.items self.new.stores.items (λ i. IsSame C.Checkpoint) }
         ensures counts { IsCounted (showing_of C.Checkpoint).on turn.now.p dev.old dev.new result }
         ensures tells { (p : ℕ) → KeepsTelling C.Checkpoint dev.old dev.new p }
         ensures others { (q : ℕ) → q ≢ turn.now.p → C.untouched dev.old dev.new q }
@@ -112,6 +114,7 @@ impl<C: Checkpoint + Drop> World<C> {
         ensures ready { IsReady C.Checkpoint self.new.stores.items dev.new (counted self.new.processes) }
         ensures rest { self.new.processes ≡ record self.old.processes { slots = self.new.processes.slots; acts = self.new.processes.acts; exposed = self.new.processes.exposed; joint = self.new.processes.joint } }
         ensures long { length self.new.processes.slots.items ≡ length self.old.processes.slots.items }
+        ensures same { EachPair self.old.stores.items self.new.stores.items (λ i. IsSame C.Checkpoint) }
         ensures tells { (p : ℕ) → KeepsTelling C.Checkpoint dev.old dev.new p }
         ensures others { (q : ℕ) → length self.old.processes.slots.items ≤ q → C.untouched dev.old dev.new q }
         ensures later { (p : ℕ) → (C.stops dev.old p ≤ C.stops dev.new p) × (C.faults dev.old p ≤ C.faults dev.new p) }
@@ -144,6 +147,7 @@ impl<C: Checkpoint + Drop> World<C> {
         ensures ready { IsReady C.Checkpoint self.new.stores.items dev.new (counted self.new.processes) }
         ensures rest { self.new.processes ≡ record self.old.processes { slots = self.new.processes.slots; acts = self.new.processes.acts; exposed = self.new.processes.exposed; joint = self.new.processes.joint } }
         ensures long { length self.new.processes.slots.items ≡ length self.old.processes.slots.items }
+        ensures same { EachPair self.old.stores.items self.new.stores.items (λ i. IsSame C.Checkpoint) }
         ensures tells { (p : ℕ) → KeepsTelling C.Checkpoint dev.old dev.new p }
         ensures others { (q : ℕ) → (IsPartOf self.old q (entries.Turn turn.now) → ⊥) → C.untouched dev.old dev.new q }
         ensures later { (p : ℕ) → (C.stops dev.old p ≤ C.stops dev.new p) × (C.faults dev.old p ≤ C.faults dev.new p) }
@@ -177,6 +181,7 @@ impl<C: Checkpoint + Drop> World<C> {
         ensures rest { self.new.processes ≡ record self.old.processes { slots = self.new.processes.slots } }
         ensures kept { self.new.stopped ≡ self.old.stopped }
         ensures long { length self.new.processes.slots.items ≡ length self.old.processes.slots.items }
+        ensures same { EachPair self.old.stores.items self.new.stores.items (λ i. IsSame C.Checkpoint) }
         ensures turned { (dev : C.Device) → MayRun C.Checkpoint self.old dev → 0 < self.old.processes.left → GoesOn C.Checkpoint (stage_in self.old dev) (later 0 (stage_in self.new dev)) (entries.Stop p) marks.Marked None }
     {
         if !is_joint(self.processes.protocol) {
@@ -193,6 +198,7 @@ impl<C: Checkpoint + Drop> World<C> {
         ensures rest { self.new.processes ≡ record self.old.processes { slots = self.new.processes.slots } }
         ensures kept { self.new.stopped ≡ self.old.stopped }
         ensures long { length self.new.processes.slots.items ≡ length self.old.processes.slots.items }
+        ensures same { EachPair self.old.stores.items self.new.stores.items (λ i. IsSame C.Checkpoint) }
         ensures turned { (dev : C.Device) → MayRun C.Checkpoint self.old dev → 0 < self.old.processes.left → GoesOn C.Checkpoint (stage_in self.old dev) (later 0 (stage_in self.new dev)) entries.Power marks.Marked None }
     {
         self.processes.power(&mut self.stores);
@@ -212,6 +218,7 @@ impl<C: Checkpoint + Drop> World<C> {
         ensures ready { IsReady C.Checkpoint self.new.stores.items dev.new (counted self.new.processes) }
         ensures rest { self.new.processes ≡ record self.old.processes { slots = self.new.processes.slots; acts = self.new.processes.acts; exposed = self.new.processes.exposed; joint = self.new.processes.joint } }
         ensures long { length self.new.processes.slots.items ≡ length self.old.processes.slots.items }
+        ensures same { EachPair self.old.stores.items self.new.stores.items (λ i. IsSame C.Checkpoint) }
         ensures tells { (p : ℕ) → KeepsTelling C.Checkpoint dev.old dev.new p }
         ensures others { (q : ℕ) → (IsPartOf self.old q entry.now → ⊥) → C.untouched dev.old dev.new q }
         ensures later { (p : ℕ) → (C.stops dev.old p ≤ C.stops dev.new p) × (C.faults dev.old p ≤ C.faults dev.new p) }
@@ -265,6 +272,7 @@ impl<C: Checkpoint + Drop> World<C> {
         ensures entries { self.new.processes.entries ≡ self.old.processes.entries + 1 }
         ensures setting { (self.new.processes.protocol ≡ self.old.processes.protocol) × (self.new.processes.inputs ≡ self.old.processes.inputs) }
         ensures long { length self.new.processes.slots.items ≡ length self.old.processes.slots.items }
+        ensures same { EachPair self.old.stores.items self.new.stores.items (λ i. IsSame C.Checkpoint) }
         ensures tells { (p : ℕ) → KeepsTelling C.Checkpoint dev.old dev.new p }
         ensures others { (q : ℕ) → (IsPartOf self.old q entry.now → ⊥) → C.untouched dev.old dev.new q }
         ensures later { (p : ℕ) → (C.stops dev.old p ≤ C.stops dev.new p) × (C.faults dev.old p ≤ C.faults dev.new p) }

@@ -15,7 +15,7 @@ pub struct Devices {
 
 impl Devices {
     /// Of no words and no bytes, of which none fails.
-    fn new(alloc: Global) -> Result<Devices, AllocError> {
+    pub fn new(alloc: Global) -> Result<Devices, AllocError> {
         Ok(Devices {
             keeps: MemKeeps::new(alloc, Vec::new(alloc))?,
             disks: MemDisks::new(alloc, Vec::new(alloc))?,

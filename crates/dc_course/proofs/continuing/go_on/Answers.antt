@@ -1,11 +1,11 @@
-use Rattle.std.proofs.Common.{◌≡◌, ◌∙◌, ◌<◌, ℕ, true, List, [], ap, arith, length, refl, reverse, rules, subst, sym}
+use Rattle.std.proofs.Common.{◌≡◌, ◌∙◌, ◌<◌, ℕ, true, Err, List, OnOk, Result, [], ap, arith, length, refl, reverse, rules, subst, sym}
 use Rattle.std.proofs.lemmas.List.{length-map, length-reverse}
 use Rattle.dc_course.proofs.Between.{tells_on}
 use Rattle.dc_course.proofs.Onward.{can_continue, course_on, on_err, rest_is, rest_long, uncut}
 use Rattle.dc_course.proofs.Counting.{sum_later}
 use Rattle.dc_course.proofs.Steps.{now_world}
 use Rattle.dc_course.proofs.Tracing.{moment_is}
-use Rattle.dc_course.proofs.Whole.{begun_running, ending_broken, ending_whole, told_at}
+use Rattle.dc_course.proofs.Whole.{begun_running, ending_broken, ending_whole, over_in, told_at}
 use Rattle.dc_course.specs.Continued.{IsCourseOn, IsEarlier, setting_from}
 use Rattle.dc_course.specs.Courses.{PlannedCome, StoresLeft, TellsThroughout, account_of, counts_of, journal_in}
 use Rattle.dc_course.specs.Headline.{IsCountedOn, IsEnding, Last, Setting, start_at, system_in, turn_after, unplanned}
@@ -20,6 +20,9 @@ use Rattle.dc_processes.specs.Stages.{IsTold}
 use Rattle.dc_protocols.specs.Rules.{is_joint}
 use Rattle.dc_recovery.specs.Core.{Core}
 use Rattle.dc_recovery.specs.Recoveries.{resumed_core}
+use Rattle.dc_reread.specs.Faults.{recovery_in}
+use Rattle.dc_reread.specs.declared.faults.RereadFault.{RereadFault}
+use Rattle.dc_reread.specs.declared.faults.RereadFault.TheVariants as fault
 use Rattle.dc_resume.specs.Suited.{saves_in}
 use Rattle.dc_world.specs.Ended.{HaveEnded}
 use Rattle.dc_world.specs.Reopened.{IsFirstSteady, IsReadBeside}
@@ -45,6 +48,13 @@ returns-in_err-world-clause-handles g c enough = on_err c.from_residual-in_err-w
 
 pub returns-in_err-world-clause-unplanned : goal.returns-in_err-world-clause-unplanned
 returns-in_err-world-clause-unplanned g c = on_err c.from_residual-in_err-world.result (λ p. g.met.C.Planned.idle_none c.args.dev.now c.reopen.new.dev p c.requires.idle c.reopen.ensures.continues)
+
+-- want of memory comes where the recovery of all went well, or before it
+calm_at : {T P : Type 0} (r : Result T RereadFault) → r ≡ Err fault.Memory → OnOk (recovery_in r) P → P
+calm_at r e calm = rw e at calm
+
+pub returns-in_err-world-clause-wanting : goal.returns-in_err-world-clause-wanting
+returns-in_err-world-clause-wanting g c e p = calm_at c.reopen.result (search rules) c.reopen.ensures.calm p
 
 -- what was lent lasts through the opening
 opened_lasts : (g : Over) (c : goal.After-course g) → g.C.Planned.lasts c.args.dev.now c.reopen.new.dev
@@ -106,6 +116,7 @@ module _ (g : Over) (c : goal.After-course g) (lines : List Visible) (asked : As
   begun : IsRunning g.C.Checkpoint (given g c) (start g c lines) (stage_in c.in_ok-world.world c.reopen.new.dev) c.in_ok-marks.marks.items (output (g.O.Sink.held c.args.out.now) (g.O.Sink.held c.args.out.now))
   begun = begun_running g.C.Checkpoint (given g c) (start g c lines) (stage_in c.in_ok-world.world c.reopen.new.dev) c.in_ok-marks.marks.items (g.O.Sink.held c.args.out.now)
       c.in_ok-world.ensures.begins.protocol_is c.in_ok-world.ensures.begins.inputs_are c.in_ok-world.ensures.begins.entries_are c.in_ok-marks.ensures.items
+      (over_in g.C.Checkpoint (given g c) c.args.setup.images.items c.in_ok-world.world.stores.items refl c.in_ok-world.ensures.over)
       (c.in_ok-world.ensures.reopened.2 c.requires.seven asked.steady (reverse lines) (length-reverse lines ∙ asked.earlier.count))
 
   -- the first moment is behind the opening
@@ -167,6 +178,8 @@ returns-clause-headline g c = λ tells steady lines earlier.
     let running = begun g c lines asked in
     let first = first_moment g c lines asked in (
       c.reopen.new.dev,
+      c.reopen.ensures.continues,
+      λ p less. opened.told p (subst (λ n. p < n) (sym c.in_ok-world.ensures.begins.slots_long) less),
       read g c,
       elim c.match-run.branch [
         | in-Ok w ↦ (

@@ -8,7 +8,7 @@ use Rattle.dc_course.proofs.Steps.{now_world, sound}
 use Rattle.dc_course.proofs.Tracing.{moment_is}
 use Rattle.dc_course.proofs.Partaking.{cut_none, cut_some, said_of}
 use Rattle.dc_course.proofs.Journaling.{if_kept}
-use Rattle.dc_course.proofs.Whole.{course_is, ending_broken, ending_cut, ending_whole, begun_running, told_at, up_as}
+use Rattle.dc_course.proofs.Whole.{course_is, ending_broken, ending_cut, ending_whole, begun_running, over_in, told_at, up_as}
 use Rattle.dc_course.specs.Journals.{AreCutAtStop, AreUpUnless, EndsAtFirstStop, IsJournalOf, unstopped_front}
 use Rattle.dc_media.specs.Causes.{Rose}
 use Rattle.dc_recovery.specs.Turned.{LeadsTo}
@@ -105,6 +105,7 @@ begun : (g : Over) (c : goal.After-course g) → TellsThroughout g.C.Checkpoint 
     → IsRunning g.C.Checkpoint (given g c) (start g c) (stage_in c.in-Ok.world c.open.new.dev) c.in_ok-marks.marks.items (output (g.O.Sink.held c.args.out.now) (g.O.Sink.held c.args.out.now))
 begun g c tells = begun_running g.C.Checkpoint (given g c) (start g c) (stage_in c.in-Ok.world c.open.new.dev) c.in_ok-marks.marks.items (g.O.Sink.held c.args.out.now)
     c.in-Ok.ensures.begins.protocol_is c.in-Ok.ensures.begins.inputs_are c.in-Ok.ensures.begins.entries_are c.in_ok-marks.ensures.items
+    (over_in g.C.Checkpoint (given g c) c.args.setup.images.items c.in-Ok.world.stores.items refl c.in-Ok.ensures.over)
     (up_as g.C.Checkpoint (system_in (given g c)) (stage_in c.in-Ok.world c.open.new.dev) (λ p. is_up (slot_at c.in-Ok.world.processes.slots.items p)) (up g c)
     (λ p inside. up_is g c p (subst (λ n. p < n) (length-map c.args.setup.images.items seen_image) inside)) (c.in-Ok.ensures.opened c.requires.seven (told_opened g c tells)))
 

@@ -1,4 +1,5 @@
-use Rattle.std.proofs.Common.{◌≡◌, ◌∙◌, ◌≤◌, ◌<◌, ℕ, List, Err, IfOk, IsErrOf, IsSome, Result, OnErr, true, ap, arith, inr, length, refl, reverse, rules, subst, sym}
+use Rattle.std.proofs.Common.{◌≡◌, ◌∙◌, ◌⊎◌, ◌≤◌, ◌<◌, ℕ, List, Err, IfOk, IsErrOf, IsSome, Result, OnErr, true, ap, arith, inl, inr, length, refl, reverse, rules, subst, sym}
+use Rattle.std.proofs.lemmas.Bool.{cases_order}
 use Rattle.std.proofs.lemmas.Result.{IfOk-weaker}
 use Rattle.dc_course.specs.Continued.{IsCourseOn, IsEarlier, setting_from}
 use Rattle.dc_course.specs.Courses.{account_of, counts_of}
@@ -17,6 +18,7 @@ use Rattle.dc_reread.specs.declared.faults.RereadFault.{RereadFault}
 use Rattle.dc_reread.specs.declared.faults.RereadFault.TheVariants as fault
 use Rattle.dc_checkpoint.specs.declared.faults.StoreFault.{StoreFault}
 use Rattle.dc_resume.specs.Suited.{IsFirstUnsuited, saves_in}
+use Rattle.dc_world.specs.Opened.{IsCalmUnlessStopped}
 use Rattle.dc_disk.proofs.continuing.go_on_disks.Goals as goal
 
 -- a refusal by content is not for want of memory
@@ -34,6 +36,24 @@ returns-clause-failed g c p e =
     let told = c.go_on-course.ensures.failed p e in
     subst (λ k. (p < length c.args.setup.images.items) × Rose (g.D.Disks.faults c.args.disks.now p) (g.D.Disks.faults k p)) {x = c.go_on-course.new.dev.device.now} (search rules)
     (told.0, subst (λ k. Rose (g.D.Disks.faults k p) (g.D.Disks.faults c.go_on-course.new.dev.device.now p)) (ap (λ b. b.now) c.new-armed.ensures.device) told.1)
+
+-- faults that stayed, with stops that are no fewer: these stayed too, or rose
+calm_or_stopped : (s t f h : ℕ) → h ≡ f → s ≤ t → ((t ≡ s) × (h ≡ f)) ⊎ Rose s t
+calm_or_stopped s t f h same le = by (cases_order s t)
+  where
+    by : (s ≡ t) ⊎ ((s < t) ⊎ (t < s)) → ((t ≡ s) × (h ≡ f)) ⊎ Rose s t
+    by (inl e) = inl (sym e, same)
+    by (inr (inl less)) = inr (omega (arith, less))
+    by (inr (inr more)) = absurd (omega (arith, more, le))
+
+pub returns-clause-wanting : goal.returns-clause-wanting
+returns-clause-wanting g c e p =
+    let lent : c.new-armed.result.device.now ≡ c.args.disks.now = ap (λ b. b.now) c.new-armed.ensures.device in
+    let calm = c.go_on-course.ensures.wanting e p in
+    let later = c.go_on-course.ensures.lasts.stopped p in
+    let was = ap (λ k. g.D.Disks.stops k p) lent in
+    subst (λ k. IsCalmUnlessStopped g.D.Disks.stops g.D.Disks.faults p c.args.disks.now k) {x = c.go_on-course.new.dev.device.now} (search rules)
+    (calm_or_stopped _ _ _ _ (calm.1 ∙ ap (λ k. g.D.Disks.faults k p) lent) (omega (arith, later, was)))
 
 pub returns-clause-stopped : goal.returns-clause-stopped
 returns-clause-stopped g c p e =
@@ -90,7 +110,7 @@ returns-clause-headline g c =
     let acts = c.args.earlier.now.acts.now in
     let disk = g.D.Disks in
     subst (λ k. IfOk c.go_on-course.result (λ course. TellsStores (of_disks disk) (length images) c.args.disks.now k → (is_joint c.args.setup.protocol ≡ true → IsFirstLogSteady disk images c.args.disks.now)
-    → (lines : List Visible) → IsEarlier setting c.args.earlier.now lines → (read : _) × (x : AreLogsRead disk (system_in setting) images acts c.args.disks.now read)
+    → (lines : List Visible) → IsEarlier setting c.args.earlier.now lines → (read : _) × ((p : ℕ) → p < length images → IsSome (disk.told read p)) × (x : AreLogsRead disk (system_in setting) images acts c.args.disks.now read)
     × IsCourseOn setting lines (resumed_core x.given (reverse lines) (saves_in (system_in setting) x.stored)) (account_of course) course.ending out (counts_of disk.stops (capped_by disk.calls) c.args.disks.now k) (λ core x. LogsLeft disk setting core x))) {x = c.go_on-course.new.dev.device.now} (search rules)
     (IfOk-weaker c.go_on-course.result _ _ (λ course says tells steady lines earlier.
     let armed = c.new-armed.result in
@@ -102,8 +122,8 @@ returns-clause-headline g c =
       faults = tells.faults;
     }) (λ joint. first_steady disk (λ d. d.device.now) (λ s. shape_of s.store.frame) (record { sizes = λ s. refl; forms = λ s. refl; kernels = λ s. s.store.frame.layout; events = λ s. s.store.frame.events; firsts = λ s. refl; leaves_to = λ s x d r l. l; leaves_from = λ s x d r l. l; numbers_to = λ s x d l. l; numbers_from = λ s x d l. l; steady_to = λ s x kept none. record { kept = kept; high = λ e held. inr (omega (arith, none)) } }) images armed (subst (IsFirstLogSteady disk images) (sym lent) (steady joint))) lines
     (subst (λ ss. IsEarlier (setting_from c.args.setup c.args.schedule.now ss c.args.earlier.now.entries) c.args.earlier.now lines) (sym c.new-armed.ensures.stops) earlier) in
-    disk_part disk c.args.setup c.args.earlier.now c.args.schedule.now armed.plan.stops c.args.stops.items lines (account_of course) course.ending out (λ d. d.device.now) armed dev part.0 c.args.disks.now part.1 part.2
-    c.new-armed.ensures.stops lent c.requires.some (λ s. shape_of s.store.frame) (record { sizes = λ s. refl; forms = λ s. refl; kernels = λ s. s.store.frame.layout; events = λ s. s.store.frame.events; firsts = λ s. refl; leaves_to = λ s x d r l. l; leaves_from = λ s x d r l. l; numbers_to = λ s x d l. l; numbers_from = λ s x d l. l; steady_to = λ s x kept none. record { kept = kept; high = λ e held. inr (omega (arith, none)) } })) c.go_on-course.ensures.headline)
+    disk_part disk c.args.setup c.args.earlier.now c.args.schedule.now armed.plan.stops c.args.stops.items lines (account_of course) course.ending out (λ d. d.device.now) armed dev part.0 c.args.disks.now part.3 part.4
+    c.new-armed.ensures.stops lent c.requires.some part.2 (λ s. shape_of s.store.frame) (record { sizes = λ s. refl; forms = λ s. refl; kernels = λ s. s.store.frame.layout; events = λ s. s.store.frame.events; firsts = λ s. refl; leaves_to = λ s x d r l. l; leaves_from = λ s x d r l. l; numbers_to = λ s x d l. l; numbers_from = λ s x d l. l; steady_to = λ s x kept none. record { kept = kept; high = λ e held. inr (omega (arith, none)) } })) c.go_on-course.ensures.headline)
 
 pub returns-clause-refused_under : goal.returns-clause-refused_under
 returns-clause-refused_under g c first d = subst (λ k. FirstLogHas g.D.Disks c.args.setup.images.items k d → (p : ℕ) (why : StoreFault) → IsErrOf c.go_on-course.result (fault.Refused p why) → LogRefuses g.D.Disks c.args.setup.images.items d k p why) {x = c.go_on-course.new.dev.device.now} (search rules)

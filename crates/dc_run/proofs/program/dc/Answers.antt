@@ -2,21 +2,22 @@ use Rattle.std.proofs.Common.{◌≡◌, ◌∙◌, ℕ, Err, Some, true, ap, in
 use Rattle.dc_audit.specs.Reading.{IsVerdict}
 use Rattle.dc_audit.specs.declared.verdict.Verdict.TheVariants as found
 use Rattle.dc_command.specs.Command.{asked_of}
-use Rattle.dc_command.specs.Command.{names_view, order_view}
+use Rattle.dc_command.specs.Command.{halted_view, names_view, order_view}
 use Rattle.dc_command.specs.declared.command.Ledger.TheVariants as Ledger
-use Rattle.dc_command.specs.Command.Asked.{ToRun, ToCheck, ToAssemble, ToAudit}
+use Rattle.dc_command.specs.Command.Asked.{ToRun, ToCheck, ToAssemble, ToAudit, ToResume}
 use Rattle.dc_run.specs.Checking.{Checked, IsChecked}
 use Rattle.dc_run.proofs.Checks.{check_asks, check_exact, check_passes}
-use Rattle.dc_run.proofs.Commands.{assembly_asks, assembly_exact, assembly_opened, audit_asks, audit_exact, audit_opened, audit_says, check_opened, run_exact, run_asks, run_is_work, run_opened, unasked_opened, unasked_work}
-use Rattle.dc_run.proofs.Ends.{never_refused, not_stopped, opened_with, other_complete, run_complete, run_of_words}
+use Rattle.dc_run.proofs.Commands.{assembly_asks, assembly_exact, assembly_opened, audit_asks, audit_exact, audit_opened, audit_says, check_opened, resume_asks, resume_exact, resume_is_work, resume_opened, run_exact, run_asks, run_is_work, run_opened, unasked_opened, unasked_work}
+use Rattle.dc_run.proofs.Ends.{never_refused, not_stopped, opened_with, other_complete, resume_complete, resume_of_words, run_complete, run_of_words}
 use Rattle.dc_media.specs.Devices.{of_disks, of_words}
-use Rattle.dc_run.proofs.OnMedia.{each_so, medium_asked, other_same}
+use Rattle.dc_run.proofs.OnMedia.{disk_asked, each_so, medium_asked, other_same}
 use Rattle.dc_run.specs.Media.{HasFailed, HasStopped, IsOtherSame, devices_of, lent}
 use Rattle.dc_run.specs.Headline.{IsReported, course, is_used_up, keeps_journal, loan}
 use Rattle.dc_run.specs.Passing.{WritesPassing, WritesSaved}
 use Rattle.dc_run.specs.Settings.{has_run}
 use Rattle.dc_run.specs.declared.verdict.Verdict.TheVariants.{DeviceFault, DeviceStopped}
-use Rattle.dc_run.proofs.Leaving.{asked_left, left_same}
+use Rattle.dc_run.proofs.Leaving.{asked_left, left_same, resume_left}
+use Rattle.dc_run.specs.Resumed.{HaveStood, IsRefusedStore, IsResumed, IsUnsuited}
 use Rattle.dc_run.specs.Assembling.{IsAssembled}
 use Rattle.dc_run.specs.Auditing.{IsAudited}
 use Rattle.dc_run.specs.Commands.{IfAssembly, IfAudit, IfCheck, medium_of, stores_used, work_of}
@@ -74,10 +75,10 @@ returns-in-Ok-Run-clause-complete g c = let asked : asked_of c.args.words.now �
     let after = lent c.run_plan.new.keeps c.run_plan.new.disks in
     let known = g.L.Library.files c.args.lib.now in
     run_complete c.args.words.now c.run_plan.result.verdict before after (g.L.Library.faults c.args.lib.now) (g.L.Library.faults c.run_plan.new.lib) out report
-    c.run_plan.ensures.library_fault c.run_plan.ensures.output_fault c.run_plan.ensures.report_fault (devices_of g.K.Keeps g.D.Disks) known (order_view c.in-Ok-Run.order) asked (λ p e. ap keeps_journal (c.run_plan.ensures.stopped_alone p e)) c.run_plan.ensures.medium_fault c.run_plan.ensures.opened
-    (λ p fault e. opened_with known (order_view c.in-Ok-Run.order) (λ m setting. IsReported c.in-Ok-Run.order.ledger (devices_of g.K.Keeps g.D.Disks m) setting c.run_plan.result (loan before after) out report)
-    (λ m setting. (devices_of g.K.Keeps g.D.Disks m).tell (length setting.images) before after → ⊥)
-    (λ m setting is. never_refused c.in-Ok-Run.order.ledger (devices_of g.K.Keeps g.D.Disks m) setting c.run_plan.result (loan before after) out report p fault e is) (c.run_plan.ensures.headline (c.run_plan.ensures.did (ap has_run e))))
+    c.run_plan.ensures.library_fault c.run_plan.ensures.output_fault c.run_plan.ensures.report_fault (devices_of g.K.Keeps g.D.Disks) known (order_view c.in-Ok-Run.order) asked (λ p e. ap keeps_journal (c.run_plan.ensures.stopped_alone p e)) c.run_plan.ensures.medium_fault c.run_plan.ensures.opened c.run_plan.ensures.begun
+    (λ p fault e. opened_with known (order_view c.in-Ok-Run.order) (λ m task. IsReported task (devices_of g.K.Keeps g.D.Disks m) c.run_plan.result (loan before after) out report)
+    (λ m task. (devices_of g.K.Keeps g.D.Disks m).tell (length task.setting.images) before after → ⊥)
+    (λ m task is. never_refused task (devices_of g.K.Keeps g.D.Disks m) c.run_plan.result (loan before after) out report p fault e is) (c.run_plan.ensures.headline (c.run_plan.ensures.did (ap has_run e))))
 
 pub returns-in-Ok-Check-clause-complete : goal.returns-in-Ok-Check-clause-complete
 returns-in-Ok-Check-clause-complete g c = let asked : asked_of c.args.words.now ≡ Some (ToCheck (names_view c.in-Ok-Check.names)) = search rules in
@@ -102,7 +103,7 @@ returns-in-Ok-Run-clause-passes g c ran = let asked : asked_of c.args.words.now 
     let out = course (g.O.Sink.held c.args.out.now) (g.O.Sink.held c.run_plan.new.out) (g.O.Sink.faults c.args.out.now) (g.O.Sink.faults c.run_plan.new.out) in
     let report = course (g.R.Sink.held c.args.report.now) (g.R.Sink.held c.run_plan.new.report) (g.R.Sink.faults c.args.report.now) (g.R.Sink.faults c.run_plan.new.report) in
     run_of_words (g.L.Library.files c.args.lib.now) c.args.words.now (order_view c.in-Ok-Run.order)
-    (λ m ledger setting. ledger ≡ Ledger.Report → (devices_of g.K.Keeps g.D.Disks m).tell (length setting.images) (lent c.args.keeps.now c.args.disks.now) (lent c.run_plan.new.keeps c.run_plan.new.disks) → WritesPassing setting out report c.run_plan.result.acts.items) asked (c.run_plan.ensures.passes ran)
+    (λ m task. task.ledger ≡ Ledger.Report → (devices_of g.K.Keeps g.D.Disks m).tell (length task.setting.images) (lent c.args.keeps.now c.args.disks.now) (lent c.run_plan.new.keeps c.run_plan.new.disks) → WritesPassing task.setting out report c.run_plan.result.acts.items) asked (c.run_plan.ensures.passes ran)
 
 pub returns-in-Ok-Run-clause-keeps_others : goal.returns-in-Ok-Run-clause-keeps_others
 returns-in-Ok-Run-clause-keeps_others g c = let asked : asked_of c.args.words.now ≡ Some (ToRun (order_view c.in-Ok-Run.order)) = search rules in
@@ -210,7 +211,7 @@ pub returns-in-Ok-Run-clause-saves : goal.returns-in-Ok-Run-clause-saves
 returns-in-Ok-Run-clause-saves g c ran = let asked : asked_of c.args.words.now ≡ Some (ToRun (order_view c.in-Ok-Run.order)) = search rules in
     let report = course (g.R.Sink.held c.args.report.now) (g.R.Sink.held c.run_plan.new.report) (g.R.Sink.faults c.args.report.now) (g.R.Sink.faults c.run_plan.new.report) in
     run_of_words (g.L.Library.files c.args.lib.now) c.args.words.now (order_view c.in-Ok-Run.order)
-    (λ m ledger setting. ledger ≡ Ledger.Journal → (devices_of g.K.Keeps g.D.Disks m).tell (length setting.images) (lent c.args.keeps.now c.args.disks.now) (lent c.run_plan.new.keeps c.run_plan.new.disks) → is_used_up c.run_plan.result.verdict ≡ true → WritesSaved setting report) asked (c.run_plan.ensures.saves ran)
+    (λ m task. task.ledger ≡ Ledger.Journal → (devices_of g.K.Keeps g.D.Disks m).tell (length task.setting.images) (lent c.args.keeps.now c.args.disks.now) (lent c.run_plan.new.keeps c.run_plan.new.disks) → is_used_up c.run_plan.result.verdict ≡ true → WritesSaved task.setting report) asked (c.run_plan.ensures.saves ran)
 
 pub returns-in-Ok-Check-clause-stopped_alone : goal.returns-in-Ok-Check-clause-stopped_alone
 returns-in-Ok-Check-clause-stopped_alone g c p e = absurd (not_stopped c.check_output.result.verdict p c.check_output.ensures.runs e)
@@ -235,14 +236,14 @@ returns-in-Ok-Run-clause-headline g c ran = let asked : asked_of c.args.words.no
     let out = course (g.O.Sink.held c.args.out.now) (g.O.Sink.held c.run_plan.new.out) (g.O.Sink.faults c.args.out.now) (g.O.Sink.faults c.run_plan.new.out) in
     let report = course (g.R.Sink.held c.args.report.now) (g.R.Sink.held c.run_plan.new.report) (g.R.Sink.faults c.args.report.now) (g.R.Sink.faults c.run_plan.new.report) in
     run_of_words (g.L.Library.files c.args.lib.now) c.args.words.now (order_view c.in-Ok-Run.order)
-    (λ m ledger setting. IsReported ledger (devices_of g.K.Keeps g.D.Disks m) setting c.run_plan.result (loan (lent c.args.keeps.now c.args.disks.now) (lent c.run_plan.new.keeps c.run_plan.new.disks)) out report) asked (c.run_plan.ensures.headline ran)
+    (λ m task. IsReported task (devices_of g.K.Keeps g.D.Disks m) c.run_plan.result (loan (lent c.args.keeps.now c.args.disks.now) (lent c.run_plan.new.keeps c.run_plan.new.disks)) out report) asked (c.run_plan.ensures.headline ran)
 
 pub returns-in-Err-clause-complete : goal.returns-in-Err-clause-complete
 returns-in-Err-clause-complete g c = unasked_work _ c.args.words.now c.in-Err.fault _ (c.idle.ensures.verdict ∙ c.unasked.ensures.meant) (λ is. c.in-Err.ensures.usage (ap Err is)) _ (λ e files work calm told. inr e)
 
 pub returns-in-Ok-Run-clause-ran : goal.returns-in-Ok-Run-clause-ran
 returns-in-Ok-Run-clause-ran g c ran = let asked : asked_of c.args.words.now ≡ Some (ToRun (order_view c.in-Ok-Run.order)) = search rules in
-    let is = c.run_plan.ensures.ran ran in (order_view c.in-Ok-Run.order, asked, is.0, is.1, is.2)
+    let is = c.run_plan.ensures.ran ran in (order_view c.in-Ok-Run.order, asked, is.0, is.1, is.2, is.3)
 
 pub returns-in-Ok-Run-clause-medium_stop : goal.returns-in-Ok-Run-clause-medium_stop
 returns-in-Ok-Run-clause-medium_stop g c = let asked : asked_of c.args.words.now ≡ Some (ToRun (order_view c.in-Ok-Run.order)) = search rules in
@@ -275,3 +276,87 @@ pub returns-in-Ok-Run-clause-audited : goal.returns-in-Ok-Run-clause-audited
 returns-in-Ok-Run-clause-audited g c opened = let asked : asked_of c.args.words.now ≡ Some (ToRun (order_view c.in-Ok-Run.order)) = search rules in
     run_is_work (g.L.Library.files c.args.lib.now) c.args.words.now (order_view c.in-Ok-Run.order) c.run_plan.result.verdict asked opened c.run_plan.ensures.opened
     (λ work. IfAudit work (λ of. IsAudited of c.run_plan.result (g.O.Sink.held c.args.out.now) (g.O.Sink.held c.run_plan.new.out) × (c.run_plan.new.report ≡ c.args.report.now))) (λ setting. tt)
+
+pub returns-in-Ok-Resume-clause-refused : goal.returns-in-Ok-Resume-clause-refused
+returns-in-Ok-Resume-clause-refused g c refusal is = let asked : asked_of c.args.words.now ≡ Some (ToResume (halted_view c.in-Ok-Resume.names)) = search rules in
+    resume_exact _ c.args.words.now _ asked _ refusal (c.resume_run.ensures.refused refusal is)
+
+pub returns-in-Ok-Resume-clause-library_asked : goal.returns-in-Ok-Resume-clause-library_asked
+returns-in-Ok-Resume-clause-library_asked g c which = let asked : asked_of c.args.words.now ≡ Some (ToResume (halted_view c.in-Ok-Resume.names)) = search rules in
+    resume_asks _ c.args.words.now _ asked _ which (c.resume_run.ensures.library_asked which)
+
+pub returns-in-Ok-Resume-clause-opened : goal.returns-in-Ok-Resume-clause-opened
+returns-in-Ok-Resume-clause-opened g c = let asked : asked_of c.args.words.now ≡ Some (ToResume (halted_view c.in-Ok-Resume.names)) = search rules in
+    resume_opened c.args.words.now c.resume_run.result.verdict _ _ asked c.resume_run.ensures.opened
+
+pub returns-in-Ok-Resume-clause-complete : goal.returns-in-Ok-Resume-clause-complete
+returns-in-Ok-Resume-clause-complete g c = let asked : asked_of c.args.words.now ≡ Some (ToResume (halted_view c.in-Ok-Resume.names)) = search rules in
+    let out = course (g.O.Sink.held c.args.out.now) (g.O.Sink.held c.resume_run.new.out) (g.O.Sink.faults c.args.out.now) (g.O.Sink.faults c.resume_run.new.out) in
+    let report = course (g.R.Sink.held c.args.report.now) (g.R.Sink.held c.resume_run.new.report) (g.R.Sink.faults c.args.report.now) (g.R.Sink.faults c.resume_run.new.report) in
+    let before = lent c.args.keeps.now c.args.disks.now in
+    let after = lent c.args.keeps.now c.resume_run.new.disks in
+    resume_complete c.args.words.now c.resume_run.result.verdict before after (g.L.Library.faults c.args.lib.now) (g.L.Library.faults c.resume_run.new.lib) out report
+    c.resume_run.ensures.library_fault c.resume_run.ensures.output_fault c.resume_run.ensures.report_fault (devices_of g.K.Keeps g.D.Disks) (g.L.Library.files c.args.lib.now) (halted_view c.in-Ok-Resume.names) asked c.resume_run.ensures.device_fault c.resume_run.ensures.opened
+
+pub returns-in-Ok-Resume-clause-keeps_others : goal.returns-in-Ok-Resume-clause-keeps_others
+returns-in-Ok-Resume-clause-keeps_others g c = left_same (of_words g.K.Keeps) (g.L.Library.files c.args.lib.now) (λ files. stores_used (work_of files c.args.words.now)) c.args.keeps.now
+
+pub returns-in-Ok-Resume-clause-disks_others : goal.returns-in-Ok-Resume-clause-disks_others
+returns-in-Ok-Resume-clause-disks_others g c = let asked : asked_of c.args.words.now ≡ Some (ToResume (halted_view c.in-Ok-Resume.names)) = search rules in
+    resume_left (of_disks g.D.Disks) (g.L.Library.files c.args.lib.now) c.args.words.now (halted_view c.in-Ok-Resume.names) c.args.disks.now c.resume_run.new.disks asked c.resume_run.ensures.disks_others
+
+pub returns-in-Ok-Resume-clause-wanting : goal.returns-in-Ok-Resume-clause-wanting
+returns-in-Ok-Resume-clause-wanting g c e p = (inl (refl, refl), c.resume_run.ensures.wanting e p)
+
+pub returns-in-Ok-Resume-clause-device_fault : goal.returns-in-Ok-Resume-clause-device_fault
+returns-in-Ok-Resume-clause-device_fault g c p e = inr (c.resume_run.ensures.device_fault p e)
+
+pub returns-in-Ok-Resume-clause-device_stop : goal.returns-in-Ok-Resume-clause-device_stop
+returns-in-Ok-Resume-clause-device_stop g c p e = inr (c.resume_run.ensures.device_stop p e)
+
+pub returns-in-Ok-Resume-clause-other : goal.returns-in-Ok-Resume-clause-other
+returns-in-Ok-Resume-clause-other g c = let asked : asked_of c.args.words.now ≡ Some (ToResume (halted_view c.in-Ok-Resume.names)) = search rules in
+    disk_asked (g.L.Library.files c.args.lib.now) c.args.words.now (halted_view c.in-Ok-Resume.names) (λ m. IsOtherSame m (lent c.args.keeps.now c.args.disks.now) (lent c.args.keeps.now c.resume_run.new.disks)) asked refl
+
+pub returns-in-Ok-Resume-clause-medium_fault : goal.returns-in-Ok-Resume-clause-medium_fault
+returns-in-Ok-Resume-clause-medium_fault g c = let asked : asked_of c.args.words.now ≡ Some (ToResume (halted_view c.in-Ok-Resume.names)) = search rules in
+    disk_asked (g.L.Library.files c.args.lib.now) c.args.words.now (halted_view c.in-Ok-Resume.names)
+    (λ m. (p : ℕ) → c.resume_run.result.verdict ≡ DeviceFault p → HasFailed (devices_of g.K.Keeps g.D.Disks m) (lent c.args.keeps.now c.args.disks.now) (lent c.args.keeps.now c.resume_run.new.disks) p) asked c.resume_run.ensures.device_fault
+
+pub returns-in-Ok-Resume-clause-medium_stop : goal.returns-in-Ok-Resume-clause-medium_stop
+returns-in-Ok-Resume-clause-medium_stop g c = let asked : asked_of c.args.words.now ≡ Some (ToResume (halted_view c.in-Ok-Resume.names)) = search rules in
+    disk_asked (g.L.Library.files c.args.lib.now) c.args.words.now (halted_view c.in-Ok-Resume.names)
+    (λ m. (p : ℕ) → c.resume_run.result.verdict ≡ DeviceStopped p → HasStopped (devices_of g.K.Keeps g.D.Disks m) (lent c.args.keeps.now c.args.disks.now) (lent c.args.keeps.now c.resume_run.new.disks) p) asked c.resume_run.ensures.device_stop
+
+pub returns-in-Ok-Resume-clause-checked : goal.returns-in-Ok-Resume-clause-checked
+returns-in-Ok-Resume-clause-checked g c opened = let asked : asked_of c.args.words.now ≡ Some (ToResume (halted_view c.in-Ok-Resume.names)) = search rules in
+    resume_is_work (g.L.Library.files c.args.lib.now) c.args.words.now (halted_view c.in-Ok-Resume.names) c.resume_run.result.verdict asked opened c.resume_run.ensures.opened
+    (λ work. IfCheck work (λ of. IsChecked of c.resume_run.result (g.O.Sink.held c.args.out.now) (g.O.Sink.held c.resume_run.new.out) × (c.resume_run.new.report ≡ c.args.report.now))) (λ going. tt)
+
+pub returns-in-Ok-Resume-clause-assembled : goal.returns-in-Ok-Resume-clause-assembled
+returns-in-Ok-Resume-clause-assembled g c opened = let asked : asked_of c.args.words.now ≡ Some (ToResume (halted_view c.in-Ok-Resume.names)) = search rules in
+    resume_is_work (g.L.Library.files c.args.lib.now) c.args.words.now (halted_view c.in-Ok-Resume.names) c.resume_run.result.verdict asked opened c.resume_run.ensures.opened
+    (λ work. IfAssembly work (λ of. IsAssembled of c.resume_run.result (g.O.Sink.held c.args.out.now) (g.O.Sink.held c.resume_run.new.out) × (c.resume_run.new.report ≡ c.args.report.now))) (λ going. tt)
+
+pub returns-in-Ok-Resume-clause-audited : goal.returns-in-Ok-Resume-clause-audited
+returns-in-Ok-Resume-clause-audited g c opened = let asked : asked_of c.args.words.now ≡ Some (ToResume (halted_view c.in-Ok-Resume.names)) = search rules in
+    resume_is_work (g.L.Library.files c.args.lib.now) c.args.words.now (halted_view c.in-Ok-Resume.names) c.resume_run.result.verdict asked opened c.resume_run.ensures.opened
+    (λ work. IfAudit work (λ of. IsAudited of c.resume_run.result (g.O.Sink.held c.args.out.now) (g.O.Sink.held c.resume_run.new.out) × (c.resume_run.new.report ≡ c.args.report.now))) (λ going. tt)
+
+pub returns-in-Ok-Resume-clause-resumed : goal.returns-in-Ok-Resume-clause-resumed
+returns-in-Ok-Resume-clause-resumed g c on = let asked : asked_of c.args.words.now ≡ Some (ToResume (halted_view c.in-Ok-Resume.names)) = search rules in
+    let out = course (g.O.Sink.held c.args.out.now) (g.O.Sink.held c.resume_run.new.out) (g.O.Sink.faults c.args.out.now) (g.O.Sink.faults c.resume_run.new.out) in
+    let report = course (g.R.Sink.held c.args.report.now) (g.R.Sink.held c.resume_run.new.report) (g.R.Sink.faults c.args.report.now) (g.R.Sink.faults c.resume_run.new.report) in
+    resume_of_words (g.L.Library.files c.args.lib.now) c.args.words.now (halted_view c.in-Ok-Resume.names) (λ going. IsResumed going g.D.Disks c.resume_run.result (loan c.args.disks.now c.resume_run.new.disks) out report) asked (c.resume_run.ensures.resumed on)
+
+pub returns-in-Ok-Resume-clause-unsuited : goal.returns-in-Ok-Resume-clause-unsuited
+returns-in-Ok-Resume-clause-unsuited g c p e = let asked : asked_of c.args.words.now ≡ Some (ToResume (halted_view c.in-Ok-Resume.names)) = search rules in
+    resume_of_words (g.L.Library.files c.args.lib.now) c.args.words.now (halted_view c.in-Ok-Resume.names) (λ going. IsUnsuited g.D.Disks going (loan c.args.disks.now c.resume_run.new.disks) p) asked (c.resume_run.ensures.unsuited p e)
+
+pub returns-in-Ok-Resume-clause-store : goal.returns-in-Ok-Resume-clause-store
+returns-in-Ok-Resume-clause-store g c p fault e idle = let asked : asked_of c.args.words.now ≡ Some (ToResume (halted_view c.in-Ok-Resume.names)) = search rules in
+    resume_of_words (g.L.Library.files c.args.lib.now) c.args.words.now (halted_view c.in-Ok-Resume.names) (λ going. IsRefusedStore g.D.Disks going (loan c.args.disks.now c.resume_run.new.disks) p fault) asked (c.resume_run.ensures.store p fault e idle)
+
+pub returns-in-Ok-Resume-clause-stood : goal.returns-in-Ok-Resume-clause-stood
+returns-in-Ok-Resume-clause-stood g c idle may = let asked : asked_of c.args.words.now ≡ Some (ToResume (halted_view c.in-Ok-Resume.names)) = search rules in
+    resume_of_words (g.L.Library.files c.args.lib.now) c.args.words.now (halted_view c.in-Ok-Resume.names) (λ going. HaveStood g.D.Disks going (loan c.args.disks.now c.resume_run.new.disks)) asked (c.resume_run.ensures.stood idle may)

@@ -3,99 +3,99 @@ pub const COMMANDS: &str = "\
 * no command: no words
 words=
 status=2
-said=dc: usage: dc run PLAN | dc check PLAN REPORT OUT | dc asm SOURCE | dc journal PLAN | dc audit JOURNAL~
+said=dc: usage: dc run PLAN | dc check PLAN REPORT OUT | dc asm SOURCE | dc resume PLAN REPORT | dc journal PLAN | dc audit JOURNAL~
 * no command: dc
 words=dc
 status=2
-said=dc: usage: dc run PLAN | dc check PLAN REPORT OUT | dc asm SOURCE | dc journal PLAN | dc audit JOURNAL~
+said=dc: usage: dc run PLAN | dc check PLAN REPORT OUT | dc asm SOURCE | dc resume PLAN REPORT | dc journal PLAN | dc audit JOURNAL~
 * no command: dc run
 words=dc run
 status=2
-said=dc: usage: dc run PLAN | dc check PLAN REPORT OUT | dc asm SOURCE | dc journal PLAN | dc audit JOURNAL~
+said=dc: usage: dc run PLAN | dc check PLAN REPORT OUT | dc asm SOURCE | dc resume PLAN REPORT | dc journal PLAN | dc audit JOURNAL~
 * no command: dc run plan plan
 words=dc run plan plan
 status=2
-said=dc: usage: dc run PLAN | dc check PLAN REPORT OUT | dc asm SOURCE | dc journal PLAN | dc audit JOURNAL~
+said=dc: usage: dc run PLAN | dc check PLAN REPORT OUT | dc asm SOURCE | dc resume PLAN REPORT | dc journal PLAN | dc audit JOURNAL~
 * no command: dc asm
 words=dc asm
 status=2
-said=dc: usage: dc run PLAN | dc check PLAN REPORT OUT | dc asm SOURCE | dc journal PLAN | dc audit JOURNAL~
+said=dc: usage: dc run PLAN | dc check PLAN REPORT OUT | dc asm SOURCE | dc resume PLAN REPORT | dc journal PLAN | dc audit JOURNAL~
 * no command: dc asm source source
 words=dc asm source source
 status=2
-said=dc: usage: dc run PLAN | dc check PLAN REPORT OUT | dc asm SOURCE | dc journal PLAN | dc audit JOURNAL~
+said=dc: usage: dc run PLAN | dc check PLAN REPORT OUT | dc asm SOURCE | dc resume PLAN REPORT | dc journal PLAN | dc audit JOURNAL~
 * nearly a command: dc chek plan report output
 words=dc chek plan report output
 status=2
-said=dc: usage: dc run PLAN | dc check PLAN REPORT OUT | dc asm SOURCE | dc journal PLAN | dc audit JOURNAL; is check meant?~
+said=dc: usage: dc run PLAN | dc check PLAN REPORT OUT | dc asm SOURCE | dc resume PLAN REPORT | dc journal PLAN | dc audit JOURNAL; is check meant?~
 * nearly a command: dc rum plan
 words=dc rum plan
 status=2
-said=dc: usage: dc run PLAN | dc check PLAN REPORT OUT | dc asm SOURCE | dc journal PLAN | dc audit JOURNAL; is run meant?~
+said=dc: usage: dc run PLAN | dc check PLAN REPORT OUT | dc asm SOURCE | dc resume PLAN REPORT | dc journal PLAN | dc audit JOURNAL; is run meant?~
 * nearly a command: dc aduit journal
 words=dc aduit journal
 status=2
-said=dc: usage: dc run PLAN | dc check PLAN REPORT OUT | dc asm SOURCE | dc journal PLAN | dc audit JOURNAL; is audit meant?~
+said=dc: usage: dc run PLAN | dc check PLAN REPORT OUT | dc asm SOURCE | dc resume PLAN REPORT | dc journal PLAN | dc audit JOURNAL; is audit meant?~
 * nearly a command: dc asmm source
 words=dc asmm source
 status=2
-said=dc: usage: dc run PLAN | dc check PLAN REPORT OUT | dc asm SOURCE | dc journal PLAN | dc audit JOURNAL; is asm meant?~
+said=dc: usage: dc run PLAN | dc check PLAN REPORT OUT | dc asm SOURCE | dc resume PLAN REPORT | dc journal PLAN | dc audit JOURNAL; is asm meant?~
 * nearly a command: dc checkk
 words=dc checkk
 status=2
-said=dc: usage: dc run PLAN | dc check PLAN REPORT OUT | dc asm SOURCE | dc journal PLAN | dc audit JOURNAL; is check meant?~
+said=dc: usage: dc run PLAN | dc check PLAN REPORT OUT | dc asm SOURCE | dc resume PLAN REPORT | dc journal PLAN | dc audit JOURNAL; is check meant?~
 * not nearly a command: dc ru plan
 words=dc ru plan
 status=2
-said=dc: usage: dc run PLAN | dc check PLAN REPORT OUT | dc asm SOURCE | dc journal PLAN | dc audit JOURNAL~
+said=dc: usage: dc run PLAN | dc check PLAN REPORT OUT | dc asm SOURCE | dc resume PLAN REPORT | dc journal PLAN | dc audit JOURNAL~
 * not nearly a command: dc chk plan report output
 words=dc chk plan report output
 status=2
-said=dc: usage: dc run PLAN | dc check PLAN REPORT OUT | dc asm SOURCE | dc journal PLAN | dc audit JOURNAL~
+said=dc: usage: dc run PLAN | dc check PLAN REPORT OUT | dc asm SOURCE | dc resume PLAN REPORT | dc journal PLAN | dc audit JOURNAL~
 * not nearly a command: dc audience journal
 words=dc audience journal
 status=2
-said=dc: usage: dc run PLAN | dc check PLAN REPORT OUT | dc asm SOURCE | dc journal PLAN | dc audit JOURNAL~
+said=dc: usage: dc run PLAN | dc check PLAN REPORT OUT | dc asm SOURCE | dc resume PLAN REPORT | dc journal PLAN | dc audit JOURNAL~
 * nearly a command: dc Asm source
 words=dc Asm source
 status=2
-said=dc: usage: dc run PLAN | dc check PLAN REPORT OUT | dc asm SOURCE | dc journal PLAN | dc audit JOURNAL; is asm meant?~
+said=dc: usage: dc run PLAN | dc check PLAN REPORT OUT | dc asm SOURCE | dc resume PLAN REPORT | dc journal PLAN | dc audit JOURNAL; is asm meant?~
 * no command: dc asm --help
 words=dc asm --help
 status=2
-said=dc: usage: dc run PLAN | dc check PLAN REPORT OUT | dc asm SOURCE | dc journal PLAN | dc audit JOURNAL~
+said=dc: usage: dc run PLAN | dc check PLAN REPORT OUT | dc asm SOURCE | dc resume PLAN REPORT | dc journal PLAN | dc audit JOURNAL~
 * no command: dc check plan
 words=dc check plan
 status=2
-said=dc: usage: dc run PLAN | dc check PLAN REPORT OUT | dc asm SOURCE | dc journal PLAN | dc audit JOURNAL~
+said=dc: usage: dc run PLAN | dc check PLAN REPORT OUT | dc asm SOURCE | dc resume PLAN REPORT | dc journal PLAN | dc audit JOURNAL~
 * no command: dc run -x
 words=dc run -x
 status=2
-said=dc: usage: dc run PLAN | dc check PLAN REPORT OUT | dc asm SOURCE | dc journal PLAN | dc audit JOURNAL~
+said=dc: usage: dc run PLAN | dc check PLAN REPORT OUT | dc asm SOURCE | dc resume PLAN REPORT | dc journal PLAN | dc audit JOURNAL~
 * nearly a command: dc Run plan
 words=dc Run plan
 status=2
-said=dc: usage: dc run PLAN | dc check PLAN REPORT OUT | dc asm SOURCE | dc journal PLAN | dc audit JOURNAL; is run meant?~
+said=dc: usage: dc run PLAN | dc check PLAN REPORT OUT | dc asm SOURCE | dc resume PLAN REPORT | dc journal PLAN | dc audit JOURNAL; is run meant?~
 * no command: dc help
 words=dc help
 status=2
-said=dc: usage: dc run PLAN | dc check PLAN REPORT OUT | dc asm SOURCE | dc journal PLAN | dc audit JOURNAL~
+said=dc: usage: dc run PLAN | dc check PLAN REPORT OUT | dc asm SOURCE | dc resume PLAN REPORT | dc journal PLAN | dc audit JOURNAL~
 * no command: dc --help
 words=dc --help
 status=2
-said=dc: usage: dc run PLAN | dc check PLAN REPORT OUT | dc asm SOURCE | dc journal PLAN | dc audit JOURNAL~
+said=dc: usage: dc run PLAN | dc check PLAN REPORT OUT | dc asm SOURCE | dc resume PLAN REPORT | dc journal PLAN | dc audit JOURNAL~
 * no command: dc run --help
 words=dc run --help
 status=2
-said=dc: usage: dc run PLAN | dc check PLAN REPORT OUT | dc asm SOURCE | dc journal PLAN | dc audit JOURNAL~
+said=dc: usage: dc run PLAN | dc check PLAN REPORT OUT | dc asm SOURCE | dc resume PLAN REPORT | dc journal PLAN | dc audit JOURNAL~
 * no command: dc run plan -h
 words=dc run plan -h
 status=2
-said=dc: usage: dc run PLAN | dc check PLAN REPORT OUT | dc asm SOURCE | dc journal PLAN | dc audit JOURNAL~
+said=dc: usage: dc run PLAN | dc check PLAN REPORT OUT | dc asm SOURCE | dc resume PLAN REPORT | dc journal PLAN | dc audit JOURNAL~
 * no command: dc --version
 words=dc --version
 status=2
-said=dc: usage: dc run PLAN | dc check PLAN REPORT OUT | dc asm SOURCE | dc journal PLAN | dc audit JOURNAL~
+said=dc: usage: dc run PLAN | dc check PLAN REPORT OUT | dc asm SOURCE | dc resume PLAN REPORT | dc journal PLAN | dc audit JOURNAL~
 * two dashes end the options
 words=dc run -- plan
 said=dc: done 7 acts 2 lines~

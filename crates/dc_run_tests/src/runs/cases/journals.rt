@@ -126,9 +126,9 @@ said=dc: sink failed: out~
 * no name
 words=dc audit
 status=2
-said=dc: usage: dc run PLAN | dc check PLAN REPORT OUT | dc asm SOURCE | dc journal PLAN | dc audit JOURNAL~
+said=dc: usage: dc run PLAN | dc check PLAN REPORT OUT | dc asm SOURCE | dc resume PLAN REPORT | dc journal PLAN | dc audit JOURNAL~
 * two names
 words=dc audit journal journal
 status=2
-said=dc: usage: dc run PLAN | dc check PLAN REPORT OUT | dc asm SOURCE | dc journal PLAN | dc audit JOURNAL~
+said=dc: usage: dc run PLAN | dc check PLAN REPORT OUT | dc asm SOURCE | dc resume PLAN REPORT | dc journal PLAN | dc audit JOURNAL~
 ";

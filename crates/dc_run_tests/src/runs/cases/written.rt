@@ -258,13 +258,13 @@ marks=sss0ss1
 * no plan
 words=dc journal
 status=2
-said=dc: usage: dc run PLAN | dc check PLAN REPORT OUT | dc asm SOURCE | dc journal PLAN | dc audit JOURNAL~
+said=dc: usage: dc run PLAN | dc check PLAN REPORT OUT | dc asm SOURCE | dc resume PLAN REPORT | dc journal PLAN | dc audit JOURNAL~
 * two plans
 words=dc journal plan plan
 status=2
-said=dc: usage: dc run PLAN | dc check PLAN REPORT OUT | dc asm SOURCE | dc journal PLAN | dc audit JOURNAL~
+said=dc: usage: dc run PLAN | dc check PLAN REPORT OUT | dc asm SOURCE | dc resume PLAN REPORT | dc journal PLAN | dc audit JOURNAL~
 * a mistyped word
 words=dc journl plan
 status=2
-said=dc: usage: dc run PLAN | dc check PLAN REPORT OUT | dc asm SOURCE | dc journal PLAN | dc audit JOURNAL; is journal meant?~
+said=dc: usage: dc run PLAN | dc check PLAN REPORT OUT | dc asm SOURCE | dc resume PLAN REPORT | dc journal PLAN | dc audit JOURNAL; is journal meant?~
 ";

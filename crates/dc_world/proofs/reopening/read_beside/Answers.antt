@@ -1,10 +1,11 @@
-use Rattle.std.proofs.Common.{◌∙◌, ap, refl}
+use Rattle.std.proofs.Common.{◌∙◌, length, ap, refl}
 use Rattle.dc_reread.specs.Faults.{recovery_in}
 use Rattle.dc_reread.specs.Pasts.{system_in}
 use Rattle.dc_retrace.specs.Read.{stored_in}
 use Rattle.dc_twophase.proofs.Pairs.{before_it}
 use Rattle.dc_world.proofs.Attached.{all_refuse, all_stood, is_beside, number_read, stores_of, where_steady}
-use Rattle.dc_world.proofs.Rereading.{all_handed, fit_each, if_both, lent_each, none_past, on_ok, rose_own, trails_exposed}
+use Rattle.dc_world.proofs.Partaking.{no_index, rose_own}
+use Rattle.dc_world.proofs.Rereading.{all_belong, all_handed, fit_each, if_both, lent_each, on_ok, trails_exposed}
 use Rattle.dc_world.proofs.reopening.read_beside.Goals as goal
 
 pub read_all-requires-clause-of : goal.read_all-requires-clause-of
@@ -63,10 +64,10 @@ returns-clause-stood g c first d has =
     (back stood.0, all_stood g.C.Checkpoint g.met.C.Checkpoint.leaves_alike g.met.C.Checkpoint.numbers_alike c.args.past.now.images.now c.args.dev.now c.read_all.new.dev c.args.stores.now c.read_all.new.stores c.requires.stores c.read_all.auto.stores c.requires.attached c.read_all.ensures.same d stood.1)
 
 pub returns-clause-stopped : goal.returns-clause-stopped
-returns-clause-stopped g c p e = rose_own g.C.Checkpoint c.args.past.now.images.now c.args.dev.now c.args.stores.now c.requires.stores c.requires.attached p (g.C.Checkpoint.stops c.args.dev.now) (g.C.Checkpoint.stops c.read_all.new.dev) (c.read_all.ensures.joint.stopped p (ap recovery_in e))
+returns-clause-stopped g c p e = rose_own g.C.Checkpoint (length c.args.past.now.images.now) c.args.stores.now c.requires.stores (all_belong g.C.Checkpoint c.args.past.now.images.now c.args.dev.now c.args.stores.now c.requires.stores c.requires.attached) p (g.C.Checkpoint.stops c.args.dev.now) (g.C.Checkpoint.stops c.read_all.new.dev) (c.read_all.ensures.joint.stopped p (ap recovery_in e))
 
 pub returns-clause-failed : goal.returns-clause-failed
-returns-clause-failed g c p e = rose_own g.C.Checkpoint c.args.past.now.images.now c.args.dev.now c.args.stores.now c.requires.stores c.requires.attached p (g.C.Checkpoint.faults c.args.dev.now) (g.C.Checkpoint.faults c.read_all.new.dev) (c.read_all.ensures.joint.failed p (ap recovery_in e))
+returns-clause-failed g c p e = rose_own g.C.Checkpoint (length c.args.past.now.images.now) c.args.stores.now c.requires.stores (all_belong g.C.Checkpoint c.args.past.now.images.now c.args.dev.now c.args.stores.now c.requires.stores c.requires.attached) p (g.C.Checkpoint.faults c.args.dev.now) (g.C.Checkpoint.faults c.read_all.new.dev) (c.read_all.ensures.joint.failed p (ap recovery_in e))
 
 pub returns-clause-others : goal.returns-clause-others
-returns-clause-others g c q past = c.read_all.ensures.others q (none_past g.C.Checkpoint c.args.past.now.images.now c.args.dev.now c.args.stores.now c.requires.stores c.requires.attached q past)
+returns-clause-others g c q past = c.read_all.ensures.others q (no_index g.C.Checkpoint (length c.args.past.now.images.now) c.args.stores.now c.requires.stores (all_belong g.C.Checkpoint c.args.past.now.images.now c.args.dev.now c.args.stores.now c.requires.stores c.requires.attached) q past)

@@ -1,5 +1,5 @@
 use Rattle.std.proofs.Common.{◌≡◌, ◌∙◌, ◌≤◌, ◌<◌, ◌+◌, ℕ, false, Err, Some, ap, arith, length, reverse, subst, sym}
-use Rattle.dc_course.proofs.Steps.{steps_on}
+use Rattle.dc_course.proofs.Steps.{many_kept, steps_on}
 use Rattle.dc_armed.specs.Stops.{first_stop}
 use Rattle.dc_course.proofs.Counting.{at_turn, counted_on, sum_later, sum_rises, unplanned_parts, unstopped_is}
 use Rattle.dc_course.proofs.Breaking.{Broke, ended_by}
@@ -57,7 +57,7 @@ returns-in-Ok-clause-steps_on g c setting begun first ok at told still r =
     let told1 = told_still g.C.Checkpoint (laws g) (quiet g) c.args.dev.now c.begin.new.dev c.begin.ensures.untouched x told in
     let r1 = running_still g.C.Checkpoint (laws g) (quiet g) c.args.dev.now c.begin.new.dev c.begin.ensures.untouched x setting begun c.args.self.now.marks.items (output first (g.O.Sink.held c.args.out.now)) r in
     subst (λ ms. IsRunning g.C.Checkpoint setting begun (stage_in c.turn.new.self c.turn.new.dev) ms (output first (g.O.Sink.held c.turn.new.out))) (sym c.push.ensures.items)
-    (steps_on g.C.Checkpoint setting begun ok (stage_in c.args.self.now.world c.begin.new.dev) (stage_in c.turn.new.self c.turn.new.dev) c.args.self.now.marks.items c.args.entry.now at told1 still first (g.O.Sink.held c.args.out.now) (g.O.Sink.held c.turn.new.out) r1
+    (steps_on g.C.Checkpoint setting begun ok (stage_in c.args.self.now.world c.begin.new.dev) (stage_in c.turn.new.self c.turn.new.dev) c.args.self.now.marks.items c.args.entry.now at told1 still first (g.O.Sink.held c.args.out.now) (g.O.Sink.held c.turn.new.out) r1 (many_kept c.args.self.now.world.stores.items c.turn.new.self.stores.items c.requires.ready.stores_long c.turn.ensures.ready.stores_long c.turn.ensures.long) c.turn.ensures.same
     c.in-Ok.mark c.in-Ok.ensures.turned.0 c.in-Ok.ensures.turned.1 c.in-Ok.ensures.entries c.in-Ok.ensures.setting.0 (ap (λ v. lists_of v.items) c.in-Ok.ensures.setting.1) c.in-Ok.ensures.turned.2)
 
 pub returns-in-Err-clause-steps_off : goal.returns-in-Err-clause-steps_off
@@ -65,7 +65,7 @@ returns-in-Err-clause-steps_off g c f e setting begun first ok at told still r =
     let x = stage_in c.args.self.now.world c.args.dev.now in
     let told1 = told_still g.C.Checkpoint (laws g) (quiet g) c.args.dev.now c.begin.new.dev c.begin.ensures.untouched x told in
     let r1 = running_still g.C.Checkpoint (laws g) (quiet g) c.args.dev.now c.begin.new.dev c.begin.ensures.untouched x setting begun c.args.self.now.marks.items (output first (g.O.Sink.held c.args.out.now)) r in
-    ended_by g.C.Checkpoint setting begun ok (stage_in c.args.self.now.world c.begin.new.dev) (stage_in c.turn.new.self c.turn.new.dev) c.args.self.now.marks.items c.args.entry.now at told1 still first (g.O.Sink.held c.args.out.now) (g.O.Sink.held c.turn.new.out) r1 f
+    ended_by g.C.Checkpoint setting begun ok (stage_in c.args.self.now.world c.begin.new.dev) (stage_in c.turn.new.self c.turn.new.dev) c.args.self.now.marks.items c.args.entry.now at told1 still first (g.O.Sink.held c.args.out.now) (g.O.Sink.held c.turn.new.out) r1 (many_kept c.args.self.now.world.stores.items c.turn.new.self.stores.items c.requires.ready.stores_long c.turn.ensures.ready.stores_long c.turn.ensures.long) c.turn.ensures.same f
     (let same : c.in-Err.fault ≡ f = cc in subst (λ h. Broke g.C.Checkpoint c.args.entry.now (stage_in c.args.self.now.world c.begin.new.dev) (stage_in c.turn.new.self c.turn.new.dev) (g.O.Sink.held c.args.out.now) (g.O.Sink.held c.turn.new.out) h) same (record {
       failed = λ ne. let goes = c.in-Err.ensures.failed (λ e. ne (let is : c.in-Err.fault ≡ fault.Sink = cc in is)) in (goes.0, ap g.O.Sink.held goes.1);
       device = λ p is. (c.in-Err.ensures.device p (ap Err is)).0;

@@ -7,9 +7,9 @@ use Rattle.dc_recovery.specs.Core.{opened_core}
 use Rattle.dc_together.proofs.Rows.{all_written}
 use Rattle.dc_world.proofs.Joined.{alike}
 use Rattle.dc_together.specs.Joints.{FallTogether}
-use Rattle.dc_world.proofs.Opens.{opened_joined, ready_joined, well}
+use Rattle.dc_world.proofs.Opens.{opened_joined, over_joined, ready_joined, well}
 use Rattle.dc_world.specs.Worlds.{IsReady}
-use Rattle.dc_world.specs.Opened.{AreBegun, AreMadeFor, IsOpened}
+use Rattle.dc_world.specs.Opened.{AreBegun, AreMadeFor, AreOver, IsOpened}
 use Rattle.dc_processes.specs.Slots.{is_up, slot_at}
 use Rattle.dc_processes.specs.Stages.{IsTold, IsWorld, stage_of}
 use Rattle.dc_processes.specs.declared.processes.Processes.{Processes}
@@ -79,3 +79,18 @@ returns-in_err-joint-clause-wanting g c e p = inl (refl, refl)
 
 pub returns-in_err-slots-clause-wanting : goal.returns-in_err-slots-clause-wanting
 returns-in_err-slots-clause-wanting g c e p = c.in_err-slots.ensures.wanting (search rules) p
+
+pub returns-clause-over : goal.returns-clause-over
+returns-clause-over g c =
+    let images_are : c.deref.result.now ≡ c.args.setup.images.items = search rules in
+    let w : Processes = record { protocol = c.args.setup.protocol; slots = c.in_ok-slots.slots; inputs = c.args.setup.inputs; acts = c.in_ok-acts.acts; exposed = c.in_ok-exposed.exposed; lines = 0; entries = 0; left = c.args.entries; joint = c.in_ok-joint.joint } in
+    let begins : IsOpened c.args.setup c.args.entries w = search rules in
+    let stores = c.in_ok-slots.stores.items in
+    let new = c.fall_alike-stopped.new.stores in
+    let as_many : length new ≡ length stores = c.fall_alike-stopped.ensures.as_many ∙ ap (λ xs. length xs) c.deref_mut.ensures.value in
+    let all : take c.in_ok-slots.stores.len (new ++ drop (length new) stores) ≡ new = all_written c.in_ok-slots.stores.len stores new (search rules) as_many in
+    subst (λ xs. AreOver g.C.Checkpoint c.args.setup.images.items xs) (sym all)
+    (over_joined g.C.Checkpoint c.args.setup c.args.entries stores new c.begin_each.new.dev w c.fall_alike-stopped.new.processes begins
+    (subst (λ xs. AreBegun g.C.Checkpoint c.args.setup.protocol xs c.in_ok-slots.slots.items stores c.begin_each.new.dev) images_are c.in_ok-slots.ensures.begun)
+    (search rules) c.requires.entries c.requires.some c.fall_alike-stopped.ensures.rest c.fall_alike-stopped.ensures.long c.fall_alike-stopped.ensures.well as_many
+    (subst (λ xs. FallTogether g.C.Checkpoint w.protocol w.slots.items c.fall_alike-stopped.new.processes.slots.items xs new) c.deref_mut.ensures.value c.fall_alike-stopped.ensures.together))

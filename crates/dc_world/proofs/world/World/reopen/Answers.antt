@@ -13,8 +13,8 @@ use Rattle.dc_twophase.specs.Stores.{At}
 use Rattle.dc_words.specs.Lists.{lists_of}
 use Rattle.dc_world.proofs.Again.{begun_again, goes_on, ready}
 use Rattle.dc_world.proofs.Attached.{attached_handles}
-use Rattle.dc_world.specs.Opened.{AreMadeFor}
-use Rattle.dc_world.specs.Reopened.{AreAttached, AreDownAt, AreExposed, AreOver, HasHandle, HasNumber, IsAgain, IsFirstSteady, IsReadBeside, Refuses, Stood}
+use Rattle.dc_world.specs.Opened.{AreMadeFor, AreOver}
+use Rattle.dc_world.specs.Reopened.{AreAttached, AreDownAt, AreExposed, HasHandle, HasNumber, IsAgain, IsFirstSteady, IsReadBeside, Refuses, Stood}
 use Rattle.dc_world.specs.Worlds.{IsReady}
 use Rattle.dc_world.proofs.world.World.reopen.Goals as goal
 
@@ -99,6 +99,14 @@ returns-clause-ready g c =
     (subst (λ n. is_joint c.args.setup.protocol ≡ true → length c.in_ok-joint.joint.texts.items ≡ kernel_words n * n) many c.in_ok-joint.ensures.texts)
     (subst (λ n. is_joint c.args.setup.protocol ≡ true → length c.in_ok-joint.joint.saved.items ≡ n) many c.in_ok-joint.ensures.saved_long)
     (subst (λ n. AreMadeFor n c.in_ok-joint.joint.saved.items) many c.in_ok-joint.ensures.saved_fit))
+
+pub returns-clause-over : goal.returns-clause-over
+returns-clause-over g c =
+    let stores = c.in_ok-stores.stores.items in
+    let new = c.read_down.new.stores in
+    let as_many : length new ≡ length stores = c.read_down.auto.stores ∙ ap (λ xs. length xs) c.deref_mut.ensures.value in
+    let all : take c.in_ok-stores.stores.len (new ++ drop (length new) stores) ≡ new = all_written c.in_ok-stores.stores.len stores new (search rules) as_many in
+    subst (λ zs. AreOver g.C.Checkpoint c.args.setup.images.items zs) (sym all) (subst (λ xs. AreOver g.C.Checkpoint xs new) c.deref-2.ensures.value c.in_ok-slots.ensures.over)
 
 pub returns-clause-reopened : goal.returns-clause-reopened
 returns-clause-reopened g c =

@@ -4,7 +4,8 @@ use Rattle.dc_model.specs.declared.entry.Entry.TheVariants as entries
 use Rattle.dc_model.specs.declared.mark.Mark.TheVariants as marks
 use Rattle.dc_twophase.specs.Stores.{EachPair, IsNoIndex}
 use Rattle.dc_together.proofs.Rows.{all_written}
-use Rattle.dc_world.proofs.Partaking.{no_index}
+use Rattle.dc_twophase.specs.Counts.{RoseAt}
+use Rattle.dc_world.proofs.Partaking.{no_index, rose_own}
 use Rattle.dc_world.proofs.Waiting.{ready_together}
 use Rattle.dc_processes.specs.Stages.{stage_of}
 use Rattle.dc_processes.specs.Processes.{counted}
@@ -58,3 +59,22 @@ returns-clause-stopped g c =
     let made = c.turn_together.new in
     subst (λ xs. OnErr c.turn_together.result (GoesOn g.C.Checkpoint (stage_in c.args.self.now c.args.dev.now) (later 0 (stage_of xs made.dev made.processes)) (entries.Turn c.args.turn.now) marks.Stopped None)) (sym all)
     (subst (λ xs. OnErr c.turn_together.result (GoesOn g.C.Checkpoint (stage_of xs c.args.dev.now c.args.self.now.processes) (later 0 (stage_of new made.dev made.processes)) (entries.Turn c.args.turn.now) marks.Stopped None)) c.deref_mut.ensures.value c.turn_together.ensures.stopped)
+
+pub returns-clause-same : goal.returns-clause-same
+returns-clause-same g c =
+    let stores = c.args.self.now.stores.items in
+    let new = c.turn_together.new.stores in
+    let stores1 = take c.args.self.now.stores.len (new ++ drop (length new) stores) in
+    let all : stores1 ≡ new = all_written c.args.self.now.stores.len stores new (search rules) (c.turn_together.ensures.as_many ∙ ap (λ xs. length xs) c.deref_mut.ensures.value) in
+    subst (λ xs. EachPair stores xs (λ i. IsSame g.C.Checkpoint)) (sym all)
+    (subst (λ xs. EachPair xs new (λ i. IsSame g.C.Checkpoint)) c.deref_mut.ensures.value c.turn_together.ensures.stores)
+
+pub returns-clause-stops : goal.returns-clause-stops
+returns-clause-stops g c p e =
+    rose_own g.C.Checkpoint (length c.args.self.now.processes.slots.items) c.args.self.now.stores.items c.requires.ready.stores_long c.requires.ready.belongs p (g.C.Checkpoint.stops c.args.dev.now) (g.C.Checkpoint.stops c.turn_together.new.dev)
+    (subst (λ xs. RoseAt g.C.Checkpoint xs p (g.C.Checkpoint.stops c.args.dev.now) (g.C.Checkpoint.stops c.turn_together.new.dev)) c.deref_mut.ensures.value (c.turn_together.ensures.joint.stopped p e))
+
+pub returns-clause-failed : goal.returns-clause-failed
+returns-clause-failed g c p e =
+    rose_own g.C.Checkpoint (length c.args.self.now.processes.slots.items) c.args.self.now.stores.items c.requires.ready.stores_long c.requires.ready.belongs p (g.C.Checkpoint.faults c.args.dev.now) (g.C.Checkpoint.faults c.turn_together.new.dev)
+    (subst (λ xs. RoseAt g.C.Checkpoint xs p (g.C.Checkpoint.faults c.args.dev.now) (g.C.Checkpoint.faults c.turn_together.new.dev)) c.deref_mut.ensures.value (c.turn_together.ensures.joint.failed p e))

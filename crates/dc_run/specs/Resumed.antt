@@ -1,0 +1,77 @@
+-- What a call of the program promises of a run that went on.
+use Rattle.std.specs.Prelude.{◌≡◌, ◌<◌, ◌+◌, ℕ, true, List, Option, None, Some, IsSome, length, map, reverse}
+use Rattle.dc_checkpoint.specs.declared.faults.StoreFault.{StoreFault}
+use Rattle.dc_course.specs.Continued.{IsCourseOn}
+use Rattle.dc_course.specs.Courses.{counts_of}
+use Rattle.dc_course.specs.Headline.{Account, Setting, system_in}
+use Rattle.dc_course.specs.Lent.{TellsStores, capped_by}
+use Rattle.dc_course.specs.Running.{Output, output}
+use Rattle.dc_course.specs.declared.ending.Ending.{Ending}
+use Rattle.dc_disk.specs.Logs.{AreLogsRead, FirstLogHas, IsFirstLogSteady, LogRefuses, LogsLeft, LogsStood}
+use Rattle.dc_elf.specs.Loaded.{seen_image}
+use Rattle.dc_elf.specs.declared.image.Image.{Image}
+use Rattle.dc_guest.specs.Guest.{Guest}
+use Rattle.dc_media.specs.Devices.{of_disks}
+use Rattle.dc_media.specs.declared.disks.Disks as disks
+use Rattle.dc_model.specs.World.{World, thin}
+use Rattle.dc_model.specs.World.{run as run_of}
+use Rattle.dc_model.specs.declared.act.Taken.{Taken}
+use Rattle.dc_model.specs.declared.visible.Visible.{Visible}
+use Rattle.dc_protocols.specs.Rules.{is_joint}
+use Rattle.dc_recovery.specs.Recoveries.{resumed_core}
+use Rattle.dc_report.specs.Reports.{report_text}
+use Rattle.dc_resume.specs.Suited.{IsFirstUnsuited, saves_in}
+use Rattle.dc_run.specs.Headline.{Loan, Reports, SinkCourse, account_of, verdict_at}
+use Rattle.dc_run.specs.Outcomes.{status_of}
+use Rattle.dc_run.specs.Resuming.{Going, is_halted_again, onward_of}
+use Rattle.dc_reread.specs.declared.faults.RereadFault.{RereadFault}
+use Rattle.dc_reread.specs.declared.faults.RereadFault.TheVariants as faults
+use Rattle.dc_run.specs.declared.outcome.Outcome.{Outcome}
+use Rattle.dc_run.specs.declared.verdict.Verdict.{Verdict}
+use Rattle.dc_run.specs.declared.verdict.Verdict.TheVariants.{DeviceFault, DeviceStopped, NotHalted, StoreRefused, StoreUnsuited, WantOfMemory}
+
+-- images that are seen as those of its setting
+pub record ImagesOf (going : Going) : Type 0 where
+  pub images : List Image
+  pub seen : map seen_image images ≡ going.setting.images
+
+-- Behind these lines, and from what the logs were read to stand for over disks that tell, beside these acts, a part of a run goes on as it should.
+abbrev pub GoesOnFrom : {D : Type 0} → disks.Ghosts D → Setting → List Image → List Taken → List Visible → Account → Ending → Output → Loan D → Type 0
+GoesOnFrom {D} disk setting images acts lines run ending out lent = (read : D) × ((p : ℕ) → p < length images → IsSome (disk.told read p)) × (x : AreLogsRead disk (system_in setting) images acts lent.before read)
+    × IsCourseOn setting lines (resumed_core x.given (reverse lines) (saves_in (system_in setting) x.stored)) run ending out (counts_of disk.stops (capped_by disk.calls) lent.before lent.after) (λ core d. LogsLeft disk setting core d)
+
+-- Where the disks tell what they hold and, where all commit together, the first log's decided number was steady: whatever lines the part before wrote, as many
+-- as its report counts, which without repeats are the visible records of its acts, they and the lines of this part are those of one run.
+abbrev pub GoesOnKept : {D : Type 0} → disks.Ghosts D → Going → Account → Ending → Output → Loan D → Type 0
+GoesOnKept disk going run ending out lent = (i : ImagesOf going) × (TellsStores (of_disks disk) (length going.setting.images) lent.before lent.after → (is_joint going.setting.protocol ≡ true → IsFirstLogSteady disk i.images lent.before)
+    → (lines : List Visible) (world : World Guest) → run_of (system_in going.setting).guests going.report.acts ≡ Some world → length lines ≡ going.report.lines → thin lines ≡ world.visibles
+    → GoesOnFrom disk (onward_of going) i.images going.report.acts lines run ending out lent)
+
+-- a run that went on and kept the promise, with its report, of both parts: the status is that of the verdict before the report
+pub record IsResumed {D : Type 0} (going : Going) (disk : disks.Ghosts D) (o : Outcome) (lent : Loan D) (out report : SinkCourse) : Type 0 where
+  pub ending : Ending
+  pub kept : GoesOnKept disk going (account_of o None) ending (output out.before out.after) lent
+  pub report_told : Reports (verdict_at (is_halted_again going) ending) o.verdict (report_text (status_of (verdict_at (is_halted_again going) ending)) (going.report.entries + length o.marks.items) o.acts.items o.lines) report
+
+-- the verdict of a run that did not go on; that acts are no run was found before
+abbrev pub unresumed_by : RereadFault → Verdict
+unresumed_by faults.Memory = WantOfMemory
+unresumed_by (faults.Stopped p) = DeviceStopped p
+unresumed_by (faults.Failed p) = DeviceFault p
+unresumed_by (faults.Refused p fault) = StoreRefused p fault
+unresumed_by (faults.Unsuited p) = StoreUnsuited p
+unresumed_by faults.Illegal = NotHalted
+
+-- all logs were read beside the acts, and that of process p is the first that does not belong to the run
+abbrev pub IsUnsuited : {D : Type 0} → disks.Ghosts D → Going → Loan D → ℕ → Type 0
+IsUnsuited disk going lent p = (i : ImagesOf going) × (x : AreLogsRead disk (system_in (onward_of going)) i.images going.report.acts lent.before lent.after) × IsFirstUnsuited (system_in (onward_of going)) x.given x.decided x.stored p
+
+-- the log of process p stands for this refusal alone, under some decided number; where the first log's number was steady, under whatever number that may hold
+pub record IsRefusedStore {D : Type 0} (disk : disks.Ghosts D) (going : Going) (lent : Loan D) (p : ℕ) (fault : StoreFault) : Type 0 where
+  pub images : ImagesOf going
+  pub some : (d : ℕ) × LogRefuses disk images.images d lent.after p fault
+  pub under : IsFirstLogSteady disk images.images lent.before → (d : ℕ) → FirstLogHas disk images.images lent.after d → LogRefuses disk images.images d lent.after p fault
+
+-- under whatever number the first log may hold now, where that was steady, it held that number before, and each log stands for nothing that it did not stand for
+abbrev pub HaveStood : {D : Type 0} → disks.Ghosts D → Going → Loan D → Type 0
+HaveStood disk going lent = (i : ImagesOf going) × (IsFirstLogSteady disk i.images lent.before → (d : ℕ) → FirstLogHas disk i.images lent.after d → FirstLogHas disk i.images lent.before d × LogsStood disk i.images d lent.before lent.after)
