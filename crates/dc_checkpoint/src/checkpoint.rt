@@ -1,4 +1,4 @@
-ghost use Rattle.std.specs.Prelude.{All, ◌≡◌, ◌≢◌, ◌⊎◌, ◌<◌, ◌≤◌, ◌+◌, ◌*◌, ℕ, List, Option, Ok, Err, false, length, IfOk, IfSome, IsErrOf, IsSome, OnOk, slice_index, slice_set, vec_capacity};
+ghost use Rattle.std.specs.Prelude.{All, ◌≡◌, ◌≢◌, ◌⊎◌, ◌<◌, ◌≤◌, ◌+◌, ◌*◌, ℕ, List, Option, Ok, Err, false, true, length, IfOk, IfSome, IsErrOf, IsSome, OnOk, slice_index, slice_set, vec_capacity};
 ghost use Rattle.dc_media.specs.Told.{Becomes};
 ghost use Rattle.dc_kernel.specs.Records.{IsRecord};
 ghost use Rattle.dc_words.specs.Words.{masked};
@@ -10,6 +10,15 @@ use dc_kernel::{LogRecord, Saved};
 use dc_limits::LOGGED_EVENTS;
 use dc_media::{MakeFault, STORES};
 use std::alloc::{AllocError, Global};
+
+/// What the store of process 0 says of decisions.
+#[derive(Clone, Copy)]
+pub struct Decided {
+    /// The decided number; 0 where nothing was decided.
+    pub number: u32,
+    /// Whether it is steady: one that only `decide` and `commit` may change. A number that a recovery may lose is not.
+    pub is_steady: bool,
+}
 
 /// A recoverable store of one process's state: its memory in words, the text of its kernel, and the events that were logged since
 /// its last commit. It lies on a device that is lent to each call.
@@ -221,17 +230,18 @@ pub trait Checkpoint: Sized {
         requires lent { lent self.old dev.old }
         requires prepared { prepared self.old dev.old g }
         ensures touches { Touches (showing (device told stops faults untouched continues) (handle index size form first floor) lent leaves numbers steady) (on self.old dev.old) (on self.new dev.new) result }
-        ensures decided_stays { KeepsNumbers (showing (device told stops faults untouched continues) (handle index size form first floor) lent leaves numbers steady) (AreFrom g) (on self.old dev.old) (on self.new dev.new) }
         ensures ready { OnOk result (ready self.new dev.new) }
         ensures memory { OnOk result (Becomes (contents self.old dev.old) (contents self.new dev.new) (λ before after. after ≡ before)) }
         ensures number { OnOk result ((number self.new ≡ g) × (logged self.new ≡ 0)) }
         ensures floor { OnOk result (floor self.new ≤ g) }
         ensures stands { Narrows g (leaves self.old dev.old) (leaves self.new dev.new) }
-        ensures no_higher { AreNoHigher (numbers self.old dev.old) (numbers self.new dev.new) }
+        ensures numbers { AreAmong (numbers self.old dev.old) (numbers self.new dev.new) }
+        ensures steady { steady self.old dev.old → AreFrom g (numbers self.old dev.old) → steady self.new dev.new }
         ensures unrefused { IsUnrefused result };
 
-    /// The decided number that the store of process 0 holds, the same in each image from now on; 0 where nothing was decided.
-    fn decided(&mut self, dev: &mut Self::Device) -> Result<u32, CheckFault>
+    /// The decided number that the store of process 0 holds, the same in each image from now on; 0 where nothing was decided. It says
+    /// whether that number is steady too.
+    fn decided(&mut self, dev: &mut Self::Device) -> Result<Decided, CheckFault>
         requires first { (form self.old).p ≡ 0 }
         requires lent { lent self.old dev.old }
         ensures touches { Touches (showing (device told stops faults untouched continues) (handle index size form first floor) lent leaves numbers steady) (on self.old dev.old) (on self.new dev.new) result }
@@ -239,7 +249,9 @@ pub trait Checkpoint: Sized {
         ensures memory { OnOk result (Becomes (contents self.old dev.old) (contents self.new dev.new) (λ before after. after ≡ before)) }
         ensures number { OnOk result ((number self.new ≡ number self.old) × (logged self.new ≡ logged self.old)) }
         ensures floor { floor self.new ≤ floor self.old }
-        ensures decided { IfOk result (λ d. AreAll d (numbers self.new dev.new)) }
+        ensures decided { IfOk result (λ d. AreAll d.number (numbers self.new dev.new)) }
+        ensures is_steady { IfOk result (λ d. d.is_steady ≡ true → steady self.new dev.new) }
+        ensures unsteady { IfOk result (λ d. d.is_steady ≡ false → told dev.new (index self.new) → ¬ steady self.new dev.new) }
         ensures stands { Narrows 0 (leaves self.old dev.old) (leaves self.new dev.new) }
         ensures steady { steady self.old dev.old → steady self.new dev.new }
         ensures numbers { AreAmong (numbers self.old dev.old) (numbers self.new dev.new) }

@@ -13,7 +13,7 @@ ghost use Rattle.dc_media.specs.Told.{TellsOn};
 ghost use Rattle.dc_model.specs.World.{run as run_of};
 ghost use Rattle.dc_model.specs.declared.visible.Visible.{Visible as Visibles};
 ghost use Rattle.dc_processes.specs.Stages.{KeepsTelling};
-ghost use Rattle.dc_protocols.specs.Rules.{is_causal, is_joint};
+ghost use Rattle.dc_protocols.specs.Rules.{is_causal};
 ghost use Rattle.dc_recovery.specs.Recoveries.{resumed_core};
 ghost use Rattle.dc_reread.specs.Faults.{recovery_in};
 ghost use Rattle.dc_reread.specs.declared.faults.RereadFault.TheVariants as faults;
@@ -61,7 +61,7 @@ pub fn go_on<C: Planned + Drop, O: Sink>(
     requires there { (p : ℕ) (words : ℕ) (image : Images) → slice_get setup.images.items p ≡ Some image → 4 * words ≡ length image.memory.items → C.fits dev.old p words (whose (length setup.images.items) p) }
     requires idle { C.idle dev.old }
     // Where the devices tell what they hold, the promise over both parts; and what a fault of a device or of the output says.
-    ensures headline { IfOk result (λ course. TellsThroughout C.Checkpoint (length setup.images.items) dev.old dev.new → (is_joint setup.protocol ≡ true → IsFirstSteady C.Checkpoint setup.images.items dev.old)
+    ensures headline { IfOk result (λ course. TellsThroughout C.Checkpoint (length setup.images.items) dev.old dev.new
         → (lines : List Visibles) → IsEarlier (setting_from setup schedule.now (C.planned dev.old) earlier.now.entries) earlier.now lines
         → (read : C.Device) × C.continues dev.old read × ((p : ℕ) → p < length setup.images.items → C.told read p) × (x : IsReadBeside C.Checkpoint (system_in (setting_from setup schedule.now (C.planned dev.old) earlier.now.entries)) setup.images.items earlier.now.acts.now dev.old read)
         × IsCourseOn (setting_from setup schedule.now (C.planned dev.old) earlier.now.entries) lines
@@ -76,14 +76,15 @@ pub fn go_on<C: Planned + Drop, O: Sink>(
     ensures unsuited { (p : ℕ) → IsErrOf result (faults.Unsuited p)
         → (x : IsReadBeside C.Checkpoint (system_in (setting_from setup schedule.now (C.planned dev.old) earlier.now.entries)) setup.images.items earlier.now.acts.now dev.old dev.new)
         × IsFirstUnsuited (system_in (setting_from setup schedule.now (C.planned dev.old) earlier.now.entries)) x.given x.decided x.stored p }
+    ensures unsteady { IsErrOf result faults.Unsteady → C.told dev.new 0 → ¬ IsFirstSteady C.Checkpoint setup.images.items dev.old }
     ensures illegal { IsErrOf result faults.Illegal → run_of (system_in (setting_from setup schedule.now (C.planned dev.old) earlier.now.entries)).guests earlier.now.acts.now ≡ None }
     ensures refused { (p : ℕ) (fault : StoreFaults) → IsErrOf result (faults.Refused p fault) → (d : ℕ) × Refuses C.Checkpoint setup.images.items d dev.new p fault }
     ensures stopped { (p : ℕ) → IsErrOf result (faults.Stopped p) → (p < length setup.images.items) × Rose (C.stops dev.old p) (C.stops dev.new p) }
     ensures failed { (p : ℕ) → IsErrOf result (faults.Failed p) → (p < length setup.images.items) × Rose (C.faults dev.old p) (C.faults dev.new p) }
-    ensures refused_under { IsFirstSteady C.Checkpoint setup.images.items dev.old → (d : ℕ) → HasNumber C.Checkpoint setup.images.items dev.new d
+    ensures refused_under { (d : ℕ) → HasNumber C.Checkpoint setup.images.items dev.new d
         → (p : ℕ) (fault : StoreFaults) → IsErrOf result (faults.Refused p fault) → Refuses C.Checkpoint setup.images.items d dev.new p fault }
     ensures handles { (IsErrOf result faults.Memory → ⊥) → OnErr result ((p : ℕ) → HasHandle C.Checkpoint setup.images.items p) }
-    ensures stood { OnErr result (IsFirstSteady C.Checkpoint setup.images.items dev.old → (d : ℕ) → HasNumber C.Checkpoint setup.images.items dev.new d
+    ensures stood { OnErr result ((d : ℕ) → HasNumber C.Checkpoint setup.images.items dev.new d
         → HasNumber C.Checkpoint setup.images.items dev.old d × Stood C.Checkpoint setup.images.items d dev.old dev.new) }
     ensures wanting { IsErrOf result faults.Memory → (p : ℕ) → (C.stops dev.new p ≡ C.stops dev.old p) × (C.faults dev.new p ≡ C.faults dev.old p) }
     ensures unplanned { OnErr result ((p : ℕ) → C.stops dev.new p + C.unplanned dev.old p ≤ C.unplanned dev.new p + C.stops dev.old p) }

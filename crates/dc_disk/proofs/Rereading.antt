@@ -73,7 +73,7 @@ module _ {S C D : Type 0} (disk : disks.Ghosts S) {g : checkpoint.Ghosts C D} (f
       are_stored = x.are_stored;
       are_read = λ p image at r l. let h = x.handles p image at in x.are_read p image h.0 at h.1 r (leaves_in p image h.0 h.1 new x.decided r l);
       stood = logs_stood x.decided x.handles x.stood;
-      numbers = λ first image at e l. let h = x.handles 0 image at in x.numbers (first_steady old first) image h.0 at h.1 e (numbers_in 0 image h.0 h.1 new e l);
+      numbers = λ image at e l. let h = x.handles 0 image at in x.numbers image h.0 at h.1 e (numbers_in 0 image h.0 h.1 new e l);
     }
 
     -- a refusal

@@ -71,4 +71,4 @@ pub record AreLogsRead {S : Type 0} (disk : disks.Ghosts S) (of : System Guest) 
   pub are_stored : AreStored of stored
   pub are_read : (p : ℕ) → OfLog disk images p (λ sh told. (r : Reading) → StandsFor sh (told new) decided r → r ≡ reading_of (stored p))
   pub stood : LogsStood disk images decided old new
-  pub numbers : IsFirstLogSteady disk images old → OfLog disk images 0 (λ sh told. AreAll decided (Numbers sh (told new)))
+  pub numbers : OfLog disk images 0 (λ sh told. AreAll decided (Numbers sh (told new)))

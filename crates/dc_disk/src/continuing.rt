@@ -14,7 +14,7 @@ ghost use Rattle.dc_media.specs.Devices.{of_disks};
 ghost use Rattle.dc_media.specs.Told.{TellsOn};
 ghost use Rattle.dc_model.specs.World.{run as run_of};
 ghost use Rattle.dc_model.specs.declared.visible.Visible.{Visible as Visibles};
-ghost use Rattle.dc_protocols.specs.Rules.{is_causal, is_joint};
+ghost use Rattle.dc_protocols.specs.Rules.{is_causal};
 ghost use Rattle.dc_recovery.specs.Recoveries.{resumed_core};
 ghost use Rattle.dc_reread.specs.declared.faults.RereadFault.TheVariants as faults;
 ghost use Rattle.dc_resume.specs.Suited.{IsFirstUnsuited, saves_in};
@@ -54,7 +54,7 @@ pub fn go_on_disks<D: Disks, O: Sink>(
     requires takers { All (λ x. x.p < length setup.images.items) earlier.now.acts.now }
     requires acts { length earlier.now.acts.now ≤ earlier.now.entries }
     requires lines { earlier.now.lines ≤ earlier.now.entries }
-    ensures headline { IfOk result (λ course. TellsStores (of_disks D.Disks) (length setup.images.items) disks.old disks.new → (is_joint setup.protocol ≡ true → IsFirstLogSteady D.Disks setup.images.items disks.old)
+    ensures headline { IfOk result (λ course. TellsStores (of_disks D.Disks) (length setup.images.items) disks.old disks.new
         → (lines : List Visibles) → IsEarlier (setting_from setup schedule.now stops.items earlier.now.entries) earlier.now lines
         → (read : D) × ((p : ℕ) → p < length setup.images.items → IsSome (D.told read p)) × (x : AreLogsRead D.Disks (system_in (setting_from setup schedule.now stops.items earlier.now.entries)) setup.images.items earlier.now.acts.now disks.old read)
         × IsCourseOn (setting_from setup schedule.now stops.items earlier.now.entries) lines
@@ -69,11 +69,12 @@ pub fn go_on_disks<D: Disks, O: Sink>(
     ensures unsuited { (p : ℕ) → IsErrOf result (faults.Unsuited p)
         → (x : AreLogsRead D.Disks (system_in (setting_from setup schedule.now stops.items earlier.now.entries)) setup.images.items earlier.now.acts.now disks.old disks.new)
         × IsFirstUnsuited (system_in (setting_from setup schedule.now stops.items earlier.now.entries)) x.given x.decided x.stored p }
+    ensures unsteady { IsErrOf result faults.Unsteady → IsSome (D.told disks.new 0) → ¬ IsFirstLogSteady D.Disks setup.images.items disks.old }
     ensures illegal { IsErrOf result faults.Illegal → run_of (system_in (setting_from setup schedule.now stops.items earlier.now.entries)).guests earlier.now.acts.now ≡ None }
     ensures refused { (p : ℕ) (fault : StoreFaults) → IsErrOf result (faults.Refused p fault) → (d : ℕ) × LogRefuses D.Disks setup.images.items d disks.new p fault }
-    ensures refused_under { IsFirstLogSteady D.Disks setup.images.items disks.old → (d : ℕ) → FirstLogHas D.Disks setup.images.items disks.new d
+    ensures refused_under { (d : ℕ) → FirstLogHas D.Disks setup.images.items disks.new d
         → (p : ℕ) (fault : StoreFaults) → IsErrOf result (faults.Refused p fault) → LogRefuses D.Disks setup.images.items d disks.new p fault }
-    ensures stood { (IsErrOf result faults.Memory → ⊥) → OnErr result (IsFirstLogSteady D.Disks setup.images.items disks.old → (d : ℕ) → FirstLogHas D.Disks setup.images.items disks.new d
+    ensures stood { (IsErrOf result faults.Memory → ⊥) → OnErr result ((d : ℕ) → FirstLogHas D.Disks setup.images.items disks.new d
         → FirstLogHas D.Disks setup.images.items disks.old d × LogsStood D.Disks setup.images.items d disks.old disks.new) }
     ensures stopped { (p : ℕ) → IsErrOf result (faults.Stopped p) → (p < length setup.images.items) × Rose (D.stops disks.old p) (D.stops disks.new p) }
     ensures failed { (p : ℕ) → IsErrOf result (faults.Failed p) → (p < length setup.images.items) × Rose (D.faults disks.old p) (D.faults disks.new p) }

@@ -9,7 +9,7 @@ ghost use Rattle.dc_media.specs.Devices.{of_disks};
 ghost use Rattle.dc_media.specs.Told.{showing};
 
 use dc_armed::Armed;
-use dc_checkpoint::{CheckFault, Checkpoint};
+use dc_checkpoint::{CheckFault, Checkpoint, Decided};
 use dc_course::Planned;
 use dc_kernel::{LogRecord, Saved};
 use dc_media::{Disks, MakeFault};
@@ -121,7 +121,7 @@ impl<C: Checkpoint> Checkpoint for OnDisks<C> {
         self.store.finish(dev, g)
     }
 
-    fn decided(&mut self, dev: &mut C::Device) -> Result<u32, CheckFault> {
+    fn decided(&mut self, dev: &mut C::Device) -> Result<Decided, CheckFault> {
         self.store.decided(dev)
     }
 

@@ -1,7 +1,7 @@
 //! An example in C, and a run of it.
 
-use dc_memmedia::{MemDisks, MemKeeps, MemLibrary, MemSink};
-use dc_run::{Verdict, dc};
+use dc_memmedia::{MemLibrary, MemSink};
+use dc_trial::{Devices, called};
 use std::alloc::Global;
 use std::fs;
 
@@ -78,18 +78,10 @@ fn words(alloc: Global) -> Option<Vec<String>> {
 
 /// Whether a run over these files is done and shows these lines.
 fn shows(alloc: Global, library: &mut MemLibrary, lines: &[u8]) -> Option<bool> {
-    let mut keeps = MemKeeps::new(alloc, Vec::new(alloc)).ok()?;
-    let mut disks = MemDisks::new(alloc, Vec::new(alloc)).ok()?;
+    let mut on = Devices::new(alloc).ok()?;
     let mut out = MemSink::new(alloc, 1_000_000, Vec::new(alloc)).ok()?;
     let mut report = MemSink::new(alloc, 10_000_000, Vec::new(alloc)).ok()?;
-    let outcome = dc(
-        alloc,
-        &words(alloc)?,
-        library,
-        &mut keeps,
-        &mut disks,
-        &mut out,
-        &mut report,
-    );
-    Some(outcome.verdict == Verdict::Done && out.bytes() == lines)
+    let words = words(alloc)?;
+    let came = called(alloc, &words, library, &mut on, &mut out, &mut report).ok()?;
+    Some(came.status == 0 && out.bytes() == lines)
 }

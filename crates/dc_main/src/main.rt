@@ -8,7 +8,7 @@ mod topic;
 use dc_files::{FileDisks, FileLibrary, LateFile, StreamSink};
 use dc_memmedia::MemKeeps;
 use dc_run::{Outcome, Verdict, conclude, dc, words_of};
-use std::alloc::AllocError;
+use std::alloc::{AllocError, Global};
 use std::io::Write;
 use std::process::ExitCode;
 use std::rt::Files;
@@ -27,6 +27,19 @@ fn calls_disks(words: &[String]) -> bool {
     }
 }
 
+/// The call, by itself: what stands in one function with it is checked beside all its clauses.
+fn call<R: Files + AllocGlobal + Clone + Drop, W: Write + Drop>(
+    alloc: Global,
+    words: &[String],
+    library: &mut FileLibrary<R>,
+    keeps: &mut MemKeeps,
+    disks: &mut FileDisks<R>,
+    out: &mut StreamSink<W>,
+    report: &mut StreamSink<LateFile<R>>,
+) -> Outcome {
+    dc(alloc, words, library, keeps, disks, out, report)
+}
+
 /// Carries out the command of these words over stores in memory and disks in files, with the report in the file `dc.report`. The files of
 /// the disks are looked for where the command may call them.
 fn carry_out<R: Files + AllocGlobal + Clone + Drop, W: Write + Drop>(
@@ -42,7 +55,7 @@ fn carry_out<R: Files + AllocGlobal + Clone + Drop, W: Write + Drop>(
     if calls_disks(words) {
         disks.open();
     }
-    Ok(dc(
+    Ok(call(
         rt.alloc(),
         words,
         &mut library,

@@ -61,6 +61,10 @@ Keeps sh image = is_disk sh image ≡ true → kept sh (number sh image) (half_o
 abbrev pub IsSteady : Shape → Option Disk → Type 0
 IsSteady sh told = EachImage told (Keeps sh)
 
+-- so much of a decided number is kept: all of it, and it is none, or at least this floor
+abbrev pub IsSteadyAt : ℕ → ℕ → ℕ → Type 0
+IsSteadyAt kept floor number = (kept ≡ number) × ((number ≡ 0) ⊎ (floor ≤ number))
+
 -- and it is none, or at least this floor
 pub record IsSteadyFrom (sh : Shape) (floor : ℕ) (told : Option Disk) : Type 0 where
   pub kept : IsSteady sh told

@@ -18,7 +18,7 @@ ghost use Rattle.dc_redo.specs.Whole.{HasRoom, IsAtRest, IsPrepared, IsReady, kn
 use crate::faults::checked;
 use crate::frame::Frame;
 use crate::marks::Marks;
-use dc_checkpoint::{CheckFault, Checkpoint, StoreFault};
+use dc_checkpoint::{CheckFault, Checkpoint, Decided, StoreFault};
 use dc_kernel::{LogRecord, Saved};
 use dc_media::{DeviceFault, Disks, MakeFault};
 use std::alloc::{AllocError, Global};
@@ -213,8 +213,11 @@ impl<D: Disks> Checkpoint for Redo<D> {
         Ok(())
     }
 
-    fn decided(&mut self, dev: &mut D) -> Result<u32, CheckFault> {
-        checked(self.frame.decided(dev, &mut self.piece, &mut self.entry))
+    fn decided(&mut self, dev: &mut D) -> Result<Decided, CheckFault> {
+        checked(
+            self.frame
+                .decided(dev, self.marks.floor, &mut self.piece, &mut self.entry),
+        )
     }
 
     fn recover(&mut self, dev: &mut D, decided: u32, saved: &mut Saved) -> Result<(), CheckFault> {

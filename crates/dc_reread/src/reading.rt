@@ -7,8 +7,8 @@ ghost use Rattle.dc_model.specs.World.{run};
 ghost use Rattle.dc_retrace.specs.Read.{AreReadOf};
 ghost use Rattle.dc_twophase.specs.Commits.{AllOld};
 ghost use Rattle.dc_twophase.specs.Counts.{IsJoint};
-ghost use Rattle.dc_twophase.specs.Recoveries.{AreFit, IsAllRecovered, IsCause, IsSomeCause};
-ghost use Rattle.dc_twophase.specs.Stores.{AtPair, Each, EachPair, IsNoIndex, on};
+ghost use Rattle.dc_twophase.specs.Recoveries.{AreFit, IsAllRecovered, IsCause, IsSomeCause, always};
+ghost use Rattle.dc_twophase.specs.Stores.{At, AtPair, Each, EachPair, IsNoIndex, on};
 ghost use Rattle.dc_reread.specs.Faults.{recovery_in};
 ghost use Rattle.dc_reread.specs.Loaded.{AreLoaded, AreStoresOf};
 ghost use Rattle.dc_reread.specs.Pasts.{CanPlay, system_in};
@@ -22,7 +22,7 @@ use dc_elf::Image;
 use dc_limits::PROCESSES;
 use dc_plain::ApplyFault;
 use dc_retrace::{Trail, first_unsuited, walk};
-use dc_twophase::recover_all;
+use dc_twophase::recover_steady;
 use std::alloc::{AllocError, Global};
 
 /// The words of a store's memory, of which there are so many.
@@ -112,7 +112,8 @@ pub struct Reread {
 /// the processes where the stores suit the acts of the run. What each stands for beside its memory is handed out in the p-th of `saved`.
 ///
 /// It may be called whatever the devices hold. A process that is stopped, a device that fails and a store that holds no checkpoint
-/// end it at once; each names the process. Then it is seen whether the acts are a run at all, and at last whether each store suits
+/// end it at once; each names the process. So does a decided number that is not steady, and then no store is recovered: a run leaves none.
+/// Then it is seen whether the acts are a run at all, and at last whether each store suits
 /// them: the first process whose store does not is named. Memory may be wanting once all are recovered. From then on no store is
 /// touched, so each stands for what it stood for, under the number under which it was read.
 pub fn read_all<C: Checkpoint>(
@@ -130,22 +131,26 @@ pub fn read_all<C: Checkpoint>(
     ensures same { EachPair stores.old stores.new (λ i. IsSame C.Checkpoint) }
     ensures lent { Each stores.new (λ i c. C.lent c dev.new) }
     ensures fit { AreFit C.Checkpoint stores.old saved.new }
-    ensures stands { AtPair 0 stores.old stores.new (λ b z. C.steady b dev.old → (d : ℕ) → C.numbers z dev.new d
+    ensures stands { AtPair 0 stores.old stores.new (λ b z. (d : ℕ) → C.numbers z dev.new d
         → C.numbers b dev.old d × AllOld C.Checkpoint (on stores.old dev.old) (on stores.new dev.new) d) }
-    ensures steady { AtPair 0 stores.old stores.new (λ b z. C.steady b dev.old → C.steady z dev.new) }
+    ensures steady { OnOk result (At 0 stores.new (λ z. C.steady z dev.new)) }
     ensures reread { IfOk result (λ reread. IsReread C.Checkpoint past.now (on stores.new dev.new) saved.new reread) }
-    ensures decided { IfOk result (λ reread. IsAllRecovered C.Checkpoint reread.decided (on stores.old dev.old) (on stores.new dev.new) saved.new) }
-    ensures recovered { OnOk (recovery_in result) ((d : ℕ) × IsAllRecovered C.Checkpoint d (on stores.old dev.old) (on stores.new dev.new) saved.new) }
-    ensures unsuited { (p : ℕ) → IsErrOf result (faults.Unsuited p) → (d : ℕ) × IsAllRecovered C.Checkpoint d (on stores.old dev.old) (on stores.new dev.new) saved.new
+    ensures decided { IfOk result (λ reread. IsAllRecovered C.Checkpoint always reread.decided (on stores.old dev.old) (on stores.new dev.new) saved.new) }
+    ensures recovered { ¬ IsErrOf result faults.Unsteady → OnOk (recovery_in result) ((d : ℕ) × IsAllRecovered C.Checkpoint always d (on stores.old dev.old) (on stores.new dev.new) saved.new) }
+    ensures unsteady { IsErrOf result faults.Unsteady → AtPair 0 stores.old stores.new (λ b z. C.told dev.new (C.index b) → ¬ C.steady b dev.old) }
+    ensures unsuited { (p : ℕ) → IsErrOf result (faults.Unsuited p) → (d : ℕ) × IsAllRecovered C.Checkpoint always d (on stores.old dev.old) (on stores.new dev.new) saved.new
         × IsFoundUnsuited C.Checkpoint past.now d (on stores.new dev.new) saved.new p }
     ensures illegal { IsErrOf result faults.Illegal → run (system_in past.now).guests past.now.acts.now ≡ None }
-    ensures refused { AtPair 0 stores.old stores.new (λ b z. C.steady b dev.old → (d : ℕ) → C.numbers z dev.new d → IsCause C.Checkpoint d (on stores.new dev.new) (recovery_in result)) }
+    ensures refused { At 0 stores.new (λ z. (d : ℕ) → C.numbers z dev.new d → IsCause C.Checkpoint d (on stores.new dev.new) (recovery_in result)) }
     ensures refused_under { IsSomeCause C.Checkpoint (on stores.new dev.new) (recovery_in result) }
     ensures joint { IsJoint C.Checkpoint stores.old dev.old dev.new (recovery_in result) }
     ensures others { (q : ℕ) → IsNoIndex C.Checkpoint stores.old q → C.untouched dev.old dev.new q }
     ensures continues { C.continues dev.old dev.new }
 {
-    let decided = recover_all(stores, dev, saved)?;
+    let recovered = recover_steady(stores, dev, saved)?;
+    let Some(decided) = recovered else {
+        return Err(RereadFault::Unsteady);
+    };
     let trails = retrace(alloc, past, stores, dev, saved)?;
     match first_unsuited(past.protocol, decided, saved, &trails) {
         Some(p) => Err(RereadFault::Unsuited(p)),

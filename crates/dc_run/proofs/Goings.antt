@@ -170,6 +170,7 @@ free_unresumed faults.Memory legal = refl
 free_unresumed (faults.Stopped p) legal = refl
 free_unresumed (faults.Failed p) legal = refl
 free_unresumed (faults.Refused p why) legal = refl
+free_unresumed faults.Unsteady legal = refl
 free_unresumed (faults.Unsuited p) legal = refl
 free_unresumed faults.Illegal legal = absurd (legal refl)
 
@@ -177,8 +178,9 @@ abbrev is_unsuited : Verdict → Bool
 is_unsuited (StoreUnsuited p) = true
 is_unsuited _ = false
 
-pub unsuited_by : (fault : RereadFault) (v : Verdict) (p : ℕ) → v ≡ unresumed_by fault → v ≡ StoreUnsuited p → fault ≡ faults.Unsuited p
-unsuited_by (faults.Unsuited q) v p same e = let is : StoreUnsuited q ≡ StoreUnsuited p = sym same ∙ e in let one : q ≡ p = cc in ap faults.Unsuited one
+pub unsuited_by : (fault : RereadFault) (v : Verdict) (p : ℕ) → v ≡ unresumed_by fault → v ≡ StoreUnsuited p → (fault ≡ faults.Unsuited p) ⊎ ((p ≡ 0) × (fault ≡ faults.Unsteady))
+unsuited_by (faults.Unsuited q) v p same e = let is : StoreUnsuited q ≡ StoreUnsuited p = sym same ∙ e in let one : q ≡ p = cc in inl (ap faults.Unsuited one)
+unsuited_by faults.Unsteady v p same e = let is : StoreUnsuited 0 ≡ StoreUnsuited p = sym same ∙ e in let one : p ≡ 0 = cc in inr (one, refl)
 unsuited_by faults.Memory v p same e = absurd (not_before is_unsuited WantOfMemory (StoreUnsuited p) refl refl (sym same ∙ e))
 unsuited_by (faults.Stopped q) v p same e = absurd (not_before is_unsuited (DeviceStopped q) (StoreUnsuited p) refl refl (sym same ∙ e))
 unsuited_by (faults.Failed q) v p same e = absurd (not_before is_unsuited (DeviceFault q) (StoreUnsuited p) refl refl (sym same ∙ e))

@@ -1,6 +1,6 @@
 -- The entries before a halt, and what is drawn at them.
 use Rattle.std.proofs.Common.{◌≡◌, ◌∙◌, ◌+◌, ◌<◌, ◌≤◌, ℕ, zero, suc, All, IfSome, List, [], ◌∷◌, Option, None, Some, true, ap, arith, drop, get_or, length, refl, slice_get, subst, sym, take}
-use Rattle.std.proofs.lemmas.Bool.{true≢false}
+use Rattle.std.proofs.lemmas.Bool.{ltb-true, true≢false}
 use Rattle.std.proofs.lemmas.List.{length-take, take-append-drop}
 use Rattle.std.proofs.lemmas.List.Elements.{All-cons, All-head, All-nil, All-tail, All-take}
 use Rattle.std.proofs.lemmas.Option.{get_or_from_slice_get, slice_get-get_or, slice_get_within}
@@ -13,13 +13,18 @@ use Rattle.dc_model.specs.declared.entry.Entry.TheVariants as entry
 use Rattle.dc_recovery.specs.Unstopped.{AreTurns}
 use Rattle.dc_report.specs.Reading.{AreActs}
 use Rattle.dc_world.specs.Worlds.{IsOfProcesses}
-use Rattle.dc_run.specs.Opening.{entries_run}
+use Rattle.dc_run.specs.Opening.{entries_run, leaves_over}
 use Rattle.dc_run.specs.Resuming.{IsBehind}
 
 -- no more are run than there are
 pub entries_few : (halt : Option ℕ) (entries : List Entry) → length (entries_run halt entries) ≤ length entries
 entries_few None entries = omega arith
 entries_few (Some halt) entries = let h = length-take halt entries in omega (arith, h)
+
+-- fewer, where a halt leaves some over
+pub entries_fewer : (halt : Option ℕ) (entries : List Entry) → leaves_over halt entries ≡ true → length (entries_run halt entries) < length entries
+entries_fewer None entries over = absurd (true≢false (sym over))
+entries_fewer (Some halt) entries over = let h = length-take halt entries in let less = ltb-true halt (length entries) over in omega (arith, h, less)
 
 -- all that an earlier part took are among those that are run behind it
 pub entries_behind : (from : ℕ) (halt : Option ℕ) (entries : List Entry) → from < length entries → IsBehind from halt → from ≤ length (entries_run halt entries)

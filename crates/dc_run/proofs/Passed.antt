@@ -1,6 +1,7 @@
 -- What a run wrote passes the check.
-use Rattle.std.proofs.Common.{◌≡◌, ◌∙◌, ◌+◌, ◌<◌, ◌≤◌, inl, inr, ℕ, suc, All, Bool, true, false, List, [], ◌∷◌, ◌++◌, Option, None, Some, IfSome, Ok, ap, arith, if◌then◌else◌, is_some, length, refl, reverse, slice_get, subst, sym}
-use Rattle.std.proofs.lemmas.Bool.{true≢false}
+use Rattle.std.proofs.Common.{◌≡◌, ◌∙◌, ◌+◌, ◌<◌, ◌≤◌, inl, inr, ℕ, suc, All, Bool, true, false, List, [], ◌∷◌, ◌++◌, Option, None, Some, IfSome, Ok, ap, arith, if◌then◌else◌, is_some, length, nat_lt, refl, reverse, slice_get, subst, sym}
+use Rattle.dc_check.proofs.Drawing.{played_when_drawn}
+use Rattle.std.proofs.lemmas.Bool.{lt-ltb, true≢false}
 use Rattle.std.proofs.lemmas.List.{append-nil, length-map, length-reverse}
 use Rattle.std.proofs.lemmas.Option.{slice_get_within}
 use Rattle.dc_acts.specs.Lines.{text_of}
@@ -51,19 +52,20 @@ use Rattle.dc_shows.proofs.Passes.{listed, shown}
 use Rattle.dc_audit.specs.declared.journal.Line.{Line}
 use Rattle.dc_command.specs.declared.command.Ledger.TheVariants as ledger
 use Rattle.dc_run.specs.Headline.{IsReported, Loan, Reports, SinkCourse, account_of, is_used_up, journal_or_report, keeps_journal, ledger_text, unreported, used_up_at, verdict_at}
-use Rattle.dc_run.specs.Opening.{Task, guests, is_halted, part_of}
-use Rattle.dc_run.proofs.Halts.{drawn_more, drawn_within, entries_few, turns_run}
+use Rattle.dc_run.specs.Opening.{Task, guests, halt_at, is_halted, part_of}
+use Rattle.dc_run.proofs.Halts.{drawn_more, drawn_within, entries_few, entries_fewer, turns_run}
 use Rattle.dc_run.proofs.Headlines.{not_used, used_said}
 use Rattle.dc_model.specs.Drawn.{Drawn}
 use Rattle.dc_model.specs.declared.act.Taken.{Taken}
 use Rattle.dc_recovery.specs.Unstopped.{AreTurns}
 use Rattle.dc_run.specs.Outcomes.{status_of}
-use Rattle.dc_run.specs.Passing.{PassesFor, WritesSaved}
+use Rattle.dc_run.specs.Passing.{IsGoneOnWith, PassesFor, WritesSaved}
+use Rattle.dc_run.specs.Resuming.{halt_behind}
 use Rattle.dc_run.specs.Settings.{IsCalm}
 use Rattle.dc_run.specs.declared.outcome.Outcome.{Outcome}
 use Rattle.dc_run.specs.declared.verdict.Outlet.TheVariants as outlet
 use Rattle.dc_run.specs.declared.verdict.Verdict.{Verdict}
-use Rattle.dc_run.specs.declared.verdict.Verdict.TheVariants.{Done, Unfinished, DeviceFault, DeviceStopped, SinkFault, StoreRefused}
+use Rattle.dc_run.specs.declared.verdict.Verdict.TheVariants.{Done, Unfinished, Halted, DeviceFault, DeviceStopped, SinkFault, StoreRefused}
 use Rattle.dc_run.proofs.Ends.{no_rise}
 
 -- how many notes there are of records
@@ -193,6 +195,24 @@ reported_whole : (stood v : Verdict) (text : List ℕ) (sink : SinkCourse) → I
 reported_whole stood v text sink calm (inl whole) = whole.1
 reported_whole stood v text sink calm (inr cut) = absurd (no_rise sink.faults_before sink.faults_after calm cut.1)
 
+reported_verdict : (stood v : Verdict) (text : List ℕ) (sink : SinkCourse) → IsCalm sink.faults_before sink.faults_after → Reports stood v text sink → v ≡ stood
+reported_verdict stood v text sink calm (inl whole) = whole.0
+reported_verdict stood v text sink calm (inr cut) = absurd (no_rise sink.faults_before sink.faults_after calm cut.1)
+
+abbrev is_halted_one : Verdict → Bool
+is_halted_one Halted = true
+is_halted_one _ = false
+
+-- only a run with entries left over is halted
+halted_said : (halted : Bool) (e : Ending) → verdict_at halted e ≡ Halted → halted ≡ true
+halted_said true e is = refl
+halted_said false ending.Done is = absurd (true≢false (sym (ap is_halted_one is)))
+halted_said false ending.Unfinished is = absurd (true≢false (sym (ap is_halted_one is)))
+halted_said false (ending.Device p) is = absurd (true≢false (sym (ap is_halted_one is)))
+halted_said false (ending.Store p why) is = absurd (true≢false (sym (ap is_halted_one is)))
+halted_said false ending.Sink is = absurd (true≢false (sym (ap is_halted_one is)))
+halted_said false (ending.Stopped p) is = absurd (true≢false (sym (ap is_halted_one is)))
+
 module _ {S : Type 0} (on : Devices S) (task : Task) (report_it : task.ledger ≡ ledger.Report) (o : Outcome) (lent : Loan S) (out report : SinkCourse) (given : IsGivenRun task.setting.images task.setting.inputs task.setting.schedule)
     (is : IsReported task on o lent out report) (tells : on.tell (length task.setting.images) lent.before lent.after) (calm : IsCalm out.faults_before out.faults_after)
     (calm' : IsCalm report.faults_before report.faults_after) (sink : o.verdict ≡ SinkFault outlet.Out → Rose out.faults_before out.faults_after) (unstopped : (p : ℕ) → o.verdict ≡ DeviceStopped p → ⊥)
@@ -214,7 +234,12 @@ module _ {S : Type 0} (on : Devices S) (task : Task) (report_it : task.ledger �
   report_is : ledger_text (length task.setting.images) (verdict_at halted is.ending) (account_of o is.journal) ≡ report_text (status_of (verdict_at halted is.ending)) (length o.marks.items) o.acts.items o.lines
   report_is = ap (λ j. journal_or_report j (length task.setting.images) (verdict_at halted is.ending) (account_of o is.journal)) (none_is is.journal (is.journal_is ∙ ap keeps_journal report_it))
 
-  pub run_passes : (shown' listed' : List ℕ) → out.after ≡ Some shown' → report.after ≡ Some listed' → PassesFor task.setting listed' shown' o.acts.items
+  -- it was halted, where its verdict is that
+  halted_at : o.verdict ≡ Halted → (verdict_at halted is.ending ≡ Halted) × (halted ≡ true)
+  halted_at said = let stood = sym (reported_verdict (verdict_at halted is.ending) o.verdict _ report calm' is.report_told) ∙ said in (stood, halted_said halted is.ending stood)
+
+  pub run_passes : (shown' listed' : List ℕ) → out.after ≡ Some shown' → report.after ≡ Some listed'
+      → PassesFor task.setting listed' shown' o.acts.items × (o.verdict ≡ Halted → IsGoneOnWith task.setting listed' o.acts.items)
   run_passes shown' listed' at at' =
       let kept = is.kept tells in
       let h = kept.headline in
@@ -225,7 +250,21 @@ module _ {S : Type 0} (on : Devices S) (task : Task) (report_it : task.ledger �
       let list = stands_on report.before report.after _ listed' empty' at' (reported_whole (verdict_at halted is.ending) o.verdict _ report calm' is.report_told) ∙ report_is in
       let reads = report_passes task given (account_of o is.journal) kept.last kept.up kept.core out.before out.after h ends.whole (status_of (verdict_at halted is.ending)) ends.status (omega (arith, few, most, part)) (omega (arith, lines, noted)) ends.used in
       let passes = output_passes task given (account_of o is.journal) kept.last kept.up kept.core out.before out.after h ends.whole in
-      λ files names opens here here'. (length h.world.visibles, rw (opens, here, here', list, reads, text, passes) refl)
+      let played_is = played_when_drawn (guests task.setting) task.setting.schedule o.acts.items h.world (drawn task given (account_of o is.journal) kept.last kept.up kept.core out.before out.after h ends.whole) h.acts_run in (
+        λ files names opens here here'. (length h.world.visibles, rw (opens, here, here', list, reads, text, passes) refl),
+        λ said files names opens here.
+            let at_halt = halted_at said in
+            let used = ends.used (ap status_of at_halt.0) in
+            let fewer = entries_fewer task.halt task.setting.schedule at_halt.1 in
+            let zero = h.from_is in
+            let over : nat_lt (length o.marks.items) (length task.setting.schedule) ≡ true = lt-ltb (length o.marks.items) (length task.setting.schedule) (omega (arith, used, fewer, zero)) in
+            let status : status_of (verdict_at halted is.ending) ≡ 15 = ap status_of at_halt.0 in (
+              record { setting = task.setting; report = record { status = 15; entries = length o.marks.items; acts = o.acts.items; lines = o.lines }; halt = halt_behind (length o.marks.items) (halt_at files names.plan) },
+              rw (opens, here, list, reads, status, over, played_is) refl,
+              refl,
+              refl,
+            ),
+      )
 
 abbrev is_of_output : Verdict → Bool
 is_of_output (SinkFault outlet.Out) = true

@@ -1,5 +1,5 @@
 -- What a call of the program promises of a run that went on.
-use Rattle.std.specs.Prelude.{◌≡◌, ◌<◌, ◌+◌, ℕ, true, List, Option, None, Some, IsSome, length, map, reverse}
+use Rattle.std.specs.Prelude.{◌≡◌, ◌⊎◌, ◌<◌, ◌+◌, ℕ, List, Option, None, Some, IsSome, length, map, reverse}
 use Rattle.dc_checkpoint.specs.declared.faults.StoreFault.{StoreFault}
 use Rattle.dc_course.specs.Continued.{IsCourseOn}
 use Rattle.dc_course.specs.Courses.{counts_of}
@@ -17,7 +17,6 @@ use Rattle.dc_model.specs.World.{World, thin}
 use Rattle.dc_model.specs.World.{run as run_of}
 use Rattle.dc_model.specs.declared.act.Taken.{Taken}
 use Rattle.dc_model.specs.declared.visible.Visible.{Visible}
-use Rattle.dc_protocols.specs.Rules.{is_joint}
 use Rattle.dc_recovery.specs.Recoveries.{resumed_core}
 use Rattle.dc_report.specs.Reports.{report_text}
 use Rattle.dc_resume.specs.Suited.{IsFirstUnsuited, saves_in}
@@ -40,10 +39,10 @@ abbrev pub GoesOnFrom : {D : Type 0} → disks.Ghosts D → Setting → List Ima
 GoesOnFrom {D} disk setting images acts lines run ending out lent = (read : D) × ((p : ℕ) → p < length images → IsSome (disk.told read p)) × (x : AreLogsRead disk (system_in setting) images acts lent.before read)
     × IsCourseOn setting lines (resumed_core x.given (reverse lines) (saves_in (system_in setting) x.stored)) run ending out (counts_of disk.stops (capped_by disk.calls) lent.before lent.after) (λ core d. LogsLeft disk setting core d)
 
--- Where the disks tell what they hold and, where all commit together, the first log's decided number was steady: whatever lines the part before wrote, as many
--- as its report counts, which without repeats are the visible records of its acts, they and the lines of this part are those of one run.
+-- Where the disks tell what they hold: whatever lines the part before wrote, as many as its report counts, which without repeats are the visible records of its
+-- acts, they and the lines of this part are those of one run.
 abbrev pub GoesOnKept : {D : Type 0} → disks.Ghosts D → Going → Account → Ending → Output → Loan D → Type 0
-GoesOnKept disk going run ending out lent = (i : ImagesOf going) × (TellsStores (of_disks disk) (length going.setting.images) lent.before lent.after → (is_joint going.setting.protocol ≡ true → IsFirstLogSteady disk i.images lent.before)
+GoesOnKept disk going run ending out lent = (i : ImagesOf going) × (TellsStores (of_disks disk) (length going.setting.images) lent.before lent.after
     → (lines : List Visible) (world : World Guest) → run_of (system_in going.setting).guests going.report.acts ≡ Some world → length lines ≡ going.report.lines → thin lines ≡ world.visibles
     → GoesOnFrom disk (onward_of going) i.images going.report.acts lines run ending out lent)
 
@@ -59,19 +58,28 @@ unresumed_by faults.Memory = WantOfMemory
 unresumed_by (faults.Stopped p) = DeviceStopped p
 unresumed_by (faults.Failed p) = DeviceFault p
 unresumed_by (faults.Refused p fault) = StoreRefused p fault
+unresumed_by faults.Unsteady = StoreUnsuited 0
 unresumed_by (faults.Unsuited p) = StoreUnsuited p
 unresumed_by faults.Illegal = NotHalted
 
--- all logs were read beside the acts, and that of process p is the first that does not belong to the run
-abbrev pub IsUnsuited : {D : Type 0} → disks.Ghosts D → Going → Loan D → ℕ → Type 0
-IsUnsuited disk going lent p = (i : ImagesOf going) × (x : AreLogsRead disk (system_in (onward_of going)) i.images going.report.acts lent.before lent.after) × IsFirstUnsuited (system_in (onward_of going)) x.given x.decided x.stored p
+-- where it tells, the decided number of the first log did not stand among what counts, so that a recovery could have lost it
+abbrev pub IsUnsteady : {D : Type 0} → disks.Ghosts D → Going → Loan D → Type 0
+IsUnsteady disk going lent = (i : ImagesOf going) × (IsSome (disk.told lent.after 0) → IsFirstLogSteady disk i.images lent.before → ⊥)
 
--- the log of process p stands for this refusal alone, under some decided number; where the first log's number was steady, under whatever number that may hold
+-- all logs were read beside the acts, and that of process p is the first that does not belong to the run
+abbrev pub IsFoundUnsuited : {D : Type 0} → disks.Ghosts D → Going → Loan D → ℕ → Type 0
+IsFoundUnsuited disk going lent p = (i : ImagesOf going) × (x : AreLogsRead disk (system_in (onward_of going)) i.images going.report.acts lent.before lent.after) × IsFirstUnsuited (system_in (onward_of going)) x.given x.decided x.stored p
+
+-- so it was found, or it is the first one, whose decided number is not steady
+abbrev pub IsUnsuited : {D : Type 0} → disks.Ghosts D → Going → Loan D → ℕ → Type 0
+IsUnsuited disk going lent p = IsFoundUnsuited disk going lent p ⊎ ((p ≡ 0) × IsUnsteady disk going lent)
+
+-- the log of process p stands for this refusal alone, under some decided number and under whatever number the first log may hold
 pub record IsRefusedStore {D : Type 0} (disk : disks.Ghosts D) (going : Going) (lent : Loan D) (p : ℕ) (fault : StoreFault) : Type 0 where
   pub images : ImagesOf going
   pub some : (d : ℕ) × LogRefuses disk images.images d lent.after p fault
-  pub under : IsFirstLogSteady disk images.images lent.before → (d : ℕ) → FirstLogHas disk images.images lent.after d → LogRefuses disk images.images d lent.after p fault
+  pub under : (d : ℕ) → FirstLogHas disk images.images lent.after d → LogRefuses disk images.images d lent.after p fault
 
--- under whatever number the first log may hold now, where that was steady, it held that number before, and each log stands for nothing that it did not stand for
+-- under whatever number the first log may hold now, it held that number before, and each log stands for nothing that it did not stand for
 abbrev pub HaveStood : {D : Type 0} → disks.Ghosts D → Going → Loan D → Type 0
-HaveStood disk going lent = (i : ImagesOf going) × (IsFirstLogSteady disk i.images lent.before → (d : ℕ) → FirstLogHas disk i.images lent.after d → FirstLogHas disk i.images lent.before d × LogsStood disk i.images d lent.before lent.after)
+HaveStood disk going lent = (i : ImagesOf going) × ((d : ℕ) → FirstLogHas disk i.images lent.after d → FirstLogHas disk i.images lent.before d × LogsStood disk i.images d lent.before lent.after)

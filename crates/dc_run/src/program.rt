@@ -28,7 +28,7 @@ ghost use Rattle.dc_run.specs.Headline.{IsKept, IsReported, Reports, course, is_
 ghost use Rattle.dc_run.specs.Media.{HasFailed, HasStopped, IsOtherSame, devices_of, lent};
 ghost use Rattle.dc_run.specs.Opening.{AsksToRun, Task, medium_at, opening_of, part_of, task_in};
 ghost use Rattle.dc_run.specs.Resumed.{HaveStood, IsRefusedStore, IsResumed, IsUnsuited};
-ghost use Rattle.dc_run.specs.Resuming.{Going as Goings};
+ghost use Rattle.dc_run.specs.Resuming.{Going as Goings, IsRunOf};
 ghost use Rattle.dc_run.specs.Outcomes.{IsNothing, status_of};
 ghost use Rattle.dc_run.specs.Passing.{WritesPassing, WritesSaved};
 ghost use Rattle.dc_run.specs.Refusals.{as_verdict};
@@ -109,11 +109,11 @@ pub fn dc<L: Library, K: Keeps, D: Disks, O: Sink, R: Sink>(
         IsReported task (devices_of K.Keeps D.Disks (medium_of files words.now)) result (loan (lent keeps.old disks.old) (lent keeps.new disks.new)) (course (O.held out.old) (O.held out.new) (O.faults out.old) (O.faults out.new))
         (course (R.held report.old) (R.held report.new) (R.faults report.old) (R.faults report.new))))) }
 
-    // What a run wrote on sinks that held nothing and did not fail passes the check of it, wherever files hold it. The journal that it wrote in place of its
-    // report, where its schedule was used up, has Save-work: an audit of it answers so.
+    // What a run wrote on sinks that held nothing and did not fail passes the check of it, wherever files hold it, and where it was halted its report is gone on with.
+    // The journal that it wrote in place of its report, where its schedule was used up, has Save-work: an audit of it answers so.
     ensures passes { result.did ≡ Did.Run → IfSome (L.files lib.old) (λ files. IsOkAnd (work_of files words.now) (λ work. IfRun work (λ task.
         task.ledger ≡ Ledger.Report → (devices_of K.Keeps D.Disks (medium_of files words.now)).tell (length task.setting.images) (lent keeps.old disks.old) (lent keeps.new disks.new) → WritesPassing task.setting (course (O.held out.old) (O.held out.new) (O.faults out.old) (O.faults out.new))
-        (course (R.held report.old) (R.held report.new) (R.faults report.old) (R.faults report.new)) result.acts.items))) }
+        (course (R.held report.old) (R.held report.new) (R.faults report.old) (R.faults report.new)) result.verdict result.acts.items))) }
 
     ensures saves { result.did ≡ Did.Run → IfSome (L.files lib.old) (λ files. IsOkAnd (work_of files words.now) (λ work. IfRun work (λ task.
         task.ledger ≡ Ledger.Journal → (devices_of K.Keeps D.Disks (medium_of files words.now)).tell (length task.setting.images) (lent keeps.old disks.old) (lent keeps.new disks.new) → is_used_up result.verdict ≡ true →
@@ -135,7 +135,7 @@ pub fn dc<L: Library, K: Keeps, D: Disks, O: Sink, R: Sink>(
     // What users see of a run that went on behind a part that was halted, over both parts, and its report, of both. The same where the files are not told.
     ensures resumed { result.did ≡ Did.Resumed → IfSome (L.files lib.old) (λ files. IsOkAnd (work_of files words.now) (λ work. IfResume work (λ going.
         IsResumed going D.Disks result (loan disks.old disks.new) (course (O.held out.old) (O.held out.new) (O.faults out.old) (O.faults out.new)) (course (R.held report.old) (R.held report.new) (R.faults report.old) (R.faults report.new))))) }
-    ensures went { result.did ≡ Did.Resumed → (going : Goings) ×
+    ensures went { result.did ≡ Did.Resumed → (going : Goings) × IsRunOf going.setting going.report.acts ×
         IsResumed going D.Disks result (loan disks.old disks.new) (course (O.held out.old) (O.held out.new) (O.faults out.old) (O.faults out.new)) (course (R.held report.old) (R.held report.new) (R.faults report.old) (R.faults report.new)) }
     // One that did not go on: its stores stand, under the decided number, for what they stood for; one that is refused, or that is the first that does not
     // belong to the run, is so by what it holds.
@@ -366,7 +366,7 @@ fn run_plan<L: Library, K: Keeps, D: Disks, O: Sink, R: Sink>(
     ensures begun { is_of_going_on result.verdict ≡ false }
     ensures passes { result.did ≡ Did.Run → IfSome (L.files lib.old) (λ files. IsOkAnd (as_verdict (opening_of files (order_view order.now))) (λ setting.
         order.now.ledger ≡ Ledger.Report → (devices_of K.Keeps D.Disks (medium_at files order.now.plan.now)).tell (length setting.images) (lent keeps.old disks.old) (lent keeps.new disks.new) → WritesPassing setting (course (O.held out.old) (O.held out.new) (O.faults out.old) (O.faults out.new))
-        (course (R.held report.old) (R.held report.new) (R.faults report.old) (R.faults report.new)) result.acts.items)) }
+        (course (R.held report.old) (R.held report.new) (R.faults report.old) (R.faults report.new)) result.verdict result.acts.items)) }
     ensures ran { result.did ≡ Did.Run → (medium : Media) × (task : Task) × (task.ledger ≡ order.now.ledger) ×
         IsReported task (devices_of K.Keeps D.Disks medium) result (loan (lent keeps.old disks.old) (lent keeps.new disks.new)) (course (O.held out.old) (O.held out.new) (O.faults out.old) (O.faults out.new))
         (course (R.held report.old) (R.held report.new) (R.faults report.old) (R.faults report.new)) }

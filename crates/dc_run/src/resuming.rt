@@ -20,7 +20,7 @@ ghost use Rattle.dc_run.specs.Commands.{IsExact, IsOpenedFor, stores_used, work_
 ghost use Rattle.dc_run.specs.Headline.{Reports, course, loan, verdict_at};
 ghost use Rattle.dc_run.specs.Opening.{Files};
 ghost use Rattle.dc_run.specs.Outcomes.{IsNothing, status_of};
-ghost use Rattle.dc_run.specs.Resumed.{GoesOnKept, HaveStood, IsRefusedStore, IsResumed, IsUnsuited, unresumed_by};
+ghost use Rattle.dc_run.specs.Resumed.{GoesOnKept, HaveStood, IsFoundUnsuited, IsRefusedStore, IsResumed, IsUnsteady, IsUnsuited, unresumed_by};
 ghost use Rattle.dc_run.specs.Resuming.{AsksToResume, Going as Goings, IsBehind, IsRunOf, comes_before, going_in, going_with, was_halted};
 ghost use Rattle.dc_run.specs.Again.{going_of};
 ghost use Rattle.dc_run.specs.Settings.{Answers, LibraryKept, has_ended, is_refusal, may_have_run, setting_of};
@@ -153,7 +153,8 @@ fn go_on_with<D: Disks, O: Sink>(
     ensures device { IfOk result (λ run. (p : ℕ) → run.ending ≡ endings.Device p → Rose (D.faults disks.old p) (D.faults disks.new p)) }
     ensures sink { IfOk result (λ run. run.ending ≡ endings.Sink → Rose (O.faults out.old) (O.faults out.new)) }
     ensures marks { IfOk result (λ run. going.report.entries + length run.marks.items < 2 ^ 32) }
-    ensures unsuited { (p : ℕ) → IsErrOf result (faults.Unsuited p) → IsUnsuited D.Disks (going_of going) (loan disks.old disks.new) p }
+    ensures unsuited { (p : ℕ) → IsErrOf result (faults.Unsuited p) → IsFoundUnsuited D.Disks (going_of going) (loan disks.old disks.new) p }
+    ensures unsteady { IsErrOf result faults.Unsteady → IsUnsteady D.Disks (going_of going) (loan disks.old disks.new) }
     ensures legal { ¬ IsErrOf result faults.Illegal }
     ensures refused { (p : ℕ) (fault : StoreFaults) → IsErrOf result (faults.Refused p fault) → IsRefusedStore D.Disks (going_of going) (loan disks.old disks.new) p fault }
     ensures stood { (IsErrOf result faults.Memory → ⊥) → OnErr result (HaveStood D.Disks (going_of going) (loan disks.old disks.new)) }
@@ -256,6 +257,7 @@ fn unresumed(fault: RereadFault) -> Verdict
         RereadFault::Stopped(p) => Verdict::DeviceStopped(p),
         RereadFault::Failed(p) => Verdict::DeviceFault(p),
         RereadFault::Refused(p, fault) => Verdict::StoreRefused(p, fault),
+        RereadFault::Unsteady => Verdict::StoreUnsuited(0),
         RereadFault::Unsuited(p) => Verdict::StoreUnsuited(p),
         RereadFault::Illegal => unreachable!(),
     }
@@ -284,7 +286,7 @@ pub fn resume_run<L: Library, D: Disks, O: Sink, R: Sink>(
     ensures report_fault { result.verdict ≡ Verdict.SinkFault Outlets.Report → Rose (R.faults report.old) (R.faults report.new) }
     ensures resumed { result.did ≡ Did.Resumed → IfSome (L.files lib.old) (λ files. IsOkAnd (going_in files (halted_view names.now)) (λ going.
         IsResumed going D.Disks result (loan disks.old disks.new) (course (O.held out.old) (O.held out.new) (O.faults out.old) (O.faults out.new)) (course (R.held report.old) (R.held report.new) (R.faults report.old) (R.faults report.new)))) }
-    ensures went { result.did ≡ Did.Resumed → (going : Goings) ×
+    ensures went { result.did ≡ Did.Resumed → (going : Goings) × IsRunOf going.setting going.report.acts ×
         IsResumed going D.Disks result (loan disks.old disks.new) (course (O.held out.old) (O.held out.new) (O.faults out.old) (O.faults out.new)) (course (R.held report.old) (R.held report.new) (R.faults report.old) (R.faults report.new)) }
     ensures unsuited { (p : ℕ) → result.verdict ≡ Verdict.StoreUnsuited p → IfSome (L.files lib.old) (λ files. IsOkAnd (going_in files (halted_view names.now)) (λ going.
         IsUnsuited D.Disks going (loan disks.old disks.new) p)) }

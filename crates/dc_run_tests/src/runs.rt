@@ -12,7 +12,6 @@
 //! EACH and FIRST, at each call of a span.
 
 mod cases;
-mod devices;
 mod files;
 mod guest_files;
 mod parts;
@@ -28,9 +27,7 @@ use dc_cases::{
     coded, holds, is_read, number, numbers, passing, says, text, value, wanted_report, words,
 };
 use dc_memmedia::{MemDisks, MemKeeps, MemLibrary, MemSink};
-use dc_model::{Idle, Mark};
-use dc_run::{Did, Outcome, conclude};
-use devices::{Devices, called, called_aside};
+use dc_trial::{Came, Devices, called, called_aside};
 use parts::parted_under;
 use planned::{library, refused, tried_calls};
 use resumed::all_resumed;
@@ -41,40 +38,21 @@ const KEYS: &str =
     "words plan protocol stops old new guests source copies journal code zeros offset byte cut name schedule report output fetch write \
 device room report_room said status out elf close acts act marks written each first ends";
 
-/// What a call left: its outcome and its two sinks.
+/// What a call left: what it came to and its two sinks.
 #[derive(Drop)]
 struct Left {
-    outcome: Outcome,
+    came: Came,
     out: MemSink,
     report: MemSink,
 }
 
-/// The letter of a mark: `i` where the guest had ended, `f` where its link was full, `s` where it stepped, the number of what it showed,
-/// `x` where it was stopped in its turn, `m` where it was stopped between turns, `r` where it recovered.
-fn letter(mark: &Mark) -> u8 {
-    match *mark {
-        Mark::Idle(Idle::Ended) => b'i',
-        Mark::Idle(Idle::LinkFull) => b'f',
-        Mark::Stepped => b's',
-        Mark::Showed(k) if k < 10 => b'0' + k as u8,
-        Mark::Showed(_) => b'+',
-        Mark::Recovered(_) => b'r',
-        Mark::Stopped => b'x',
-        Mark::Marked => b'm',
-    }
-}
-
 /// The marks are those that the case says, if it says any.
-fn marks_are(case: &str, marks: &[Mark]) -> Result<(), Fail> {
+fn marks_are(case: &str, marks: &[u8]) -> Result<(), Fail> {
     if !says(case, "marks") {
         return Ok(());
     }
     let want = value(case, "marks", "").as_bytes();
-    holds(marks.len() == want.len(), case, "as many marks")?;
-    for (mark, letter_wanted) in marks.iter().zip(want) {
-        holds(letter(mark) == *letter_wanted, case, "the marks")?;
-    }
-    Ok(())
+    holds(marks == want, case, "the marks")
 }
 
 /// What a run leaves by its case: its report, its journal, or nothing.
@@ -106,18 +84,12 @@ fn output_is(alloc: Global, case: &str, out: &MemSink) -> Result<(), Fail> {
 }
 
 /// The program ends with the status and the line that the case says.
-fn ends_so(alloc: Global, case: &str, outcome: &Outcome) -> Result<(), Fail> {
-    let mut error = MemSink::new(alloc, 200, Vec::new(alloc))?;
-    let words = words(alloc, value(case, "words", "dc run plan"))?;
-    let status = conclude(alloc, &words, outcome, &mut error);
-    holds(
-        number(case, "status", "0")? == usize::from(status),
-        case,
-        "the status",
-    )?;
+fn ends_so(alloc: Global, case: &str, came: &Came) -> Result<(), Fail> {
+    let status = usize::from(came.status);
+    holds(number(case, "status", "0")? == status, case, "the status")?;
     let want = text(alloc, case, "said", "")?;
     holds(
-        error.bytes() == want.as_bytes(),
+        came.said.bytes() == want.as_bytes(),
         case,
         "the line on standard error",
     )
@@ -125,12 +97,11 @@ fn ends_so(alloc: Global, case: &str, outcome: &Outcome) -> Result<(), Fail> {
 
 /// What comes of a call besides its status is what its case says.
 fn comes_to(alloc: Global, case: &str, left: &Left) -> Result<(), Fail> {
-    let ran = left.outcome.did == Did::Run;
     let runs = says(case, "close") || says(case, "written");
-    holds(ran == runs, case, "whether it ran")?;
+    holds(left.came.ran == runs, case, "whether it ran")?;
     output_is(alloc, case, &left.out)?;
     report_is(alloc, case, &left.report)?;
-    marks_are(case, left.outcome.marks.as_slice())
+    marks_are(case, &left.came.marks)
 }
 
 /// The output of a case, with its room and the writes that fail.
@@ -149,12 +120,8 @@ fn left_by(alloc: Global, case: &str, library: &mut MemLibrary) -> Result<Left, 
     let room = number(case, "report_room", "100000")?;
     let mut report = MemSink::new(alloc, room, Vec::new(alloc))?;
     let words = words(alloc, value(case, "words", "dc run plan"))?;
-    let outcome = called(alloc, &words, library, &mut on, &mut out, &mut report);
-    Ok(Left {
-        outcome,
-        out,
-        report,
-    })
+    let came = called(alloc, &words, library, &mut on, &mut out, &mut report)?;
+    Ok(Left { came, out, report })
 }
 
 /// A case comes to what it says, and what a run wrote passes the check.
@@ -165,7 +132,7 @@ fn tried(alloc: Global, case: &str) -> Result<(), Fail> {
     if says(case, "ends") {
         return ends_well(alloc, case, &mut library, &left);
     }
-    ends_so(alloc, case, &left.outcome)?;
+    ends_so(alloc, case, &left.came)?;
     comes_to(alloc, case, &left)?;
     if fails(case) {
         return Ok(());
@@ -179,6 +146,14 @@ fn tried(alloc: Global, case: &str) -> Result<(), Fail> {
 /// Whether a fetch or a sink of the case fails.
 fn fails(case: &str) -> bool {
     says(case, "fetch") || says(case, "write") || says(case, "room") || says(case, "report_room")
+}
+
+/// Whether a call touched no store, and ended with status 0.
+fn is_done(came: Option<Came>) -> bool {
+    match came {
+        Some(came) => came.status == 0,
+        None => false,
+    }
 }
 
 /// The words of a check of what was written.
@@ -202,8 +177,8 @@ fn checked(
     library.add(name, left.out.bytes().to_vec(alloc)?)?;
     let mut out = MemSink::new(alloc, 100, Vec::new(alloc))?;
     let words = check_words(alloc)?;
-    let outcome = called_aside(alloc, &words, library, &mut out)?;
-    holds(outcome.status() == 0, case, "the check passes")?;
+    let came = called_aside(alloc, &words, library, &mut out)?;
+    holds(is_done(came), case, "the check passes")?;
     Ok(out)
 }
 
@@ -224,13 +199,13 @@ fn saved(alloc: Global, case: &str, library: &mut MemLibrary, left: &Left) -> Re
     library.add(name, left.report.bytes().to_vec(alloc)?)?;
     let mut out = MemSink::new(alloc, 100, Vec::new(alloc))?;
     let words = words(alloc, "dc audit written")?;
-    let outcome = called_aside(alloc, &words, library, &mut out)?;
-    holds(outcome.status() == 0, case, "the journal is saved")
+    let came = called_aside(alloc, &words, library, &mut out)?;
+    holds(is_done(came), case, "the journal is saved")
 }
 
 /// The status is one of those that the case says.
-fn status_is(alloc: Global, case: &str, outcome: &Outcome) -> Result<(), Fail> {
-    let status = u64::from(outcome.status());
+fn status_is(alloc: Global, case: &str, came: &Came) -> Result<(), Fail> {
+    let status = u64::from(came.status);
     let ends = numbers(alloc, value(case, "ends", ""))?;
     holds(ends.contains(&status), case, "the status")
 }
@@ -238,7 +213,7 @@ fn status_is(alloc: Global, case: &str, outcome: &Outcome) -> Result<(), Fail> {
 /// A call of a table ends as its case says; what a run wrote passes the check, or is a front of the case's output where that could not be
 /// written; and a call that is no run writes nothing.
 fn ends_well(alloc: Global, case: &str, library: &mut MemLibrary, left: &Left) -> Result<(), Fail> {
-    status_is(alloc, case, &left.outcome)?;
+    status_is(alloc, case, &left.came)?;
     let shown = left.out.bytes();
     if says(case, "out") {
         let whole = text(alloc, case, "out", "")?;
@@ -256,7 +231,7 @@ fn ends_well(alloc: Global, case: &str, library: &mut MemLibrary, left: &Left) -
     if says(case, "write") {
         return Ok(());
     }
-    if left.outcome.did == Did::Run {
+    if left.came.ran {
         let line = checked(alloc, case, library, left)?;
         return holds(line.bytes().starts_with(b"ok "), case, "the line");
     }

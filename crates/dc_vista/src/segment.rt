@@ -15,7 +15,7 @@ ghost use Rattle.dc_vista.specs.Whole.{IsPreparedAs, IsReady, untouched};
 use crate::frame::Frame;
 use crate::marks::Marks;
 use crate::words::{Word, get, segment_words};
-use dc_checkpoint::{CheckFault, Checkpoint, StoreFault};
+use dc_checkpoint::{CheckFault, Checkpoint, Decided, StoreFault};
 use dc_kernel::{COMMIT_AT, LogRecord, N_AT, P_AT, Saved};
 use dc_media::{DeviceFault, Keeps, MakeFault};
 use std::alloc::{AllocError, Global};
@@ -206,11 +206,18 @@ impl<K: Keeps> Checkpoint for Segment<K> {
         checked(self.frame.finish(dev, &mut self.marks, g))
     }
 
-    fn decided(&mut self, dev: &mut K) -> Result<u32, CheckFault> {
+    fn decided(&mut self, dev: &mut K) -> Result<Decided, CheckFault> {
         if get(dev, self.frame.index, self.frame.lines, Word::Ready) == 0 {
-            return Ok(0);
+            return Ok(Decided {
+                number: 0,
+                is_steady: true,
+            });
         }
-        Ok(get(dev, self.frame.index, self.frame.lines, Word::Decided))
+        let number = get(dev, self.frame.index, self.frame.lines, Word::Decided);
+        Ok(Decided {
+            number,
+            is_steady: true,
+        })
     }
 
     fn recover(&mut self, dev: &mut K, decided: u32, saved: &mut Saved) -> Result<(), CheckFault> {

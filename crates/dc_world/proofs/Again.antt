@@ -152,11 +152,11 @@ module _ {C D : Type 0} (g : checkpoint.Ghosts C D) (setup : Setup) (earlier : E
   store_at p less = let c = known stores p (omega (arith, less, long)) in let image = known setup.images.items p less in (c.0, c.1, image.0, image.1)
 
   module _ (some : 0 < length setup.images.items) (few : entries ≤ 1000000) (free : is_causal setup.protocol ≡ false) (exposed : AreExposed T read.given w.exposed.items)
-      (first : is_joint setup.protocol ≡ true → IsFirstSteady g setup.images.items old) (steady : IsFirstSteady g setup.images.items old → At 0 stores (λ c. g.steady c dev)) where
+      (steady : At 0 stores (λ c. g.steady c dev)) where
     numbered : is_joint setup.protocol ≡ true → (e : ℕ) → numbers_of g stage e → e ≡ read.decided
     numbered joint e counts =
         let (c, there, image, image_is) = store_at 0 some in
-        read.numbers (first joint) image c image_is (over 0 c there image image_is) e (some_and (λ z. g.numbers z dev e) (slice_get stores 0) c there counts)
+        read.numbers image c image_is (over 0 c there image image_is) e (some_and (λ z. g.numbers z dev e) (slice_get stores 0) c there counts)
 
     number_is : (e : ℕ) → decided_by (is_joint setup.protocol) (numbers_of g stage) e → e ≡ read.decided
     number_is = decided_is (is_joint setup.protocol) (numbers_of g stage) read.decided numbered ((are 0 (let e = length-map setup.images.items seen_image in omega (arith, e, some))).decided refl).alone
@@ -182,7 +182,7 @@ module _ {C D : Type 0} (g : checkpoint.Ghosts C D) (setup : Setup) (earlier : E
       left = let e = begins.left_is in omega (arith, e, few);
       read = read_is;
       numbers = numbered;
-      steady = λ joint. let (c, there, image, image_is) = store_at 0 some in and_some (λ z. g.steady z dev) (slice_get stores 0) c there (steady (first joint) c there);
+      steady = λ joint. let (c, there, image, image_is) = store_at 0 some in and_some (λ z. g.steady z dev) (slice_get stores 0) c there (steady c there);
     }
 
     pub goes_on : (lines : List Visible) → length lines ≡ earlier.lines → IsWorld g T (resumed_core read.given lines (saves_in T read.stored)) stage

@@ -20,7 +20,7 @@ use Rattle.dc_resume.specs.Suited.{AreStored}
 use Rattle.dc_together.proofs.Fitting.{own_form}
 use Rattle.dc_twophase.proofs.Pairs.{before_it, known}
 use Rattle.dc_twophase.specs.Commits.{AllOld}
-use Rattle.dc_twophase.specs.Recoveries.{IsRefusal}
+use Rattle.dc_twophase.specs.Recoveries.{IsRefusal, always}
 use Rattle.dc_twophase.specs.Stores.{AtPair, EachPair, on}
 use Rattle.dc_world.proofs.Over.{over_same, over_still}
 use Rattle.dc_world.specs.Opened.{AreOver, IsOver}
@@ -97,14 +97,17 @@ module _ {C D : Type 0} (g : checkpoint.Ghosts C D) (leaves_alike : (b c : C) (d
   steady_before first b there =
       let image = known images 0 (let w = slice_get_within stores 0 b there in omega (arith, w, long)) in first image.0 b image.1 (attached 0 b there image.0 image.1)
 
-  -- what follows of the first handle where it was steady
-  pub where_steady : {R : C → C → Type 0} → AtPair 0 stores stores1 (λ b c. g.steady b old → R b c) → IsFirstSteady g images old → (b c : C) → slice_get stores 0 ≡ Some b → slice_get stores1 0 ≡ Some c → R b c
-  where_steady pair first b c there now = pair b c there now (steady_before first b there)
+  -- a first handle that was not steady
+  pub never_steady : 0 < n → AtPair 0 stores stores1 (λ b c. g.told new (g.index b) → g.steady b old → ⊥) → g.told new 0 → IsFirstSteady g images old → ⊥
+  never_steady some pair told first =
+      let image = known images 0 some in
+      let b = before 0 (within 0 image.0 image.1) in let c = after 0 (within 0 image.0 image.1) in
+      pair b.0 c.0 b.1 c.1 (subst (λ q. g.told new q) (sym (was_over 0 image.0 image.1).belongs.index_is) told) (steady_before first b.0 b.1)
 
-  pub all_numbered : (d : ℕ) → AtPair 0 stores stores1 (λ b c. g.steady b old → AreAll d (g.numbers c new)) → IsFirstSteady g images old → OverAny g images 0 (λ c. AreAll d (g.numbers c new))
-  all_numbered d pair first image x at over e counts =
+  pub all_numbered : (d : ℕ) → AtPair 0 stores stores1 (λ b c. always b → AreAll d (g.numbers c new)) → OverAny g images 0 (λ c. AreAll d (g.numbers c new))
+  all_numbered d pair image x at over e counts =
       let b = before 0 (within 0 image at) in let c = after 0 (within 0 image at) in
-      pair b.0 c.0 b.1 c.1 (steady_before first b.0 b.1) e (numbers_alike x c.0 new (over_same g n 0 (seen_image image) x c.0 over (is_over 0 image at)) e counts)
+      pair b.0 c.0 b.1 c.1 tt e (numbers_alike x c.0 new (over_same g n 0 (seen_image image) x c.0 over (is_over 0 image at)) e counts)
 
   -- a number that a handle may hold now, the one that was read may
   pub number_read : (d : ℕ) → HasNumber g images new d → (b c : C) × (slice_get stores 0 ≡ Some b) × (slice_get stores1 0 ≡ Some c) × g.numbers c new d × (g.numbers b old d → HasNumber g images old d)
@@ -114,7 +117,7 @@ module _ {C D : Type 0} (g : checkpoint.Ghosts C D) (leaves_alike : (b c : C) (d
 
   -- what was read of all
   unfoldable pub is_beside : (S : System Guest) (acts : List Taken) (d : ℕ) (given : List Given) (stored : ℕ → Stored) → IsRun S.guests given → reported given ≡ acts → AreStored S stored → AreReadAs g d stored (on stores1 new) → AllOld g (on stores old) (on stores1 new) d
-      → AtPair 0 stores stores1 (λ b c. g.steady b old → AreAll d (g.numbers c new)) → IsReadBeside g S images acts old new
+      → AtPair 0 stores stores1 (λ b c. always b → AreAll d (g.numbers c new)) → IsReadBeside g S images acts old new
   is_beside S acts d given stored run reports are read all numbers = record {
     decided = d;
     given = given;

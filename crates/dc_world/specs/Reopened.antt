@@ -81,7 +81,7 @@ pub record IsReadBeside {C D : Type 0} (g : checkpoint.Ghosts C D) (S : System G
   pub handles : (p : ℕ) → HasHandle g images p
   pub are_read : (p : ℕ) → OverAny g images p (λ c. (r : Reading) → g.leaves c new decided r → r ≡ reading_of (stored p))
   pub stood : Stood g images decided old new
-  pub numbers : IsFirstSteady g images old → OverAny g images 0 (λ c. AreAll decided (g.numbers c new))
+  pub numbers : OverAny g images 0 (λ c. AreAll decided (g.numbers c new))
 
 -- each was read of its process's store, with room for another log
 abbrev pub AreRead : ℕ → List Saved → Type 0

@@ -14,7 +14,7 @@ ghost use Rattle.dc_proc.specs.Carried.{system};
 ghost use Rattle.dc_proc.specs.Downs.{IsDown, based_of};
 ghost use Rattle.dc_proc.specs.Downs.{IsOf as IsDownOf};
 ghost use Rattle.dc_processes.specs.Stages.{IsWorld, KeepsTelling, stage_of};
-ghost use Rattle.dc_protocols.specs.Rules.{is_causal, is_joint};
+ghost use Rattle.dc_protocols.specs.Rules.{is_causal};
 ghost use Rattle.dc_recovery.specs.Recoveries.{resumed_core};
 ghost use Rattle.dc_reread.specs.Faults.{recovery_in};
 ghost use Rattle.dc_reread.specs.Pasts.{CanPlay, system_in};
@@ -201,7 +201,7 @@ fn read_beside<C: Checkpoint>(
     requires fit { AreMadeFor (length past.now.images.now) saved.old }
     ensures same { EachPair stores.old stores.new (λ i. IsSame C.Checkpoint) }
     ensures lent { Each stores.new (λ i c. C.lent c dev.new) }
-    ensures steady { IsFirstSteady C.Checkpoint past.now.images.now dev.old → At 0 stores.new (λ c. C.steady c dev.new) }
+    ensures steady { OnOk result (At 0 stores.new (λ c. C.steady c dev.new)) }
     ensures handed { OnOk result (AreRead (length past.now.images.now) saved.new) }
     ensures long { IfOk result (λ reread. length reread.trails.items ≡ length past.now.images.now) }
     ensures read { IfOk result (λ reread. (x : IsReadBeside C.Checkpoint (system_in past.now) past.now.images.now past.now.acts.now dev.old dev.new)
@@ -209,11 +209,12 @@ fn read_beside<C: Checkpoint>(
         × (is_causal past.now.protocol ≡ false → AreExposed (system_in past.now) x.given (map (λ t. t.exposed) reread.trails.items))) }
     ensures unsuited { (p : ℕ) → IsErrOf result (faults.Unsuited p) → (x : IsReadBeside C.Checkpoint (system_in past.now) past.now.images.now past.now.acts.now dev.old dev.new)
         × IsFirstUnsuited (system_in past.now) x.given x.decided x.stored p }
+    ensures unsteady { IsErrOf result faults.Unsteady → C.told dev.new 0 → ¬ IsFirstSteady C.Checkpoint past.now.images.now dev.old }
     ensures illegal { IsErrOf result faults.Illegal → run (system_in past.now).guests past.now.acts.now ≡ None }
     ensures refused { (p : ℕ) (fault : StoreFaults) → IsErrOf result (faults.Refused p fault) → (d : ℕ) × Refuses C.Checkpoint past.now.images.now d dev.new p fault }
-    ensures refused_under { IsFirstSteady C.Checkpoint past.now.images.now dev.old → (d : ℕ) → HasNumber C.Checkpoint past.now.images.now dev.new d
+    ensures refused_under { (d : ℕ) → HasNumber C.Checkpoint past.now.images.now dev.new d
         → (p : ℕ) (fault : StoreFaults) → IsErrOf result (faults.Refused p fault) → Refuses C.Checkpoint past.now.images.now d dev.new p fault }
-    ensures stood { IsFirstSteady C.Checkpoint past.now.images.now dev.old → (d : ℕ) → HasNumber C.Checkpoint past.now.images.now dev.new d
+    ensures stood { (d : ℕ) → HasNumber C.Checkpoint past.now.images.now dev.new d
         → HasNumber C.Checkpoint past.now.images.now dev.old d × Stood C.Checkpoint past.now.images.now d dev.old dev.new }
     ensures stopped { (p : ℕ) → IsErrOf result (faults.Stopped p) → (p < length past.now.images.now) × Rose (C.stops dev.old p) (C.stops dev.new p) }
     ensures failed { (p : ℕ) → IsErrOf result (faults.Failed p) → (p < length past.now.images.now) × Rose (C.faults dev.old p) (C.faults dev.new p) }
@@ -242,18 +243,19 @@ fn read_down<C: Checkpoint>(
     requires fit { AreMadeFor (length past.now.images.now) saved.old }
     ensures over { OnOk result (AreOver C.Checkpoint past.now.images.now stores.new) }
     ensures lent { OnOk result (Each stores.new (λ i c. C.lent c dev.new)) }
-    ensures steady { OnOk result (IsFirstSteady C.Checkpoint past.now.images.now dev.old → At 0 stores.new (λ c. C.steady c dev.new)) }
+    ensures steady { OnOk result (At 0 stores.new (λ c. C.steady c dev.new)) }
     ensures long { IfOk result (λ made. (length made.0.items ≡ length past.now.images.now) × (length made.1.items ≡ length past.now.images.now)) }
     ensures read { IfOk result (λ made. (x : IsReadBeside C.Checkpoint (system_in past.now) past.now.images.now past.now.acts.now dev.old dev.new)
         × AreSuited (system_in past.now) x.given x.decided x.stored × AreDownAt past.now.protocol past.now.images.now x.stored made.0.items
         × (is_causal past.now.protocol ≡ false → AreExposed (system_in past.now) x.given made.1.items)) }
     ensures unsuited { (p : ℕ) → IsErrOf result (faults.Unsuited p) → (x : IsReadBeside C.Checkpoint (system_in past.now) past.now.images.now past.now.acts.now dev.old dev.new)
         × IsFirstUnsuited (system_in past.now) x.given x.decided x.stored p }
+    ensures unsteady { IsErrOf result faults.Unsteady → C.told dev.new 0 → ¬ IsFirstSteady C.Checkpoint past.now.images.now dev.old }
     ensures illegal { IsErrOf result faults.Illegal → run (system_in past.now).guests past.now.acts.now ≡ None }
     ensures refused { (p : ℕ) (fault : StoreFaults) → IsErrOf result (faults.Refused p fault) → (d : ℕ) × Refuses C.Checkpoint past.now.images.now d dev.new p fault }
-    ensures refused_under { IsFirstSteady C.Checkpoint past.now.images.now dev.old → (d : ℕ) → HasNumber C.Checkpoint past.now.images.now dev.new d
+    ensures refused_under { (d : ℕ) → HasNumber C.Checkpoint past.now.images.now dev.new d
         → (p : ℕ) (fault : StoreFaults) → IsErrOf result (faults.Refused p fault) → Refuses C.Checkpoint past.now.images.now d dev.new p fault }
-    ensures stood { IsFirstSteady C.Checkpoint past.now.images.now dev.old → (d : ℕ) → HasNumber C.Checkpoint past.now.images.now dev.new d
+    ensures stood { (d : ℕ) → HasNumber C.Checkpoint past.now.images.now dev.new d
         → HasNumber C.Checkpoint past.now.images.now dev.old d × Stood C.Checkpoint past.now.images.now d dev.old dev.new }
     ensures stopped { (p : ℕ) → IsErrOf result (faults.Stopped p) → (p < length past.now.images.now) × Rose (C.stops dev.old p) (C.stops dev.new p) }
     ensures failed { (p : ℕ) → IsErrOf result (faults.Failed p) → (p < length past.now.images.now) × Rose (C.faults dev.old p) (C.faults dev.new p) }
@@ -275,7 +277,7 @@ impl<C: Checkpoint + Drop> World<C> {
     ///
     /// The stores may hold anything. They are read under the decided number that the first one holds, and beside the acts that the
     /// earlier part reported; where both suit each other, the run goes on as one whose power failed there. A process that is stopped,
-    /// a device that fails and a store that holds no checkpoint are named first; then acts that are no run are told; then the first
+    /// a device that fails, a decided number that is not steady and a store that holds no checkpoint are named first; then acts that are no run are told; then the first
     /// process whose store does not suit them. From then on no store is touched, so each stands for what it stood for. Memory may be
     /// wanting before any store is read and after all were.
     pub fn reopen(
@@ -300,18 +302,19 @@ impl<C: Checkpoint + Drop> World<C> {
         ensures unstopped { IfOk result (λ w. w.stopped ≡ None) }
         ensures reopened { IfOk result (λ w. (x : IsReadBeside C.Checkpoint (system (map seen_image setup.images.items) (lists_of setup.inputs.items) setup.protocol) setup.images.items earlier.now.acts.now dev.old dev.new)
             × AreSuited (system (map seen_image setup.images.items) (lists_of setup.inputs.items) setup.protocol) x.given x.decided x.stored
-            × (is_causal setup.protocol ≡ false → (is_joint setup.protocol ≡ true → IsFirstSteady C.Checkpoint setup.images.items dev.old) → (lines : List Visibles) → length lines ≡ earlier.now.lines
+            × (is_causal setup.protocol ≡ false → (lines : List Visibles) → length lines ≡ earlier.now.lines
             → IsWorld C.Checkpoint (system (map seen_image setup.images.items) (lists_of setup.inputs.items) setup.protocol)
             (resumed_core x.given lines (saves_in (system (map seen_image setup.images.items) (lists_of setup.inputs.items) setup.protocol) x.stored)) (stage_of w.stores.items dev.new w.processes))) }
         ensures unsuited { (p : ℕ) → IsErrOf result (faults.Unsuited p)
             → (x : IsReadBeside C.Checkpoint (system (map seen_image setup.images.items) (lists_of setup.inputs.items) setup.protocol) setup.images.items earlier.now.acts.now dev.old dev.new)
             × IsFirstUnsuited (system (map seen_image setup.images.items) (lists_of setup.inputs.items) setup.protocol) x.given x.decided x.stored p }
+        ensures unsteady { IsErrOf result faults.Unsteady → C.told dev.new 0 → ¬ IsFirstSteady C.Checkpoint setup.images.items dev.old }
         ensures illegal { IsErrOf result faults.Illegal → run (system (map seen_image setup.images.items) (lists_of setup.inputs.items) setup.protocol).guests earlier.now.acts.now ≡ None }
         ensures refused { (p : ℕ) (fault : StoreFaults) → IsErrOf result (faults.Refused p fault) → (d : ℕ) × Refuses C.Checkpoint setup.images.items d dev.new p fault }
-        ensures refused_under { IsFirstSteady C.Checkpoint setup.images.items dev.old → (d : ℕ) → HasNumber C.Checkpoint setup.images.items dev.new d
+        ensures refused_under { (d : ℕ) → HasNumber C.Checkpoint setup.images.items dev.new d
             → (p : ℕ) (fault : StoreFaults) → IsErrOf result (faults.Refused p fault) → Refuses C.Checkpoint setup.images.items d dev.new p fault }
         ensures handles { (IsErrOf result faults.Memory → ⊥) → (p : ℕ) → HasHandle C.Checkpoint setup.images.items p }
-        ensures stood { IsFirstSteady C.Checkpoint setup.images.items dev.old → (d : ℕ) → HasNumber C.Checkpoint setup.images.items dev.new d
+        ensures stood { (d : ℕ) → HasNumber C.Checkpoint setup.images.items dev.new d
             → HasNumber C.Checkpoint setup.images.items dev.old d × Stood C.Checkpoint setup.images.items d dev.old dev.new }
         ensures stopped { (p : ℕ) → IsErrOf result (faults.Stopped p) → (p < length setup.images.items) × Rose (C.stops dev.old p) (C.stops dev.new p) }
         ensures failed { (p : ℕ) → IsErrOf result (faults.Failed p) → (p < length setup.images.items) × Rose (C.faults dev.old p) (C.faults dev.new p) }

@@ -136,7 +136,8 @@ fn one(rig: &mut Rig, alloc: Global, verb: &str, args: &[u64]) -> Result<u64, Fa
         "prepare" => rig.prepare(alloc, a),
         "decide" => rig.decide(a),
         "finish" => rig.finish(),
-        "decided" => Ok(u64::from(rig.decided()?)),
+        "decided" => Ok(u64::from(rig.decided()?.number)),
+        "steady" => Ok(u64::from(rig.decided()?.is_steady)),
         "fall" => Ok(fall(rig)),
         _ => other(rig, alloc, verb, args),
     }

@@ -157,6 +157,16 @@ low whole-2 ( 3 9 ) lines-3-1 ( 3 10 )|decided|10|1
 low whole-2 ( 3 9 ) lines-3-1 ( 3 4 )|decided|9|1
 low whole-2 ( 3 9 ) high whole-3 ( 3 5 )|decided|9|1
 low whole-2 ( 3 5 ) high whole-3 ( 3 9 )|decided|9|1
+# the decided number is steady, which is told by 1, where it stands among what counts under it, in the half that is then read
+|steady|1|1
+low whole-2 ( 3 9 )|steady|1|1
+low whole-2 ( 3 5 ) high whole-3 ( 3 9 )|steady|1|1
+low whole-2 ( 3 9 ) high whole-3 ( 3 5 )|steady|0|1
+low whole-2 ( 3 9 ) high whole-3|steady|0|1
+low whole-2 ( 3 9 ) high whole-2|steady|0|1
+low whole-2 ( 3 9 ) high ( 7 )|steady|1|1
+low whole-2 ( 3 9 ) high prepared-10|steady|1|1
+low whole-2 ( 3 9 ) high prepared-3|steady|0|1
 # behind a record that is wrong no decision is read
 low whole-2 ( 7 ) ( 3 9 )|decided|0|1
 low ( 7 ) ( 3 9 )|decided|0|1

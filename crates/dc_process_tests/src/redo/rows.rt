@@ -46,7 +46,7 @@ fn answers_by(rig: &mut Rig, alloc: Global, told: &str, row: &str) -> Result<(),
     let _before = rig.call(alloc, "calls", &[])?;
     is_answer(rig, alloc, call, want, row)?;
     is_answer(rig, alloc, "calls", calls, row)?;
-    if rig.ready || call == "decided" {
+    if rig.ready || call == "decided" || call == "steady" {
         return Ok(());
     }
     is_answer(rig, alloc, "changed", "0", row)

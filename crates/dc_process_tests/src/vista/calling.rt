@@ -195,7 +195,7 @@ fn one(rig: &mut Rig, alloc: Global, verb: &str, args: &[u64]) -> Result<u64, Fa
         "prepare" => rig.prepare(alloc, a),
         "decide" => rig.decide(a),
         "finish" => rig.finish(),
-        "decided" => Ok(u64::from(rig.decided()?)),
+        "decided" => Ok(u64::from(rig.decided()?.number)),
         "fall" => Ok(fall(rig)),
         _ => other(rig, alloc, verb, args),
     }

@@ -6,7 +6,7 @@ use super::calling;
 use super::inputs::{memory, saved, text};
 use super::texts::code;
 use super::trial::Trial;
-use dc_checkpoint::Checkpoint;
+use dc_checkpoint::{Checkpoint, Decided};
 use dc_kernel::{LogRecord, Reply, Saved};
 use dc_media::MakeFault;
 use dc_memmedia::{ListedCall, MemKeeps};
@@ -218,8 +218,8 @@ impl Rig {
         }
     }
 
-    /// The decided number.
-    pub fn decided(&mut self) -> Result<u32, Fail>
+    /// What the store says of decisions.
+    pub fn decided(&mut self) -> Result<Decided, Fail>
         requires { ⟦<Rig as Trial>⟧.fits self.old }
         ensures { ⟦<Rig as Trial>⟧.fits self.new }
     {
@@ -227,7 +227,7 @@ impl Rig {
             return Err(Fail::new("another process"));
         }
         match self.store.decided(&mut self.dev) {
-            Ok(d) => Ok(d),
+            Ok(decided) => Ok(decided),
             Err(_fault) => {
                 self.ready = false;
                 self.prepared = false;

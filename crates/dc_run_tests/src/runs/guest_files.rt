@@ -1,8 +1,9 @@
 //! The guests of a case.
 
-use crate::runs::devices::called_aside;
+use crate::runs::is_done;
 use dc_cases::{coded, hi, holds, says, text, value, words, zeros};
 use dc_memmedia::{MemLibrary, MemSink};
+use dc_trial::called_aside;
 use std::alloc::Global;
 use std::test::Fail;
 
@@ -32,8 +33,8 @@ fn assembled(alloc: Global, case: &str, source: String) -> Result<Vec<u8>, Fail>
     library.add(String::from_str(alloc, "source")?, source.into_bytes())?;
     let mut out = MemSink::new(alloc, 100_000, Vec::new(alloc))?;
     let words = words(alloc, "dc asm source")?;
-    let outcome = called_aside(alloc, &words, &mut library, &mut out)?;
-    holds(outcome.status() == 0, case, "assembled")?;
+    let came = called_aside(alloc, &words, &mut library, &mut out)?;
+    holds(is_done(came), case, "assembled")?;
     Ok(out.bytes().to_vec(alloc)?)
 }
 

@@ -1,10 +1,11 @@
 //! Runs in parts: each case is halted at an entry, resumed up to a later halt, and resumed to its end, over the same disks. The lines of
 //! all parts together and the last report pass the check, and the run ends as it does without a halt, since enough turns are left.
 
-use crate::runs::devices::{Devices, called, called_aside};
 use crate::runs::files::files;
+use crate::runs::is_done;
 use dc_cases::{holds, numbers, plan, schedule, value, words};
 use dc_memmedia::{MemLibrary, MemSink};
+use dc_trial::{Devices, called, called_aside};
 use std::alloc::Global;
 use std::test::Fail;
 
@@ -78,11 +79,11 @@ fn part(
     let words = words(alloc, &command)?;
     let mut out = MemSink::new(alloc, 100_000, Vec::new(alloc))?;
     let mut report = MemSink::new(alloc, 100_000, Vec::new(alloc))?;
-    let outcome = called(alloc, &words, &mut parts.library, on, &mut out, &mut report);
+    let came = called(alloc, &words, &mut parts.library, on, &mut out, &mut report)?;
     written.lines.extend_from_slice(out.bytes())?;
     written.left = parts.add(alloc, report.bytes().to_vec(alloc)?)?;
     passes(alloc, case, parts, written, &plan)?;
-    Ok(outcome.status())
+    Ok(came.status)
 }
 
 /// What was written so far passes the check by this plan.
@@ -98,8 +99,8 @@ fn passes(
     let command = format!(in alloc; "dc check {plan} {left} {lines}")?;
     let words = words(alloc, &command)?;
     let mut out = MemSink::new(alloc, 100, Vec::new(alloc))?;
-    let outcome = called_aside(alloc, &words, &mut parts.library, &mut out)?;
-    holds(outcome.status() == 0, case, "the parts pass the check")
+    let came = called_aside(alloc, &words, &mut parts.library, &mut out)?;
+    holds(is_done(came), case, "the parts pass the check")
 }
 
 /// The run of a case that is halted at two entries, of which the second is not the lesser: the status that it ends with.

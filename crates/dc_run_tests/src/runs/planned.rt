@@ -1,10 +1,10 @@
 //! The stops of a case: planned ones, and calls that the device itself refuses.
 
-use crate::runs::devices::calls_of;
 use crate::runs::files::{files, journal, source};
 use dc_cases::{as_u32, as_u64, as_usize, front, plan, schedule, value, words};
 use dc_media::{DeviceFault, Tear};
 use dc_memmedia::{ListedCall, MemLibrary};
+use dc_trial::calls_of;
 use std::alloc::{AllocError, Global};
 use std::test::Fail;
 

@@ -3,11 +3,10 @@
 //! A case may say the words of the second call; a text of the report and what stands in its place, and so of the plan; the schedule's lines; that there
 //! are no disks. Of what comes of it: the status and the line on standard error, the output, and the report behind its first line.
 
-use crate::runs::devices::{Devices, called};
 use crate::runs::files::files;
 use dc_cases::{holds, is_read, number, says, text, value, words};
 use dc_memmedia::{MemLibrary, MemSink};
-use dc_run::conclude;
+use dc_trial::{Devices, called};
 use std::alloc::Global;
 use std::test::Fail;
 
@@ -41,8 +40,8 @@ fn halted(alloc: Global, on: &mut Devices) -> Result<String, Fail> {
     let mut out = MemSink::new(alloc, 1000, Vec::new(alloc))?;
     let mut report = MemSink::new(alloc, 1000, Vec::new(alloc))?;
     let words = words(alloc, "dc run plan")?;
-    let outcome = called(alloc, &words, &mut library, on, &mut out, &mut report);
-    holds(outcome.status() == 15, "any", "it is halted")?;
+    let came = called(alloc, &words, &mut library, on, &mut out, &mut report)?;
+    holds(came.status == 15, "any", "it is halted")?;
     Ok(String::from_utf8(report.bytes().to_vec(alloc)?)?)
 }
 
@@ -67,12 +66,10 @@ fn resumed(
 ) -> Result<(), Fail> {
     let mut out = MemSink::new(alloc, 1000, Vec::new(alloc))?;
     let mut report = MemSink::new(alloc, 1000, Vec::new(alloc))?;
-    let mut error = MemSink::new(alloc, 300, Vec::new(alloc))?;
     let words = words(alloc, value(case, "words", "dc resume plan left"))?;
-    let outcome = called(alloc, &words, library, on, &mut out, &mut report);
-    let status = conclude(alloc, &words, &outcome, &mut error);
-    is_status(case, status)?;
-    is_text(alloc, case, "said", "", error.bytes())?;
+    let came = called(alloc, &words, library, on, &mut out, &mut report)?;
+    is_status(case, came.status)?;
+    is_text(alloc, case, "said", "", came.said.bytes())?;
     is_text(alloc, case, "out", "", out.bytes())?;
     is_text(alloc, case, "report", "dc-report 1\n", report.bytes())
 }

@@ -17,7 +17,6 @@ use Rattle.dc_elf.specs.Loaded.{seen_image}
 use Rattle.dc_guest.specs.Guest.{guests_of}
 use Rattle.dc_model.specs.declared.visible.Visible.{Visible}
 use Rattle.dc_processes.specs.Stages.{IsTold}
-use Rattle.dc_protocols.specs.Rules.{is_joint}
 use Rattle.dc_recovery.specs.Core.{Core}
 use Rattle.dc_recovery.specs.Recoveries.{resumed_core}
 use Rattle.dc_reread.specs.Faults.{recovery_in}
@@ -25,7 +24,7 @@ use Rattle.dc_reread.specs.declared.faults.RereadFault.{RereadFault}
 use Rattle.dc_reread.specs.declared.faults.RereadFault.TheVariants as fault
 use Rattle.dc_resume.specs.Suited.{saves_in}
 use Rattle.dc_world.specs.Ended.{HaveEnded}
-use Rattle.dc_world.specs.Reopened.{IsFirstSteady, IsReadBeside}
+use Rattle.dc_world.specs.Reopened.{IsReadBeside}
 use Rattle.dc_world.specs.Worlds.{stage_in}
 use Rattle.dc_course.proofs.continuing.go_on.Goals.{in-Ok, in-Err}
 use Rattle.dc_course.proofs.continuing.go_on.Given.{Over}
@@ -41,7 +40,10 @@ pub returns-in_err-world-clause-failed : goal.returns-in_err-world-clause-failed
 returns-in_err-world-clause-failed g c p e = c.in_err-world.ensures.failed p (search rules)
 
 pub returns-in_err-world-clause-refused_under : goal.returns-in_err-world-clause-refused_under
-returns-in_err-world-clause-refused_under g c first d has p fault e = c.in_err-world.ensures.refused_under first d has p fault (search rules)
+returns-in_err-world-clause-refused_under g c d has p fault e = c.in_err-world.ensures.refused_under d has p fault (search rules)
+
+pub returns-in_err-world-clause-unsteady : goal.returns-in_err-world-clause-unsteady
+returns-in_err-world-clause-unsteady g c e = c.in_err-world.ensures.unsteady (search rules)
 
 pub returns-in_err-world-clause-handles : goal.returns-in_err-world-clause-handles
 returns-in_err-world-clause-handles g c enough = on_err c.from_residual-in_err-world.result (c.in_err-world.ensures.handles (λ e. enough (search rules)))
@@ -103,10 +105,9 @@ told_ended : (g : Over) (c : goal.After-course g) → TellsThroughout g.C.Checkp
 told_ended g c tells = told_at g.C.Checkpoint (length c.args.setup.images.items) c.args.dev.now c.run.new.dev (stage_in c.run.new.self.world c.run.new.dev) (c.run.ensures.long ∙ c.in_ok-world.ensures.begins.slots_long) tells
     (λ p. tells_on g.C.Checkpoint c.args.dev.now c.reopen.new.dev c.run.new.dev p (c.reopen.ensures.tells p) c.run.ensures.later (c.run.ensures.tells p)) (λ p. (omega arith, omega arith))
 
--- what the promise asks for: the devices tell, the first store's decided number was steady where it matters, and the lines are those of the earlier part
+-- what the promise asks for: the devices tell, and the lines are those of the earlier part
 record Asked (g : Over) (c : goal.After-course g) (lines : List Visible) : Type 0 where
   tells : TellsThroughout g.C.Checkpoint (length c.args.setup.images.items) c.args.dev.now c.run.new.dev
-  steady : is_joint c.args.setup.protocol ≡ true → IsFirstSteady g.C.Checkpoint c.args.setup.images.items c.args.dev.now
   earlier : IsEarlier (given g c) c.args.earlier.now lines
 
 module _ (g : Over) (c : goal.After-course g) (lines : List Visible) (asked : Asked g c lines) where
@@ -117,7 +118,7 @@ module _ (g : Over) (c : goal.After-course g) (lines : List Visible) (asked : As
   begun = begun_running g.C.Checkpoint (given g c) (start g c lines) (stage_in c.in_ok-world.world c.reopen.new.dev) c.in_ok-marks.marks.items (g.O.Sink.held c.args.out.now)
       c.in_ok-world.ensures.begins.protocol_is c.in_ok-world.ensures.begins.inputs_are c.in_ok-world.ensures.begins.entries_are c.in_ok-marks.ensures.items
       (over_in g.C.Checkpoint (given g c) c.args.setup.images.items c.in_ok-world.world.stores.items refl c.in_ok-world.ensures.over)
-      (c.in_ok-world.ensures.reopened.2 c.requires.seven asked.steady (reverse lines) (length-reverse lines ∙ asked.earlier.count))
+      (c.in_ok-world.ensures.reopened.2 c.requires.seven (reverse lines) (length-reverse lines ∙ asked.earlier.count))
 
   -- the first moment is behind the opening
   first_moment : Moments (given g c) (start_at (given g c) (start g c lines)) (λ core d. StoresLeft g.C.Checkpoint (given g c) core d) g.C.Planned.calls c.args.dev.now (reverse c.in_ok-marks.marks.items) c.reopen.new.dev
@@ -167,8 +168,8 @@ course g c lines asked ending same last ended is come =
     (c.run.ensures.long ∙ c.in_ok-world.ensures.begins.slots_long ∙ sym (length-map c.args.setup.images.items seen_image)) refl is (stops_told g c asked.tells) come))
 
 pub returns-clause-headline : goal.returns-clause-headline
-returns-clause-headline g c = λ tells steady lines earlier.
-    let asked : Asked g c lines = record { tells = tells; steady = steady; earlier = earlier } in
+returns-clause-headline g c = λ tells lines earlier.
+    let asked : Asked g c lines = record { tells = tells; earlier = earlier } in
     let setting = given g c in
     let begun_at = start g c lines in
     let held = g.O.Sink.held c.args.out.now in

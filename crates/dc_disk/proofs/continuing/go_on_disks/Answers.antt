@@ -11,7 +11,6 @@ use Rattle.dc_disk.specs.Logs.{AreLogsRead, FirstLogHas, IsFirstLogSteady, LogRe
 use Rattle.dc_media.specs.Causes.{Rose}
 use Rattle.dc_media.specs.Devices.{of_disks}
 use Rattle.dc_model.specs.declared.visible.Visible.{Visible}
-use Rattle.dc_protocols.specs.Rules.{is_joint}
 use Rattle.dc_recovery.specs.Recoveries.{resumed_core}
 use Rattle.dc_redo.specs.Handles.{shape_of}
 use Rattle.dc_reread.specs.declared.faults.RereadFault.{RereadFault}
@@ -109,10 +108,10 @@ returns-clause-headline g c =
     let images = c.args.setup.images.items in
     let acts = c.args.earlier.now.acts.now in
     let disk = g.D.Disks in
-    subst (λ k. IfOk c.go_on-course.result (λ course. TellsStores (of_disks disk) (length images) c.args.disks.now k → (is_joint c.args.setup.protocol ≡ true → IsFirstLogSteady disk images c.args.disks.now)
+    subst (λ k. IfOk c.go_on-course.result (λ course. TellsStores (of_disks disk) (length images) c.args.disks.now k
     → (lines : List Visible) → IsEarlier setting c.args.earlier.now lines → (read : _) × ((p : ℕ) → p < length images → IsSome (disk.told read p)) × (x : AreLogsRead disk (system_in setting) images acts c.args.disks.now read)
     × IsCourseOn setting lines (resumed_core x.given (reverse lines) (saves_in (system_in setting) x.stored)) (account_of course) course.ending out (counts_of disk.stops (capped_by disk.calls) c.args.disks.now k) (λ core x. LogsLeft disk setting core x))) {x = c.go_on-course.new.dev.device.now} (search rules)
-    (IfOk-weaker c.go_on-course.result _ _ (λ course says tells steady lines earlier.
+    (IfOk-weaker c.go_on-course.result _ _ (λ course says tells lines earlier.
     let armed = c.new-armed.result in
     let dev = c.go_on-course.new.dev in
     let lent : armed.device.now ≡ c.args.disks.now = ap (λ b. b.now) c.new-armed.ensures.device in
@@ -120,19 +119,25 @@ returns-clause-headline g c =
       told = λ p less. subst (λ x. IsSome (disk.told x p)) (sym lent) (tells.told p less);
       stops = λ p less. let all = c.go_on-course.ensures.planned p in let none = c.new-armed.ensures.came p in let few = tells.stops p less in let long = c.requires.entries in omega (arith, all, none, few, long);
       faults = tells.faults;
-    }) (λ joint. first_steady disk (λ d. d.device.now) (λ s. shape_of s.store.frame) (record { sizes = λ s. refl; forms = λ s. refl; kernels = λ s. s.store.frame.layout; events = λ s. s.store.frame.events; firsts = λ s. refl; leaves_to = λ s x d r l. l; leaves_from = λ s x d r l. l; numbers_to = λ s x d l. l; numbers_from = λ s x d l. l; steady_to = λ s x kept none. record { kept = kept; high = λ e held. inr (omega (arith, none)) } }) images armed (subst (IsFirstLogSteady disk images) (sym lent) (steady joint))) lines
+    }) lines
     (subst (λ ss. IsEarlier (setting_from c.args.setup c.args.schedule.now ss c.args.earlier.now.entries) c.args.earlier.now lines) (sym c.new-armed.ensures.stops) earlier) in
     disk_part disk c.args.setup c.args.earlier.now c.args.schedule.now armed.plan.stops c.args.stops.items lines (account_of course) course.ending out (λ d. d.device.now) armed dev part.0 c.args.disks.now part.3 part.4
     c.new-armed.ensures.stops lent c.requires.some part.2 (λ s. shape_of s.store.frame) (record { sizes = λ s. refl; forms = λ s. refl; kernels = λ s. s.store.frame.layout; events = λ s. s.store.frame.events; firsts = λ s. refl; leaves_to = λ s x d r l. l; leaves_from = λ s x d r l. l; numbers_to = λ s x d l. l; numbers_from = λ s x d l. l; steady_to = λ s x kept none. record { kept = kept; high = λ e held. inr (omega (arith, none)) } })) c.go_on-course.ensures.headline)
 
-pub returns-clause-refused_under : goal.returns-clause-refused_under
-returns-clause-refused_under g c first d = subst (λ k. FirstLogHas g.D.Disks c.args.setup.images.items k d → (p : ℕ) (why : StoreFault) → IsErrOf c.go_on-course.result (fault.Refused p why) → LogRefuses g.D.Disks c.args.setup.images.items d k p why) {x = c.go_on-course.new.dev.device.now} (search rules)
-    (λ held p why e.
+pub returns-clause-unsteady : goal.returns-clause-unsteady
+returns-clause-unsteady g c e =
+    let images = c.args.setup.images.items in
     let lent : c.new-armed.result.device.now ≡ c.args.disks.now = ap (λ b. b.now) c.new-armed.ensures.device in
+    subst (λ k. IsSome (g.D.Disks.told k 0) → IsFirstLogSteady g.D.Disks images c.args.disks.now → ⊥) {x = c.go_on-course.new.dev.device.now} (search rules)
+    (λ told first. c.go_on-course.ensures.unsteady e told (first_steady g.D.Disks (λ d. d.device.now) (λ s. shape_of s.store.frame) (record { sizes = λ s. refl; forms = λ s. refl; kernels = λ s. s.store.frame.layout; events = λ s. s.store.frame.events; firsts = λ s. refl; leaves_to = λ s x d r l. l; leaves_from = λ s x d r l. l; numbers_to = λ s x d l. l; numbers_from = λ s x d l. l; steady_to = λ s x kept none. record { kept = kept; high = λ e held. inr (omega (arith, none)) } }) images c.new-armed.result (subst (IsFirstLogSteady g.D.Disks images) (sym lent) first)))
+
+pub returns-clause-refused_under : goal.returns-clause-refused_under
+returns-clause-refused_under g c d = subst (λ k. FirstLogHas g.D.Disks c.args.setup.images.items k d → (p : ℕ) (why : StoreFault) → IsErrOf c.go_on-course.result (fault.Refused p why) → LogRefuses g.D.Disks c.args.setup.images.items d k p why) {x = c.go_on-course.new.dev.device.now} (search rules)
+    (λ held p why e.
     let images = c.args.setup.images.items in
     let handles = said_err c.go_on-course.result (fault.Refused p why) e (c.go_on-course.ensures.handles (λ wanting. not_wanting p why c.go_on-course.result e wanting)) in
     log_refuses g.D.Disks (λ d. d.device.now) (λ s. shape_of s.store.frame) (record { sizes = λ s. refl; forms = λ s. refl; kernels = λ s. s.store.frame.layout; events = λ s. s.store.frame.events; firsts = λ s. refl; leaves_to = λ s x d r l. l; leaves_from = λ s x d r l. l; numbers_to = λ s x d l. l; numbers_from = λ s x d l. l; steady_to = λ s x kept none. record { kept = kept; high = λ e held. inr (omega (arith, none)) } }) images c.new-armed.result c.go_on-course.new.dev d p why
-    (c.go_on-course.ensures.refused_under (first_steady g.D.Disks (λ d. d.device.now) (λ s. shape_of s.store.frame) (record { sizes = λ s. refl; forms = λ s. refl; kernels = λ s. s.store.frame.layout; events = λ s. s.store.frame.events; firsts = λ s. refl; leaves_to = λ s x d r l. l; leaves_from = λ s x d r l. l; numbers_to = λ s x d l. l; numbers_from = λ s x d l. l; steady_to = λ s x kept none. record { kept = kept; high = λ e held. inr (omega (arith, none)) } }) images c.new-armed.result (subst (IsFirstLogSteady g.D.Disks images) (sym lent) first)) d
+    (c.go_on-course.ensures.refused_under d
     (has_number g.D.Disks (λ d. d.device.now) (λ s. shape_of s.store.frame) (record { sizes = λ s. refl; forms = λ s. refl; kernels = λ s. s.store.frame.layout; events = λ s. s.store.frame.events; firsts = λ s. refl; leaves_to = λ s x d r l. l; leaves_from = λ s x d r l. l; numbers_to = λ s x d l. l; numbers_from = λ s x d l. l; steady_to = λ s x kept none. record { kept = kept; high = λ e held. inr (omega (arith, none)) } }) images c.go_on-course.new.dev d handles held) p why e))
 
 pub returns-clause-stood : goal.returns-clause-stood
@@ -141,9 +146,9 @@ returns-clause-stood g c enough =
     let images = c.args.setup.images.items in
     let armed = c.new-armed.result in
     let dev = c.go_on-course.new.dev in
-    subst (λ k. OnErr c.go_on-course.result (IsFirstLogSteady g.D.Disks images c.args.disks.now → (d : ℕ) → FirstLogHas g.D.Disks images k d → FirstLogHas g.D.Disks images c.args.disks.now d × LogsStood g.D.Disks images d c.args.disks.now k)) {x = c.go_on-course.new.dev.device.now} (search rules)
-    (on_errs c.go_on-course.result (c.go_on-course.ensures.handles enough) c.go_on-course.ensures.stood (λ handles stood first d held.
-    let was = stood (first_steady g.D.Disks (λ d. d.device.now) (λ s. shape_of s.store.frame) (record { sizes = λ s. refl; forms = λ s. refl; kernels = λ s. s.store.frame.layout; events = λ s. s.store.frame.events; firsts = λ s. refl; leaves_to = λ s x d r l. l; leaves_from = λ s x d r l. l; numbers_to = λ s x d l. l; numbers_from = λ s x d l. l; steady_to = λ s x kept none. record { kept = kept; high = λ e held. inr (omega (arith, none)) } }) images armed (subst (IsFirstLogSteady g.D.Disks images) (sym lent) first)) d
+    subst (λ k. OnErr c.go_on-course.result ((d : ℕ) → FirstLogHas g.D.Disks images k d → FirstLogHas g.D.Disks images c.args.disks.now d × LogsStood g.D.Disks images d c.args.disks.now k)) {x = c.go_on-course.new.dev.device.now} (search rules)
+    (on_errs c.go_on-course.result (c.go_on-course.ensures.handles enough) c.go_on-course.ensures.stood (λ handles stood d held.
+    let was = stood d
     (has_number g.D.Disks (λ d. d.device.now) (λ s. shape_of s.store.frame) (record { sizes = λ s. refl; forms = λ s. refl; kernels = λ s. s.store.frame.layout; events = λ s. s.store.frame.events; firsts = λ s. refl; leaves_to = λ s x d r l. l; leaves_from = λ s x d r l. l; numbers_to = λ s x d l. l; numbers_from = λ s x d l. l; steady_to = λ s x kept none. record { kept = kept; high = λ e held. inr (omega (arith, none)) } }) images dev d handles held) in (
       subst (λ z. FirstLogHas g.D.Disks images z d) lent (number_logged g.D.Disks (λ d. d.device.now) (λ s. shape_of s.store.frame) (record { sizes = λ s. refl; forms = λ s. refl; kernels = λ s. s.store.frame.layout; events = λ s. s.store.frame.events; firsts = λ s. refl; leaves_to = λ s x d r l. l; leaves_from = λ s x d r l. l; numbers_to = λ s x d l. l; numbers_from = λ s x d l. l; steady_to = λ s x kept none. record { kept = kept; high = λ e held. inr (omega (arith, none)) } }) images armed d was.0),
       subst (λ z. LogsStood g.D.Disks images d z dev.device.now) lent (logs_stood g.D.Disks (λ d. d.device.now) (λ s. shape_of s.store.frame) (record { sizes = λ s. refl; forms = λ s. refl; kernels = λ s. s.store.frame.layout; events = λ s. s.store.frame.events; firsts = λ s. refl; leaves_to = λ s x d r l. l; leaves_from = λ s x d r l. l; numbers_to = λ s x d l. l; numbers_from = λ s x d l. l; steady_to = λ s x kept none. record { kept = kept; high = λ e held. inr (omega (arith, none)) } }) images armed dev d handles was.1),

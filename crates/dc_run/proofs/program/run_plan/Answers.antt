@@ -117,7 +117,7 @@ returns-in-Ok-run_setting-clause-passes g c ran =
     let after = lent c.run_setting.new.keeps c.run_setting.new.disks in
     let on = devices_of g.K.Keeps g.D.Disks c.in-Ok.setting.medium in
     let reports = run_ledger (is_halted (task_of c.in-Ok.setting)) c.in-Ok-run_setting.course c.outcome_of-outcome.result.0 c.reported.result.verdict _ report (outcome_is g c) c.reported.ensures.reports in
-    opened_so (g.L.Library.files c.args.lib.now) (order_view c.args.order.now) setting c.in-Ok.setting.halt c.in-Ok.setting.medium (λ m t. t.ledger ≡ ledger.Report → (devices_of g.K.Keeps g.D.Disks m).tell (length t.setting.images) before after → WritesPassing t.setting out report c.reported.result.acts.items) (opened_is g c)
+    opened_so (g.L.Library.files c.args.lib.now) (order_view c.args.order.now) setting c.in-Ok.setting.halt c.in-Ok.setting.medium (λ m t. t.ledger ≡ ledger.Report → (devices_of g.K.Keeps g.D.Disks m).tell (length t.setting.images) before after → WritesPassing t.setting out report c.reported.result.verdict c.reported.result.acts.items) (opened_is g c)
     (λ report_it tells calm calm' empty empty' shown listed at at'. run_passes on (task_for ledger.Report c.in-Ok.setting) refl c.reported.result (loan before after) out report c.in-Ok.ensures.given
     (subst (λ l. IsReported (task_for l c.in-Ok.setting) on c.reported.result (loan before after) out report) report_it (written g c))
     tells calm calm' (λ e. c.in-Ok-run_setting.ensures.sink (sink_ending (is_halted (task_of c.in-Ok.setting)) c.in-Ok-run_setting.course.ending c.reported.result.verdict _ report reports e))

@@ -45,10 +45,10 @@ returns-clause-kept g c =
     let acts_is = c.as_slice.ensures in
     IfOk-weaker c.go_on_disks.result _ _ (λ run says. (
       record { images = s.images.items; seen = refl },
-      λ tells steady lines world runs count thinned.
+      λ tells lines world runs count thinned.
           subst (λ (es : List Entry). GoesOnFrom disk (record (onward_of going) { schedule = es }) s.images.items acts lines (account_of run) run.ending out lent) run_is
           (subst (λ (xs : List Taken). GoesOnFrom disk (record (onward_of going) { schedule = c.entries_run-entries.result.now }) s.images.items xs lines (account_of run) run.ending out lent) acts_is
-          (says (subst (λ n. TellsStores (of_disks disk) n lent.before lent.after) (length-map s.images.items seen_image) tells) steady lines (record {
+          (says (subst (λ n. TellsStores (of_disks disk) n lent.before lent.after) (length-map s.images.items seen_image) tells) lines (record {
             world = world;
             acts_run = ap (run_of (system_in going.setting).guests) acts_is ∙ runs;
             acts_drawn = subst (λ (es : List Entry). Drawn (length going.setting.images) es c.as_slice.result.now) (sym run_is)
@@ -67,11 +67,14 @@ returns-clause-unsuited g c p e =
     let found = subst (λ (xs : List Taken). (x : AreLogsRead g.D.Disks of s.images.items xs c.args.disks.now c.go_on_disks.new.disks) × IsFirstUnsuited of x.given x.decided x.stored p) c.as_slice.ensures (c.go_on_disks.ensures.unsuited p e) in
     (record { images = s.images.items; seen = refl }, found.0, found.1)
 
+pub returns-clause-unsteady : goal.returns-clause-unsteady
+returns-clause-unsteady g c e = (record { images = c.args.going.setting.images.items; seen = refl }, c.go_on_disks.ensures.unsteady e)
+
 pub returns-clause-refused : goal.returns-clause-refused
 returns-clause-refused g c p fault e = record {
   images = record { images = c.args.going.setting.images.items; seen = refl };
   some = c.go_on_disks.ensures.refused p fault e;
-  under = λ first d has. c.go_on_disks.ensures.refused_under first d has p fault e;
+  under = λ d has. c.go_on_disks.ensures.refused_under d has p fault e;
 }
 
 pub returns-clause-stood : goal.returns-clause-stood

@@ -1,4 +1,4 @@
-use Rattle.std.proofs.Common.{◌≡◌, ◌∙◌, Err, true, ap, inl, inr, refl, rules, subst, sym}
+use Rattle.std.proofs.Common.{◌≡◌, ◌∙◌, ⊎_elim, Err, true, ap, inl, inr, refl, rules, subst, sym}
 use Rattle.std.proofs.lemmas.Bool.{true≢false}
 use Rattle.dc_command.specs.Command.{halted_view}
 use Rattle.dc_run.specs.Again.{going_of}
@@ -78,6 +78,7 @@ returns-in-Ok-go_on_with-clause-went g c on =
     let out = course (g.O.Sink.held c.args.out.now) (g.O.Sink.held c.go_on_with.new.out) (g.O.Sink.faults c.args.out.now) (g.O.Sink.faults c.go_on_with.new.out) in
     let again : c.leaves_over-halted.result ≡ is_halted_again (going_of c.in-Ok.going) = search rules in (
       going_of c.in-Ok.going,
+      c.in-Ok.ensures.ran,
       is_resumed (going_of c.in-Ok.going) g.D.Disks c.in-Ok-go_on_with.course c.reported.result _ out report c.leaves_over-halted.result again
           (c.reported.ensures.acts ∙ ap (λ o. o.acts) c.outcome_of.ensures) (c.reported.ensures.marks ∙ ap (λ o. o.marks) c.outcome_of.ensures) (c.reported.ensures.lines ∙ ap (λ o. o.lines) c.outcome_of.ensures)
           c.in-Ok-go_on_with.ensures.unkept c.in-Ok-go_on_with.ensures.kept reports,
@@ -89,4 +90,5 @@ returns-in-Err-go_on_with-clause-refused g c refusal is = for_known _ (λ files 
 
 pub returns-in-Err-go_on_with-clause-unsuited : goal.returns-in-Err-go_on_with-clause-unsuited
 returns-in-Err-go_on_with-clause-unsuited g c p e = going_so _ (halted_view c.args.names.now) (going_of c.in-Ok.going) (λ going. IsUnsuited g.D.Disks going (loan c.args.disks.now c.go_on_with.new.disks) p) c.in-Ok.ensures.told
-    (c.in-Err-go_on_with.ensures.unsuited p (ap Err (unsuited_by c.in-Err-go_on_with.fault c.idle-in-Err-go_on_with.result.verdict p (c.idle-in-Err-go_on_with.ensures.verdict ∙ c.unresumed.ensures) e)))
+    (⊎_elim (λ found. inl (c.in-Err-go_on_with.ensures.unsuited p (ap Err found))) (λ first. inr (first.0, c.in-Err-go_on_with.ensures.unsteady (ap Err first.1)))
+    (unsuited_by c.in-Err-go_on_with.fault c.idle-in-Err-go_on_with.result.verdict p (c.idle-in-Err-go_on_with.ensures.verdict ∙ c.unresumed.ensures) e))

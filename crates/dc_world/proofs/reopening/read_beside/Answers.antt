@@ -2,8 +2,7 @@ use Rattle.std.proofs.Common.{◌∙◌, length, ap, refl}
 use Rattle.dc_reread.specs.Faults.{recovery_in}
 use Rattle.dc_reread.specs.Pasts.{system_in}
 use Rattle.dc_retrace.specs.Read.{stored_in}
-use Rattle.dc_twophase.proofs.Pairs.{before_it}
-use Rattle.dc_world.proofs.Attached.{all_refuse, all_stood, is_beside, number_read, stores_of, where_steady}
+use Rattle.dc_world.proofs.Attached.{all_refuse, all_stood, is_beside, never_steady, number_read, stores_of}
 use Rattle.dc_world.proofs.Partaking.{no_index, rose_own}
 use Rattle.dc_world.proofs.Rereading.{all_belong, all_handed, fit_each, if_both, lent_each, on_ok, trails_exposed}
 use Rattle.dc_world.proofs.reopening.read_beside.Goals as goal
@@ -16,11 +15,6 @@ read_all-requires-clause-lent g c = lent_each g.C.Checkpoint c.args.past.now.ima
 
 pub read_all-requires-clause-fit : goal.read_all-requires-clause-fit
 read_all-requires-clause-fit g c = fit_each g.C.Checkpoint c.args.past.now.images.now c.args.dev.now c.args.stores.now c.requires.stores c.requires.attached c.args.saved.now c.requires.fit
-
-pub returns-clause-steady : goal.returns-clause-steady
-returns-clause-steady g c first z now =
-    let b = before_it c.args.stores.now c.read_all.new.stores 0 z c.read_all.auto.stores now in
-    where_steady g.C.Checkpoint g.met.C.Checkpoint.leaves_alike g.met.C.Checkpoint.numbers_alike c.args.past.now.images.now c.args.dev.now c.read_all.new.dev c.args.stores.now c.read_all.new.stores c.requires.stores c.read_all.auto.stores c.requires.attached c.read_all.ensures.same c.read_all.ensures.steady first b.0 z b.1 now
 
 pub returns-clause-handed : goal.returns-clause-handed
 returns-clause-handed g c = on_ok _ _ c.read_all.result c.read_all.ensures.decided (λ reread recovered.
@@ -51,16 +45,18 @@ returns-clause-refused g c p fault e =
     let cause = c.read_all.ensures.refused_under p fault (ap recovery_in e) in
     (cause.0, all_refuse g.C.Checkpoint g.met.C.Checkpoint.leaves_alike g.met.C.Checkpoint.numbers_alike c.args.past.now.images.now c.args.dev.now c.read_all.new.dev c.args.stores.now c.read_all.new.stores c.requires.stores c.read_all.auto.stores c.requires.attached c.read_all.ensures.same cause.0 p fault cause.1)
 
+pub returns-clause-unsteady : goal.returns-clause-unsteady
+returns-clause-unsteady g c e told first = never_steady g.C.Checkpoint g.met.C.Checkpoint.leaves_alike g.met.C.Checkpoint.numbers_alike c.args.past.now.images.now c.args.dev.now c.read_all.new.dev c.args.stores.now c.read_all.new.stores c.requires.stores c.read_all.auto.stores c.requires.attached c.read_all.ensures.same c.requires.past.some (c.read_all.ensures.unsteady e) told first
+
 pub returns-clause-refused_under : goal.returns-clause-refused_under
-returns-clause-refused_under g c first d has p fault e =
+returns-clause-refused_under g c d has p fault e =
     let (b, z, b_at, z_at, counts, back) = number_read g.C.Checkpoint g.met.C.Checkpoint.leaves_alike g.met.C.Checkpoint.numbers_alike c.args.past.now.images.now c.args.dev.now c.read_all.new.dev c.args.stores.now c.read_all.new.stores c.requires.stores c.read_all.auto.stores c.requires.attached c.read_all.ensures.same d has in
-    all_refuse g.C.Checkpoint g.met.C.Checkpoint.leaves_alike g.met.C.Checkpoint.numbers_alike c.args.past.now.images.now c.args.dev.now c.read_all.new.dev c.args.stores.now c.read_all.new.stores c.requires.stores c.read_all.auto.stores c.requires.attached c.read_all.ensures.same d p fault
-    (where_steady g.C.Checkpoint g.met.C.Checkpoint.leaves_alike g.met.C.Checkpoint.numbers_alike c.args.past.now.images.now c.args.dev.now c.read_all.new.dev c.args.stores.now c.read_all.new.stores c.requires.stores c.read_all.auto.stores c.requires.attached c.read_all.ensures.same c.read_all.ensures.refused first b z b_at z_at d counts p fault (ap recovery_in e))
+    all_refuse g.C.Checkpoint g.met.C.Checkpoint.leaves_alike g.met.C.Checkpoint.numbers_alike c.args.past.now.images.now c.args.dev.now c.read_all.new.dev c.args.stores.now c.read_all.new.stores c.requires.stores c.read_all.auto.stores c.requires.attached c.read_all.ensures.same d p fault (c.read_all.ensures.refused z z_at d counts p fault (ap recovery_in e))
 
 pub returns-clause-stood : goal.returns-clause-stood
-returns-clause-stood g c first d has =
+returns-clause-stood g c d has =
     let (b, z, b_at, z_at, counts, back) = number_read g.C.Checkpoint g.met.C.Checkpoint.leaves_alike g.met.C.Checkpoint.numbers_alike c.args.past.now.images.now c.args.dev.now c.read_all.new.dev c.args.stores.now c.read_all.new.stores c.requires.stores c.read_all.auto.stores c.requires.attached c.read_all.ensures.same d has in
-    let stood = where_steady g.C.Checkpoint g.met.C.Checkpoint.leaves_alike g.met.C.Checkpoint.numbers_alike c.args.past.now.images.now c.args.dev.now c.read_all.new.dev c.args.stores.now c.read_all.new.stores c.requires.stores c.read_all.auto.stores c.requires.attached c.read_all.ensures.same c.read_all.ensures.stands first b z b_at z_at d counts in
+    let stood = c.read_all.ensures.stands b z b_at z_at d counts in
     (back stood.0, all_stood g.C.Checkpoint g.met.C.Checkpoint.leaves_alike g.met.C.Checkpoint.numbers_alike c.args.past.now.images.now c.args.dev.now c.read_all.new.dev c.args.stores.now c.read_all.new.stores c.requires.stores c.read_all.auto.stores c.requires.attached c.read_all.ensures.same d stood.1)
 
 pub returns-clause-stopped : goal.returns-clause-stopped

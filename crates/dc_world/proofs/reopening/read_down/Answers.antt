@@ -8,7 +8,10 @@ pub returns-in_err-reread-clause-unsuited : goal.returns-in_err-reread-clause-un
 returns-in_err-reread-clause-unsuited g c p e = c.in_err-reread.ensures.unsuited p (search rules)
 
 pub returns-in_err-reread-clause-refused_under : goal.returns-in_err-reread-clause-refused_under
-returns-in_err-reread-clause-refused_under g c first d has p fault e = c.in_err-reread.ensures.refused_under first d has p fault (search rules)
+returns-in_err-reread-clause-refused_under g c d has p fault e = c.in_err-reread.ensures.refused_under d has p fault (search rules)
+
+pub returns-in_err-reread-clause-unsteady : goal.returns-in_err-reread-clause-unsteady
+returns-in_err-reread-clause-unsteady g c e = c.in_err-reread.ensures.unsteady (search rules)
 
 pub returns-in_err-reread-clause-stopped : goal.returns-in_err-reread-clause-stopped
 returns-in_err-reread-clause-stopped g c p e = c.in_err-reread.ensures.stopped p (search rules)
@@ -23,7 +26,7 @@ pub returns-clause-lent : goal.returns-clause-lent
 returns-clause-lent g c = lent_fallen g.C.Checkpoint c.args.past.now.images.now c.args.dev.now c.read_beside.new.dev c.args.stores.now c.read_beside.new.stores c.down_each.new.stores c.requires.stores c.read_beside.auto.stores c.down_each.auto.stores c.requires.attached c.read_beside.ensures.same c.in_ok-slots.ensures.falls c.read_beside.ensures.lent
 
 pub returns-clause-steady : goal.returns-clause-steady
-returns-clause-steady g c first = steady_fallen g.C.Checkpoint c.args.past.now.images.now c.args.dev.now c.read_beside.new.dev c.args.stores.now c.read_beside.new.stores c.down_each.new.stores c.requires.stores c.read_beside.auto.stores c.down_each.auto.stores c.requires.attached c.read_beside.ensures.same c.in_ok-slots.ensures.falls (c.read_beside.ensures.steady first)
+returns-clause-steady g c = steady_fallen g.C.Checkpoint c.args.past.now.images.now c.args.dev.now c.read_beside.new.dev c.args.stores.now c.read_beside.new.stores c.down_each.new.stores c.requires.stores c.read_beside.auto.stores c.down_each.auto.stores c.requires.attached c.read_beside.ensures.same c.in_ok-slots.ensures.falls c.in_ok-reread.ensures.steady
 
 pub returns-clause-read : goal.returns-clause-read
 returns-clause-read g c =

@@ -9,7 +9,6 @@ use Rattle.dc_protocols.specs.Rules.{is_causal, is_joint}
 use Rattle.dc_recovery.specs.Recoveries.{resumed_core}
 use Rattle.dc_resume.specs.Suited.{AreSuited, IsFirstUnsuited, saves_in}
 use Rattle.dc_together.proofs.Rows.{all_written}
-use Rattle.dc_twophase.specs.Stores.{At}
 use Rattle.dc_words.specs.Lists.{lists_of}
 use Rattle.dc_world.proofs.Again.{begun_again, goes_on, ready}
 use Rattle.dc_world.proofs.Attached.{attached_handles}
@@ -40,18 +39,22 @@ returns-in_err-slots-clause-refused g c p fault e =
     subst (λ xs. (d : ℕ) × Refuses g.C.Checkpoint xs d c.read_down.new.dev p fault) c.deref-2.ensures.value (c.in_err-slots.ensures.refused p fault (search rules))
 
 pub returns-in_err-slots-clause-refused_under : goal.returns-in_err-slots-clause-refused_under
-returns-in_err-slots-clause-refused_under g c first d has p fault e =
-    subst (λ xs. IsFirstSteady g.C.Checkpoint xs c.args.dev.now → HasNumber g.C.Checkpoint xs c.read_down.new.dev d → Refuses g.C.Checkpoint xs d c.read_down.new.dev p fault) c.deref-2.ensures.value
-    (λ f h. c.in_err-slots.ensures.refused_under f d h p fault (search rules)) first has
+returns-in_err-slots-clause-refused_under g c d has p fault e =
+    subst (λ xs. HasNumber g.C.Checkpoint xs c.read_down.new.dev d → Refuses g.C.Checkpoint xs d c.read_down.new.dev p fault) c.deref-2.ensures.value
+    (λ h. c.in_err-slots.ensures.refused_under d h p fault (search rules)) has
+
+pub returns-in_err-slots-clause-unsteady : goal.returns-in_err-slots-clause-unsteady
+returns-in_err-slots-clause-unsteady g c e told =
+    subst (λ xs. IsFirstSteady g.C.Checkpoint xs c.args.dev.now → ⊥) c.deref-2.ensures.value (c.in_err-slots.ensures.unsteady (search rules) told)
 
 pub returns-in_err-slots-clause-stood : goal.returns-in_err-slots-clause-stood
 returns-in_err-slots-clause-stood g c =
-    subst (λ xs. IsFirstSteady g.C.Checkpoint xs c.args.dev.now → (d : ℕ) → HasNumber g.C.Checkpoint xs c.read_down.new.dev d → HasNumber g.C.Checkpoint xs c.args.dev.now d × Stood g.C.Checkpoint xs d c.args.dev.now c.read_down.new.dev)
+    subst (λ xs. (d : ℕ) → HasNumber g.C.Checkpoint xs c.read_down.new.dev d → HasNumber g.C.Checkpoint xs c.args.dev.now d × Stood g.C.Checkpoint xs d c.args.dev.now c.read_down.new.dev)
     c.deref-2.ensures.value c.read_down.ensures.stood
 
 pub returns-clause-stood : goal.returns-clause-stood
 returns-clause-stood g c =
-    subst (λ xs. IsFirstSteady g.C.Checkpoint xs c.args.dev.now → (d : ℕ) → HasNumber g.C.Checkpoint xs c.read_down.new.dev d → HasNumber g.C.Checkpoint xs c.args.dev.now d × Stood g.C.Checkpoint xs d c.args.dev.now c.read_down.new.dev)
+    subst (λ xs. (d : ℕ) → HasNumber g.C.Checkpoint xs c.read_down.new.dev d → HasNumber g.C.Checkpoint xs c.args.dev.now d × Stood g.C.Checkpoint xs d c.args.dev.now c.read_down.new.dev)
     c.deref-2.ensures.value c.read_down.ensures.stood
 
 pub returns-clause-handles : goal.returns-clause-handles
@@ -131,11 +134,10 @@ returns-clause-reopened g c =
     let all : take c.in_ok-stores.stores.len (new ++ drop (length new) stores) ≡ new = all_written c.in_ok-stores.stores.len stores new (search rules) as_many in
     let long : length new ≡ length c.args.setup.images.items = as_many ∙ c.in_ok-stores.ensures.long ∙ ap (λ xs. length xs) c.deref.ensures.value in
     let over : AreOver g.C.Checkpoint c.args.setup.images.items new = subst (λ xs. AreOver g.C.Checkpoint xs new) c.deref-2.ensures.value c.in_ok-slots.ensures.over in
-    let steady = subst (λ xs. IsFirstSteady g.C.Checkpoint xs old → At 0 new (λ z. g.C.Checkpoint.steady z dev)) c.deref-2.ensures.value c.in_ok-slots.ensures.steady in
     let entries = c.requires.entries in (
       read.0,
       read.1,
-      λ free first lines shown. subst (λ zs. IsWorld g.C.Checkpoint (system (map seen_image c.args.setup.images.items) (lists_of c.args.setup.inputs.items) protocol)
+      λ free lines shown. subst (λ zs. IsWorld g.C.Checkpoint (system (map seen_image c.args.setup.images.items) (lists_of c.args.setup.inputs.items) protocol)
           (resumed_core read.0.given lines (saves_in (system (map seen_image c.args.setup.images.items) (lists_of c.args.setup.inputs.items) protocol) read.0.stored)) (stage_of zs dev w)) (sym all)
-          (goes_on g.C.Checkpoint c.args.setup c.args.earlier.now c.args.entries new old dev w begins long over read.0 read.2 read.1 c.requires.some (omega (arith, entries)) free (read.3 free) first steady lines shown),
+          (goes_on g.C.Checkpoint c.args.setup c.args.earlier.now c.args.entries new old dev w begins long over read.0 read.2 read.1 c.requires.some (omega (arith, entries)) free (read.3 free) c.in_ok-slots.ensures.steady lines shown),
     )
