@@ -4,6 +4,7 @@ use Rattle.std.proofs.lemmas.Bool.{cases_eq}
 use Rattle.std.proofs.lemmas.Option.{slice_get_within}
 use Rattle.std.proofs.lemmas.List.{get_or-set_other, get_or-set_same, length-set}
 use Rattle.dc_acts.specs.Counted.{acts_of}
+use Rattle.dc_checkpoint.specs.Calls.{AreNoHigher}
 use Rattle.dc_checkpoint.specs.declared.checkpoint.Checkpoint as checkpoint
 use Rattle.dc_elf.specs.Images.{Image}
 use Rattle.dc_guest.specs.Guest.{Guest}
@@ -35,7 +36,7 @@ use Rattle.dc_twophase.proofs.Laws.{Laws}
 use Rattle.dc_twophase.proofs.Pairs.{at_same, known}
 use Rattle.dc_processes.proofs.Acts.{acts_turned, own_counted}
 use Rattle.dc_processes.proofs.After.{Hears, Knows, world_after}
-use Rattle.dc_processes.proofs.Beside.{leaves_self, leaves_stay, memory_stays}
+use Rattle.dc_processes.proofs.Beside.{leaves_self, leaves_stay, memory_stays, undecided_stays}
 use Rattle.dc_processes.proofs.Noting.{noted, set_beside}
 use Rattle.dc_processes.proofs.Standing.{alone_given, at_now, going_now, is_on, over_now}
 use Rattle.dc_processes.proofs.Whole.{world_is, zero_stands}
@@ -146,7 +147,7 @@ module _ {C D : Type 0} (g : checkpoint.Ghosts C D) (laws : Laws g) (images : Li
       module _ (long : length new.slots ≡ length old.slots) (protocol : new.protocol ≡ old.protocol) (inputs_same : new.inputs ≡ old.inputs) (acts_are : new.acts ≡ acts_with old.acts u0.kernel t a)
           (ex : Bool) (ex_is : (c.procs p).position ≡ length (own p c.acts) → S.exposes (comes S.guests (stands S.guests c p) a) ≡ ex) (exposed_long : length old.exposed ≡ length old.slots)
           (exposed_are : new.exposed ≡ (if ex && nat_lt (acts_of p old.acts) (acts_of p new.acts) then slice_set old.exposed p (acts_of p new.acts) else old.exposed))
-          (lines_are : new.lines ≡ length d.lines) (left_is : new.left + 1 ≡ old.left) (numbers_are : IsNumbered (2 ^ 32 - 1 - 2 * new.left) (g.leaves c1 new.dev 0)) where
+          (lines_are : new.lines ≡ length d.lines) (left_is : new.left + 1 ≡ old.left) (numbers_are : IsNumbered (2 ^ 32 - 1 - 2 * new.left) (g.leaves c1 new.dev 0)) (no_higher : AreNoHigher (g.numbers c0 old.dev) (g.numbers c1 new.dev)) where
         within : (c.procs p).position ≤ length (own p c.acts)
         within = (going_now g S schedule t c now old world p c0 at0 u0 slot0 inside words told0).within
 
@@ -182,4 +183,4 @@ module _ {C D : Type 0} (g : checkpoint.Ghosts C D) (laws : Laws g) (images : Li
         world_next = world_is g S sound alone schedule t c now p a given on inside Nowhere old new world stands_next long protocol inputs_same
             (up_next p inside ∙ ap is_up mid_self ∙ sym over_next.going.up) (λ q less ne. up_next q less ∙ ap is_up (mid_other q ne))
             (λ s less. ap (λ b. slice_index b s) (based_next p inside ∙ ap based_in mid_self) ∙ at_next.based_is s less) (λ q less ne. based_next q less ∙ ap based_in (mid_other q ne))
-            acts_next exposed_self exposed_other lines_are numbered_next
+            acts_next exposed_self exposed_other lines_are numbered_next (undecided_stays g laws old new p c0 c1 stores_are index_of at0 others no_higher (world.undecided alone))

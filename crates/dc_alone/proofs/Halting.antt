@@ -30,14 +30,14 @@ use Rattle.dc_recovery.specs.Turned.{after_turn, has_act, with_act}
 use Rattle.dc_twophase.proofs.Laws.{Laws}
 use Rattle.dc_processes.proofs.Acts.{acts_turned}
 use Rattle.dc_processes.proofs.After.{Knows, world_after}
-use Rattle.dc_processes.proofs.Beside.{leaves_self, leaves_stay, memory_stays}
+use Rattle.dc_processes.proofs.Beside.{leaves_self, leaves_stay, memory_stays, undecided_stays}
 use Rattle.dc_processes.proofs.Standing.{at_now, going_now, is_on}
 use Rattle.dc_processes.proofs.Whole.{world_is, zero_stands}
 use Rattle.dc_processes.specs.Processes.{Learns}
 use Rattle.dc_processes.specs.Slots.{Falls, based_in, held_in, is_up, size_in, slot_at}
 use Rattle.dc_processes.specs.Stages.{IsHandled, IsWorld, Stage, leaves_of, seen_of, store_of}
 use Rattle.dc_processes.specs.declared.slot.Slot.TheVariants.{Down, Up}
-use Rattle.dc_checkpoint.specs.Calls.{FallsStore}
+use Rattle.dc_checkpoint.specs.Calls.{AreNoHigher, FallsStore}
 use Rattle.dc_checkpoint.specs.Handles.{showing_of}
 use Rattle.dc_processes.specs.declared.slot.Slot.{Slot}
 
@@ -95,7 +95,7 @@ module _ {C D : Type 0} (g : checkpoint.Ghosts C D) (laws : Laws g) (images : Li
 
     module _ (long : length new.slots ≡ length old.slots) (protocol : new.protocol ≡ old.protocol) (inputs_same : new.inputs ≡ old.inputs) (exposed_same : new.exposed ≡ old.exposed)
         (exposed_still : last_at S.exposes S.guests p (own p d.acts) ≡ last_at S.exposes S.guests p (own p c.acts)) (lines_are : new.lines ≡ length d.lines)
-        (left_is : new.left + 1 ≡ old.left) (numbers_are : IsNumbered (2 ^ 32 - 1 - 2 * new.left) (g.leaves c1 new.dev 0)) where
+        (left_is : new.left + 1 ≡ old.left) (numbers_are : IsNumbered (2 ^ 32 - 1 - 2 * new.left) (g.leaves c1 new.dev 0)) (no_higher : AreNoHigher (g.numbers c0 old.dev) (g.numbers c1 new.dev)) where
       acts_next : new.acts ≡ reported d.acts
       acts_next = is.written ∙ by_act (has_act w)
         where
@@ -120,6 +120,7 @@ module _ {C D : Type 0} (g : checkpoint.Ghosts C D) (laws : Laws g) (images : Li
           (down ∙ sym st_down) (λ q less ne. (learned q less ne).up_same)
           (λ s less. ap (λ b. slice_index b s) based_down ∙ is.based_is s less) (λ q less ne. (learned q less ne).based_same)
           acts_next (ap (λ xs. slice_index xs p) exposed_same ∙ world.exposed_are p inside ∙ sym exposed_still) (λ q less ne. ap (λ xs. slice_index xs q) exposed_same) lines_are numbered_next
+          (undecided_stays g laws old new p c0 c1 stores_are index_of at0 others no_higher (world.undecided alone))
 
 -- what one needs that fell in its turn
 pub handled_down : {C D : Type 0} (g : checkpoint.Ghosts C D) (m : ℕ) (c0 c1 : C) (dev : D) (old new : Option Slot) → Falls old new → IsSome old → FallsStore (showing_of g) c0 c1 → g.lent c0 dev → size_in old ≡ 4 * g.size c0 → IsHandled g m c1 dev new

@@ -2,6 +2,7 @@
 use Rattle.std.proofs.Common.{◌≡◌, ◌≢◌, ◌∙◌, ◌==◌, ◌<◌, ◌≤◌, ◌+◌, ◌*◌, ◌-◌, ◌^◌, ℕ, List, Bool, true, false, None, Some, IfSome, IsSome, if◌then◌else◌, refl, sym, ap, subst, arith, inl, length, map, max, set, slice_get, slice_index, ⊎_elim}
 use Rattle.std.proofs.lemmas.Bool.{cases_eq, eq-eqb, ne_eqb}
 use Rattle.dc_acts.specs.Counted.{cut_acts}
+use Rattle.dc_checkpoint.specs.Calls.{AreNoHigher}
 use Rattle.dc_checkpoint.specs.States.{Reading}
 use Rattle.dc_checkpoint.specs.declared.checkpoint.Checkpoint as checkpoint
 use Rattle.dc_elf.specs.Images.{Image}
@@ -39,7 +40,7 @@ use Rattle.dc_twophase.proofs.Laws.{Laws}
 use Rattle.dc_processes.proofs.Acts.{own_counted}
 use Rattle.dc_processes.proofs.After.{Knows}
 use Rattle.dc_processes.proofs.Back.{world_back}
-use Rattle.dc_processes.proofs.Beside.{and_some, leaves_self, leaves_stay, leaves_were, memory_stays, some_there, store_set}
+use Rattle.dc_processes.proofs.Beside.{and_some, leaves_self, leaves_stay, leaves_were, memory_stays, some_there, store_set, undecided_stays}
 use Rattle.dc_processes.proofs.Counting.{counts_for, oldest_less, own_less}
 use Rattle.dc_processes.proofs.Whole.{zero_stands}
 use Rattle.dc_processes.proofs.Risen.{cut_same, world_risen}
@@ -168,7 +169,8 @@ module _ {C D : Type 0} (g : checkpoint.Ghosts C D) (laws : Laws g) (told_conten
         (knows_slot old.protocol (length old.slots) p p learned.mid learned.of mid_up there)
 
     module _ (long : length new.slots ≡ length old.slots) (protocol : new.protocol ≡ old.protocol) (inputs : new.inputs ≡ old.inputs) (exposed : new.exposed ≡ old.exposed) (lines : new.lines ≡ old.lines) (left : new.left ≤ old.left)
-        (acts : let end = log_end (map logged_of h.unread) in end < 2 ^ 32 → new.acts ≡ cut_acts p (max (max u1.kernel.position end) (slice_index old.exposed p)) old.acts) where
+        (acts : let end = log_end (map logged_of h.unread) in end < 2 ^ 32 → new.acts ≡ cut_acts p (max (max u1.kernel.position end) (slice_index old.exposed p)) old.acts)
+        (no_higher : AreNoHigher (g.numbers c0 old.dev) (g.numbers c1 new.dev)) where
       end_is : log_end (map logged_of h.unread) ≡ log_end s.log
       end_is = ap log_end risen_at.unread_is
 
@@ -204,5 +206,5 @@ module _ {C D : Type 0} (g : checkpoint.Ghosts C D) (laws : Laws g) (told_conten
             (λ q less ne. (heard q (below q less) (λ e. ne (sym e))).up_same)
             (λ i less. ap (λ xs. slice_index xs i) (learned.itself.based_same ∙ learned.each.based_same) ∙ risen_at.based_is i less)
             (λ q less ne. (heard q (below q less) (λ e. ne (sym e))).based_same)
-            acts_are exposed lines numbered;
+            acts_are exposed lines numbered (undecided_stays g laws old new p c0 c1 stores_are index_of at0 untouched no_higher (world.undecided alone));
       }

@@ -79,6 +79,9 @@ pub trait Checkpoint: Sized {
     /// The decided number is one that only `decide` and `commit` may change.
     ghost steady: { Self → Self.Device → Type 0 };
 
+    /// A steady decided number is steady still once what was prepared is finished under this number.
+    ghost outlasts: { Self → Self.Device → ℕ → Type 0 };
+
     /// What an image of the store may stand for, under a decided number.
     ghost leaves: { Self → Self.Device → ℕ → Reading → Type 0 };
 
@@ -236,7 +239,7 @@ pub trait Checkpoint: Sized {
         ensures floor { OnOk result (floor self.new ≤ g) }
         ensures stands { Narrows g (leaves self.old dev.old) (leaves self.new dev.new) }
         ensures numbers { AreAmong (numbers self.old dev.old) (numbers self.new dev.new) }
-        ensures steady { steady self.old dev.old → AreFrom g (numbers self.old dev.old) → steady self.new dev.new }
+        ensures steady { steady self.old dev.old → outlasts self.old dev.old g → steady self.new dev.new }
         ensures unrefused { IsUnrefused result };
 
     /// The decided number that the store of process 0 holds, the same in each image from now on; 0 where nothing was decided. It says
@@ -284,6 +287,9 @@ pub trait Checkpoint: Sized {
 
     /// A ready store may log: it decided once at most since its last state.
     ghost may_log: { (c : Self) (dev : Self.Device) → ready c dev → loggable c };
+
+    /// A decided number that is none, or at least the one under which a state is finished, outlasts that.
+    ghost from_outlasts: { (c : Self) (dev : Self.Device) (g : ℕ) → AreFrom g (numbers c dev) → outlasts c dev g };
 
     /// A ready store stands for the same under each decided number from its floor on.
     ghost settled: { (c : Self) (dev : Self.Device) → ready c dev → (d e : ℕ) (reading : Reading) → floor c ≤ d → floor c ≤ e → leaves c dev d reading → leaves c dev e reading };

@@ -93,6 +93,7 @@ up_as g S x up up1 same world = record {
   exposed_are = world.exposed_are;
   lines_are = world.lines_are;
   numbered = world.numbered;
+  undecided = world.undecided;
   decided = world.decided;
 }
 
@@ -177,6 +178,7 @@ left_stores g setting begun stores dev w marks last out ended ready long = recor
   lent = lent_of g stores dev w ready;
   over = ended.over;
   stand = ended.stores;
+  reread = ended.reread;
 }
 
 module _ {C D : Type 0} (g : checkpoint.Ghosts C D) (setting : Setting) (up : ℕ → Bool) (alike : AreUpAlike setting up) (from_is : setting.from ≡ 0) (stores : List C) (dev : D) (w : Processes) (marks : List Mark) (last : Last) (out : Output)

@@ -18,7 +18,7 @@ use Rattle.dc_course.specs.Headline.{Account, AreUpAlike, IsEnding, IsHeadline, 
 use Rattle.dc_course.specs.Headline.Last.{Whole}
 use Rattle.dc_course.specs.Journals.{EndsAtFirstStop, IsJournalOf}
 use Rattle.dc_course.specs.Moments.{AreCalledOn, Moments}
-use Rattle.dc_course.specs.Running.{AreOverIn, Output}
+use Rattle.dc_course.specs.Running.{AreOverIn, CanReread, Output}
 use Rattle.dc_course.specs.declared.course.Course.{Course}
 use Rattle.dc_course.specs.declared.ending.Ending.{Ending}
 use Rattle.dc_course.specs.declared.ending.Ending.TheVariants as ending
@@ -62,7 +62,8 @@ pub record TellsThroughout {C D : Type 0} (g : checkpoint.Ghosts C D) (n : ℕ) 
   pub stops : (p : ℕ) → p < n → g.stops new p < 2 ^ 64 - 1
   pub faults : (p : ℕ) → p < n → g.faults new p < 2 ^ 64 - 1
 
--- the stores that a run leaves on a device: each is that of its process, which began with its image, and every image of it stands for one of the core's saves
+-- the stores that a run leaves on a device: each is that of its process, which began with its image, every image of it stands for one of the core's saves, and
+-- they can be read again
 pub record StoresLeft {C D : Type 0} (g : checkpoint.Ghosts C D) (setting : Setting) (core : Core) (dev : D) : Type 0 where
   pub stores : List C
   pub all : length stores ≡ length setting.images
@@ -70,6 +71,7 @@ pub record StoresLeft {C D : Type 0} (g : checkpoint.Ghosts C D) (setting : Sett
   pub lent : (p : ℕ) (c : C) → slice_get stores p ≡ Some c → g.lent c dev
   pub over : AreOverIn g setting stores
   pub stand : StoresStand (system_in setting) core (decided_by (is_joint setting.protocol) (λ d. IsSomeAnd (slice_get stores 0) (λ c. g.numbers c dev d))) (λ p d r. IsSomeAnd (slice_get stores p) (λ c. g.leaves c dev d r))
+  pub reread : CanReread g setting stores dev
 
 -- A run: it keeps the promise, ended as it says, was stopped as planned and no more often than its devices say besides, and left its stores so.
 pub record IsCourse {D : Type 0} (setting : Setting) (run : Account) (ending : Ending) (out : Output) (counts : Counts D) (Left : Core → D → Type 0) : Type 0 where

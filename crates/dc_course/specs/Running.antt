@@ -1,6 +1,8 @@
 -- How far a run has come, and how one ended.
-use Rattle.std.specs.Prelude.{◌≡◌, ◌<◌, ◌+◌, ◌++◌, ℕ, true, List, drop, length, reverse, slice_get, Option, Some}
+use Rattle.std.specs.Prelude.{◌≡◌, ◌<◌, ◌≤◌, ◌+◌, ◌++◌, ℕ, true, false, IsSomeAnd, Ok, List, drop, length, reverse, slice_get, Option, Some}
 use Rattle.dc_acts.specs.Lines.{text_of}
+use Rattle.dc_checkpoint.specs.Calls.{AreAll}
+use Rattle.dc_checkpoint.specs.States.{State, number_in}
 use Rattle.dc_checkpoint.specs.declared.checkpoint.Checkpoint as checkpoint
 use Rattle.dc_elf.specs.Images.{Image}
 use Rattle.dc_media.specs.Told.{Becomes}
@@ -51,6 +53,14 @@ CanBegin setting begun = Holds (system_in setting) setting.schedule setting.from
 abbrev pub AreOverIn : {C D : Type 0} → checkpoint.Ghosts C D → Setting → List C → Type 0
 AreOverIn g setting stores = (p : ℕ) (c : _) (image : Image) → slice_get stores p ≡ Some c → slice_get setting.images p ≡ Some image → IsOver g (length setting.images) p image c
 
+-- the stores can be read again: the decided number that the first one holds is steady, and none to which no process has come; where each process commits by
+-- itself it is 0
+pub record CanReread {C D : Type 0} (g : checkpoint.Ghosts C D) (setting : Setting) (stores : List C) (dev : D) : Type 0 where
+  pub alone : is_joint setting.protocol ≡ false → AreAll 0 (λ d. IsSomeAnd (slice_get stores 0) (λ c. g.numbers c dev d))
+  pub steady : is_joint setting.protocol ≡ true → IsSomeAnd (slice_get stores 0) (λ c. g.steady c dev)
+  pub reached : is_joint setting.protocol ≡ true → (d p : ℕ) (s : State) → IsSomeAnd (slice_get stores 0) (λ c. g.numbers c dev d) → p < length setting.images
+      → IsSomeAnd (slice_get stores p) (λ c. g.leaves c dev d (Ok s)) → d ≤ number_in s.kernel
+
 -- the marks lead from the core where the run begins to one that the world stands for, and the lines that were added since stand on the output
 pub record IsRunning {C D : Type 0} (g : checkpoint.Ghosts C D) (setting : Setting) (begun : Core) (x : Stage C D) (marks : List Mark) (out : Output) : Type 0 where
   pub core : Core
@@ -75,6 +85,7 @@ pub record IsEnded {C D : Type 0} (g : checkpoint.Ghosts C D) (setting : Setting
   pub up_are : (p : ℕ) → p < (system_in setting).guests.count → (core.procs p).up ≡ is_up (slot_at x.slots p)
   pub stores : StoresStand (system_in setting) core (decided_by (is_joint setting.protocol) (numbers_of g x)) (leaves_of g x)
   pub over : AreOverIn g setting x.stores
+  pub reread : CanReread g setting x.stores x.dev
 
 -- what is known of one moment of a run: its world, its marks, and what the output holds
 pub record Moment (C D : Type 0) : Type 0 where

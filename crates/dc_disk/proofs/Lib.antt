@@ -1,3 +1,4 @@
 mod Logged
 mod Logs
+pub mod Rereadable
 mod Rereading

@@ -26,6 +26,7 @@ pub record IsLogged {S C D : Type 0} (disk : disks.Ghosts S) (g : checkpoint.Gho
   pub numbers_to : (c : C) (x : D) (d : ℕ) → Numbers (shape_at c) (disk.told (f x) (g.index c)) d → g.numbers c x d
   pub numbers_from : (c : C) (x : D) (d : ℕ) → g.numbers c x d → Numbers (shape_at c) (disk.told (f x) (g.index c)) d
   pub steady_to : (c : C) (x : D) → IsSteady (shape_at c) (disk.told (f x) (g.index c)) → g.floor c ≡ 0 → g.steady c x
+  pub steady_from : (c : C) (x : D) → g.steady c x → IsSteady (shape_at c) (disk.told (f x) (g.index c))
 
 -- the shape of a handle is what the log of its process is made for
 pub shape_for : {S C D : Type 0} {disk : disks.Ghosts S} {g : checkpoint.Ghosts C D} {f : D → S} {shape_at : C → Shape} → IsLogged disk g f shape_at → (n p : ℕ) (image : Image) (c : C) → IsOver g n p image c → shape_at c ≡ log_for n p image

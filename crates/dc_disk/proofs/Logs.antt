@@ -1,10 +1,14 @@
 -- What a run leaves on disks, by the redo logs of its processes.
-use Rattle.std.proofs.Common.{◌≡◌, ◌∙◌, ◌<◌, ℕ, Bool, true, false, List, [], Option, None, Some, IsSomeAnd, ap, length, slice_get, subst, sym}
+use Rattle.std.proofs.Common.{◌≡◌, ◌∙◌, ◌<◌, ℕ, Bool, true, false, List, [], Option, None, Some, Ok, IsSomeAnd, ap, length, slice_get, subst, sym, ⊎_elim}
+use Rattle.std.proofs.lemmas.Bool.{cases_Bool}
 use Rattle.dc_checkpoint.specs.States.{Reading, unlogged}
 use Rattle.dc_checkpoint.specs.declared.checkpoint.Checkpoint as checkpoint
 use Rattle.dc_media.specs.declared.disks.Disks as disks
 use Rattle.dc_protocols.specs.Rules.{is_joint}
 use Rattle.dc_recovery.specs.Core.{Core}
+use Rattle.dc_processes.proofs.Beside.{some_and}
+use Rattle.dc_redo.proofs.Steady.{undecided_steady}
+use Rattle.dc_redo.specs.Handles.{IsSteady}
 use Rattle.dc_redo.specs.Shapes.{Shape}
 use Rattle.dc_redo.specs.Standing.{Numbers, StandsFor}
 use Rattle.dc_twophase.proofs.Pairs.{known}
@@ -68,6 +72,15 @@ module _ {S C D : Type 0} (disk : disks.Ghosts S) (g : checkpoint.Ghosts C D) (f
     decided_at true d l = let c = store 0 some in numbers_at 0 c.0 c.1 d l
     decided_at false d l = l
 
+    -- the decided number is as steady as to its handle
+    steady_at : IsSteady (shape 0) (disk.told k 0)
+    steady_at = ⊎_elim
+        (λ (joint : is_joint setting.protocol ≡ true). let c = store 0 some in
+        subst (λ s. IsSteady s (disk.told k 0)) (sym (shape_is 0 c.0 c.1)) (subst (λ q. IsSteady (shape_at c.0) (disk.told k q)) (index_is 0 c.0 c.1)
+        (is.steady_from c.0 dev (some_and (λ x. g.steady x dev) (slice_get left.stores 0) c.0 c.1 (left.reread.steady joint)))))
+        (λ (alone : is_joint setting.protocol ≡ false). undecided_steady (shape 0) (disk.told k 0) (λ d l. let c = store 0 some in left.reread.alone alone d (numbers_at 0 c.0 c.1 d l)))
+        (cases_Bool (is_joint setting.protocol))
+
     -- what an image stands for
     reading_at : (p d : ℕ) (r : Reading) → (p < length setting.images) × StandsFor (shape p) (disk.told k p) d r → IsSomeAnd (slice_get left.stores p) (λ x. g.leaves x dev d r)
     reading_at p d r l = let c = store p l.0 in leaves_at p c.0 c.1 d r l.1
@@ -81,6 +94,9 @@ module _ {S C D : Type 0} (disk : disks.Ghosts S) (g : checkpoint.Ghosts C D) (f
         one = λ p inside d decided r l. left.stand.one p inside d (decided_at (is_joint setting.protocol) d decided) r (reading_at p d r l);
         all = λ global d decided r l. left.stand.all global d (decided_at (is_joint setting.protocol) d decided) r (λ p inside. reading_at p d (r p) (l p inside));
       };
+      steady = steady_at;
+      alone = λ alone d l. let c = store 0 some in left.reread.alone alone d (numbers_at 0 c.0 c.1 d l);
+      reached = λ joint d p s l inside stands. let c = store 0 some in left.reread.reached joint d p s (numbers_at 0 c.0 c.1 d l) inside (reading_at p d (Ok s) (inside, stands));
     }
 
 -- a run on disks, by what the run over its armed device says

@@ -58,6 +58,13 @@ module _ {S C D : Type 0} (disk : disks.Ghosts S) {g : checkpoint.Ghosts C D} (f
   first_steady x kept image c at attached = is.steady_to c x
       (subst (λ q. IsSteady (shape_at c) (disk.told (f x) q)) (sym attached.over.belongs.index_is) (subst (λ sh. IsSteady sh (disk.told (f x) 0)) (sym (shape_is 0 image c attached.over)) (kept image at))) attached.floor_is
 
+  -- a decided number that the first log may hold, a handle over it may hold, and the other way
+  pub has_number : (x : D) (d : ℕ) → ((p : ℕ) → HasHandle g images p) → FirstLogHas disk images (f x) d → HasNumber g images x d
+  has_number x d handles (image, at, held) = let h = handles 0 image at in (image, h.0, at, h.1, numbers_in 0 image h.0 h.1 x d held)
+
+  pub number_logged : (x : D) (d : ℕ) → HasNumber g images x d → FirstLogHas disk images (f x) d
+  number_logged x d (image, c, at, over, held) = (image, at, numbers_out 0 image c over x d held)
+
   module _ (old new : D) where
     pub logs_stood : (d : ℕ) → ((p : ℕ) (image : Image) → slice_get images p ≡ Some image → (c : C) × IsOver g n p (seen_image image) c) → Stood g images d old new → LogsStood disk images d (f old) (f new)
     logs_stood d handles stood p image at r l = let h = handles p image at in leaves_out p image h.0 h.1 old d r (stood p image h.0 at h.1 r (leaves_in p image h.0 h.1 new d r l))
@@ -74,6 +81,7 @@ module _ {S C D : Type 0} (disk : disks.Ghosts S) {g : checkpoint.Ghosts C D} (f
       are_read = λ p image at r l. let h = x.handles p image at in x.are_read p image h.0 at h.1 r (leaves_in p image h.0 h.1 new x.decided r l);
       stood = logs_stood x.decided x.handles x.stood;
       numbers = λ image at e l. let h = x.handles 0 image at in x.numbers image h.0 at h.1 e (numbers_in 0 image h.0 h.1 new e l);
+      were = λ d has. number_logged old d (x.were d (has_number new d x.handles has));
     }
 
     -- a refusal
@@ -82,13 +90,6 @@ module _ {S C D : Type 0} (disk : disks.Ghosts S) {g : checkpoint.Ghosts C D} (f
       one_of = refuses.one_of;
       only = λ image at r l. let h = refuses.handle image at in refuses.only image h.0 at h.1 r (leaves_in p image h.0 h.1 new d r l);
     }
-
-  -- a decided number that the first log may hold, a handle over it may hold, and the other way
-  pub has_number : (x : D) (d : ℕ) → ((p : ℕ) → HasHandle g images p) → FirstLogHas disk images (f x) d → HasNumber g images x d
-  has_number x d handles (image, at, held) = let h = handles 0 image at in (image, h.0, at, h.1, numbers_in 0 image h.0 h.1 x d held)
-
-  pub number_logged : (x : D) (d : ℕ) → HasNumber g images x d → FirstLogHas disk images (f x) d
-  number_logged x d (image, c, at, over, held) = (image, at, numbers_out 0 image c over x d held)
 
 -- what two things say that hold where a call failed
 pub on_errs : {T E P Q R : Type 0} (r : Result T E) → OnErr r P → OnErr r Q → (P → Q → R) → OnErr r R

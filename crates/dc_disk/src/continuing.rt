@@ -1,6 +1,6 @@
 //! Runs on disks that go on from an earlier part.
 
-ghost use Rattle.std.specs.Prelude.{◌≡◌, ◌<◌, ◌≤◌, ◌+◌, ◌*◌, ℕ, All, IfOk, IsErrOf, IsSome, List, None, OnErr, false, length, reverse, true};
+ghost use Rattle.std.specs.Prelude.{◌≡◌, ◌<◌, ◌≤◌, ◌+◌, ◌*◌, ℕ, All, IfErr, IfOk, IsErrOf, IsSome, List, None, OnErr, false, length, reverse, true};
 ghost use Rattle.dc_checkpoint.specs.declared.faults.StoreFault.{StoreFault as StoreFaults};
 ghost use Rattle.dc_course.specs.Continued.{IsCourseOn, IsEarlier, setting_from};
 ghost use Rattle.dc_course.specs.Courses.{account_of, counts_of};
@@ -8,7 +8,7 @@ ghost use Rattle.dc_course.specs.Headline.{system_in};
 ghost use Rattle.dc_course.specs.Lent.{AreLeftFrom, KeepsTold, TellsStores, capped_by};
 ghost use Rattle.dc_course.specs.Running.{output};
 ghost use Rattle.dc_course.specs.declared.ending.Ending.TheVariants as endings;
-ghost use Rattle.dc_disk.specs.Logs.{AreLogsRead, FirstLogHas, IsFirstLogSteady, LogRefuses, LogsLeft, LogsStood};
+ghost use Rattle.dc_disk.specs.Logs.{AreLeftAt, AreLogsRead, FirstLogHas, IsFirstLogSteady, LogRefuses, LogsLeft, LogsStood, comes_of_content};
 ghost use Rattle.dc_media.specs.Causes.{Rose};
 ghost use Rattle.dc_media.specs.Devices.{of_disks};
 ghost use Rattle.dc_media.specs.Told.{TellsOn};
@@ -76,6 +76,8 @@ pub fn go_on_disks<D: Disks, O: Sink>(
         → (p : ℕ) (fault : StoreFaults) → IsErrOf result (faults.Refused p fault) → LogRefuses D.Disks setup.images.items d disks.new p fault }
     ensures stood { (IsErrOf result faults.Memory → ⊥) → OnErr result ((d : ℕ) → FirstLogHas D.Disks setup.images.items disks.new d
         → FirstLogHas D.Disks setup.images.items disks.old d × LogsStood D.Disks setup.images.items d disks.old disks.new) }
+    ensures resumable { AreLeftAt D.Disks (setting_from setup schedule.now stops.items earlier.now.entries) earlier.now.entries earlier.now.lines earlier.now.acts.now disks.old
+        → ((p : ℕ) → p < length setup.images.items → IsSome (D.told disks.new p)) → IfErr result (λ fault. comes_of_content fault ≡ false) }
     ensures stopped { (p : ℕ) → IsErrOf result (faults.Stopped p) → (p < length setup.images.items) × Rose (D.stops disks.old p) (D.stops disks.new p) }
     ensures failed { (p : ℕ) → IsErrOf result (faults.Failed p) → (p < length setup.images.items) × Rose (D.faults disks.old p) (D.faults disks.new p) }
     ensures wanting { IsErrOf result faults.Memory → (p : ℕ) → IsCalmUnlessStopped D.stops D.faults p disks.old disks.new }

@@ -1,5 +1,5 @@
 -- The fold over a report's acts is the run that was told.
-use Rattle.std.proofs.Common.{◌≡◌, ◌∙◌, ℕ, List, [], ◌∷◌, ◌++◌, refl, ap, subst, sym, ⊎_elim, true, Option, Some, None, reverse}
+use Rattle.std.proofs.Common.{◌≡◌, ◌∙◌, ℕ, List, [], ◌∷◌, ◌++◌, length, length-append, arith, refl, ap, subst, sym, ⊎_elim, true, Option, Some, None, reverse}
 use Rattle.std.specs.Option.{option_map}
 use Rattle.std.proofs.lemmas.Bool.{ne_eqb, cases_eq, and_parts}
 use Rattle.std.proofs.lemmas.List.{append-nil, reverse-append}
@@ -39,7 +39,7 @@ answer_again G acts p InputEnd fit mail = refl
 answer_again G acts p ReceiveNone fit mail = refl
 
 -- an act moves its own process alone
-procs_next : {Mc : Type 0} (G : Guests Mc) (acts : List Given) (x : Given) (q : ℕ)
+pub procs_next : {Mc : Type 0} (G : Guests Mc) (acts : List Given) (x : Given) (q : ℕ)
     → put x.p (moved G (state G acts x.p) x.answer) (state G acts) q ≡ state G (x ∷ acts) q
 procs_next G acts x q = ⊎_elim
     (λ e. subst (λ (y : ℕ). put x.p (moved G (state G acts x.p) x.answer) (state G acts) y ≡ state G (x ∷ acts) y) e
@@ -53,7 +53,7 @@ reverse_record p k (AtVisible body) records = sym (reverse-append (record { p = 
 reverse_record p k _ records = append-nil (reverse records)
 
 -- the world of told acts with one act more
-happened_next : {Mc : Type 0} (G : Guests Mc) (acts : List Given) (x : Given)
+pub happened_next : {Mc : Type 0} (G : Guests Mc) (acts : List Given) (x : Given)
     → happened G (world_of G acts) x.p x.answer ≡ world_of G (x ∷ acts)
 happened_next G acts x = λ i. record {
   procs = λ q. procs_next G acts x q i;
@@ -68,3 +68,32 @@ reported_run G (x ∷ acts) is_run =
     let again = answer_again G acts x.p x.answer is_run.1.fitting is_run.1.mail in
     run_more G (Some (opened G)) (world_of G acts) (reported acts) last (reported_run G acts is_run.0)
     ∙ rw (again, is_run.1.fitting) (ap (λ (w : World _). Some w) (happened_next G acts x))
+
+-- lists that end alike
+ends_alike : {A : Type 0} (xs ys : List A) (x y : A) → xs ++ x ∷ [] ≡ ys ++ y ∷ [] → (xs ≡ ys) × (x ≡ y)
+ends_alike [] [] x y e = (refl, let same : x ≡ y = cc in same)
+ends_alike [] (b ∷ ys) x y e = let long = length-append ys (y ∷ []) in let same = ap (λ zs. length zs) e in absurd (omega (arith, long, same))
+ends_alike (a ∷ xs) [] x y e = let long = length-append xs (x ∷ []) in let same = ap (λ zs. length zs) e in absurd (omega (arith, long, same))
+ends_alike (a ∷ xs) (b ∷ ys) x y e =
+    let first : a ≡ b = cc in
+    let rest : xs ++ x ∷ [] ≡ ys ++ y ∷ [] = cc in
+    let both = ends_alike xs ys x y rest in
+    (ap (λ z. z ∷ xs) first ∙ ap (λ zs. b ∷ zs) both.0, both.1)
+
+-- the answers of a run are the only ones with its report
+pub reported_once : {Mc : Type 0} (G : Guests Mc) (one other : List Given) → IsRun G one → IsRun G other → reported one ≡ reported other → one ≡ other
+reported_once G [] [] is_one is_other e = refl
+reported_once G [] (y ∷ ys) is_one is_other e =
+    let long = length-append (reported ys) (record { t = y.t; p = y.p; act = act_of y.answer } ∷ []) in let same = ap (λ zs. length zs) e in absurd (omega (arith, long, same))
+reported_once G (x ∷ xs) [] is_one is_other e =
+    let long = length-append (reported xs) (record { t = x.t; p = x.p; act = act_of x.answer } ∷ []) in let same = ap (λ zs. length zs) e in absurd (omega (arith, long, same))
+reported_once G (x ∷ xs) (y ∷ ys) is_one is_other e =
+    let both = ends_alike (reported xs) (reported ys) (record { t = x.t; p = x.p; act = act_of x.answer }) (record { t = y.t; p = y.p; act = act_of y.answer }) e in
+    let before = reported_once G xs ys is_one.0 is_other.0 both.0 in
+    let turn : x.t ≡ y.t = ap (λ (z : Taken). z.t) both.1 in
+    let process : x.p ≡ y.p = ap (λ (z : Taken). z.p) both.1 in
+    let told : act_of x.answer ≡ act_of y.answer = ap (λ (z : Taken). z.act) both.1 in
+    let same : Some x.answer ≡ Some y.answer = sym (answer_again G xs x.p x.answer is_one.1.fitting is_one.1.mail)
+    ∙ (λ i. answer_for G (world_of G (before i)) (process i) (told i)) ∙ answer_again G ys y.p y.answer is_other.1.fitting is_other.1.mail in
+    let answer : x.answer ≡ y.answer = cc in
+    λ i. record { t = turn i; p = process i; answer = answer i } ∷ before i

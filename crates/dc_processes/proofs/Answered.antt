@@ -57,6 +57,7 @@ world_later g S c old new same less world = subst (IsWorld g S c) (sym same) (re
   exposed_are = world.exposed_are;
   lines_are = world.lines_are;
   numbered = λ alone p inside. numbered_more (2 ^ 32 - 1 - 2 * old.left) (2 ^ 32 - 1 - 2 * new.left) (leaves_of g old p 0) (omega (arith, less)) (world.numbered alone p inside);
+  undecided = world.undecided;
   decided = λ is. let was = world.decided is in record { least = was.least; steady = was.steady; saved = was.saved; held = was.held; few = λ d p counts inside off. let most = was.few d p counts inside off in omega (arith, most, less) };
 })
 

@@ -2,6 +2,7 @@
 use Rattle.std.proofs.Common.{◌≡◌, ◌≢◌, ◌∙◌, ◌-◌, ◌*◌, ◌^◌, ◌<◌, ◌≤◌, ◌∷◌, ℕ, List, [], Bool, true, false, if◌then◌else◌, refl, sym, ap, subst, arith, length, max, slice_index, ⊎_elim}
 use Rattle.std.proofs.lemmas.Bool.{cases_eq, cases_lt, le-ltb, lt-ltb, true≢false}
 use Rattle.dc_acts.specs.Counted.{cut_acts}
+use Rattle.dc_checkpoint.specs.Calls.{AreAll}
 use Rattle.dc_checkpoint.specs.declared.checkpoint.Checkpoint as checkpoint
 use Rattle.dc_guest.specs.Guest.{Guest}
 use Rattle.dc_model.specs.Guests.{Answer, Event, Guests}
@@ -27,7 +28,7 @@ use Rattle.dc_processes.proofs.Back.{known_same, known_self}
 use Rattle.dc_processes.proofs.Cutting.{acts_cut}
 use Rattle.dc_processes.proofs.Whole.{stands_decided}
 use Rattle.dc_processes.specs.Slots.{based_in, is_up, slot_at}
-use Rattle.dc_processes.specs.Stages.{IsWorld, Stage, leaves_of, seen_of}
+use Rattle.dc_processes.specs.Stages.{IsWorld, Stage, leaves_of, numbers_of, seen_of}
 
 -- nothing is lost behind the last one
 pub last_oldest : (e : Event → Bool) (G : Guests Guest) (p r : ℕ) (ds : List Answer) → last_at e G p ds ≤ r → last_at e G p (oldest r ds) ≡ last_at e G p ds
@@ -73,8 +74,9 @@ module _ {C D : Type 0} (g : checkpoint.Ghosts C D) (S : System Guest) (sound : 
       → ((q : ℕ) → q < S.guests.count → p ≢ q → based_in (slot_at new.slots q) ≡ based_in (slot_at old.slots q))
       → new.acts ≡ reported d.acts → new.exposed ≡ old.exposed → new.lines ≡ old.lines
       → ((q : ℕ) → q < S.guests.count → IsNumbered (2 ^ 32 - 1 - 2 * new.left) (leaves_of g new q 0))
+      → AreAll 0 (numbers_of g new)
       → IsWorld g S d new
-  world_risen stands long protocol inputs up_self up_other based_self based_other acts exposed lines numbered = record {
+  world_risen stands long protocol inputs up_self up_other based_self based_other acts exposed lines numbered undecided = record {
     count_is = world.count_is ∙ sym long;
     protocol_is = world.protocol_is ∙ sym protocol;
     seven = world.seven;
@@ -97,5 +99,6 @@ module _ {C D : Type 0} (g : checkpoint.Ghosts C D) (S : System Guest) (sound : 
         (cases_eq p q);
     lines_are = world.lines_are ∙ sym lines;
     numbered = λ _. numbered;
+    undecided = λ _. undecided;
     decided = λ is. absurd (true≢false (sym is ∙ alone));
   }

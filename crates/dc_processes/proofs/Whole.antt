@@ -1,6 +1,7 @@
 -- After a turn of one process the world stands for the next core, once each part of it does.
 use Rattle.std.proofs.Common.{◌≡◌, ◌≢◌, ◌∙◌, ◌-◌, ◌*◌, ◌^◌, ◌<◌, ℕ, List, [], true, false, sym, ap, subst, length, slice_get, slice_index, unwrap_or, ⊎_elim}
 use Rattle.std.proofs.lemmas.Bool.{cases_eq, true≢false}
+use Rattle.dc_checkpoint.specs.Calls.{AreAll}
 use Rattle.dc_checkpoint.specs.declared.checkpoint.Checkpoint as checkpoint
 use Rattle.dc_guest.specs.Guest.{Guest}
 use Rattle.dc_model.specs.Guests.{Answer}
@@ -52,8 +53,9 @@ module _ {C D : Type 0} (g : checkpoint.Ghosts C D) (S : System Guest) (sound : 
       → slice_index new.exposed p ≡ last_at S.exposes S.guests p (own p d.acts) → ((q : ℕ) → q < S.guests.count → p ≢ q → slice_index new.exposed q ≡ slice_index old.exposed q)
       → new.lines ≡ length d.lines
       → ((q : ℕ) → q < S.guests.count → IsNumbered (2 ^ 32 - 1 - 2 * new.left) (leaves_of g new q 0))
+      → AreAll 0 (numbers_of g new)
       → IsWorld g S d new
-  world_is stands long protocol inputs up_self up_other based_self based_other acts exposed_self exposed_other lines numbered = record {
+  world_is stands long protocol inputs up_self up_other based_self based_other acts exposed_self exposed_other lines numbered undecided = record {
     count_is = world.count_is ∙ sym long;
     protocol_is = world.protocol_is ∙ sym protocol;
     seven = world.seven;
@@ -75,5 +77,6 @@ module _ {C D : Type 0} (g : checkpoint.Ghosts C D) (S : System Guest) (sound : 
         (cases_eq p q);
     lines_are = sym lines;
     numbered = λ _. numbered;
+    undecided = λ _. undecided;
     decided = λ is. absurd (true≢false (sym is ∙ alone));
   }

@@ -1,5 +1,6 @@
 -- When the processes of a world, with their stores on one device, stand for a core of the theory.
 use Rattle.std.specs.Prelude.{◌≡◌, ◌<◌, ◌≤◌, ◌*◌, ◌-◌, ◌^◌, ℕ, List, [], Bool, true, false, Ok, Option, None, Some, IsSomeAnd, length, max, slice_get, slice_index, unwrap_or}
+use Rattle.dc_checkpoint.specs.Calls.{AreAll}
 use Rattle.dc_checkpoint.specs.States.{Reading, State, number_in}
 use Rattle.dc_checkpoint.specs.declared.checkpoint.Checkpoint as checkpoint
 use Rattle.dc_guest.specs.Guest.{Guest}
@@ -96,6 +97,7 @@ pub record IsWorld {C D : Type 0} (g : checkpoint.Ghosts C D) (S : System Guest)
   pub exposed_are : (p : ℕ) → p < S.guests.count → slice_index x.exposed p ≡ last_at S.exposes S.guests p (own p c.acts)
   pub lines_are : length c.lines ≡ x.lines
   pub numbered : is_joint S.protocol ≡ false → (p : ℕ) → p < S.guests.count → IsNumbered (2 ^ 32 - 1 - 2 * x.left) (leaves_of g x p 0)
+  pub undecided : is_joint S.protocol ≡ false → AreAll 0 (numbers_of g x)
   pub decided : is_joint S.protocol ≡ true → AreDecided g x
 
 -- the devices of all processes are told, and no count of theirs stands at its last value

@@ -3,6 +3,7 @@ ghost use Rattle.std.proofs.Common.{sym};
 ghost use Rattle.dc_media.specs.Devices.{of_disks};
 ghost use Rattle.dc_media.specs.Told.{IsSameStore};
 ghost use Rattle.dc_words.specs.Words.{masked};
+ghost use Rattle.dc_checkpoint.specs.Calls.{AreFrom};
 ghost use Rattle.dc_checkpoint.specs.States.{IsForm, IsText, form_in, number_in};
 ghost use Rattle.dc_media.specs.Disk.{blank};
 ghost use Rattle.dc_media.specs.Calls.{IsCall};
@@ -132,6 +133,8 @@ impl<D: Disks> Checkpoint for Redo<D> {
 
     ghost steady = { λ s dev. IsSteadyFrom (shape_of s.frame) s.marks.floor (D.told dev s.frame.index) };
 
+    ghost outlasts = { λ s dev g. AreFrom g (Numbers (shape_of s.frame) (D.told dev s.frame.index)) };
+
     ghost leaves = { λ s dev d r. StandsFor (shape_of s.frame) (D.told dev s.frame.index) d r };
 
     ghost numbers = { λ s dev e. Numbers (shape_of s.frame) (D.told dev s.frame.index) e };
@@ -236,6 +239,8 @@ impl<D: Disks> Checkpoint for Redo<D> {
     }
 
     ghost may_log = { λ s dev ready. tt };
+
+    ghost from_outlasts = { λ s dev g from. from };
 
     ghost settled = { λ s dev ready d e r low high. settled_reading (shape_of s.frame) (known_of s.marks) _ ready.2 d e r low high };
 

@@ -6,7 +6,9 @@ mod Testing
 mod Absent
 pub mod Resuming
 pub mod Halting
+pub mod Alike
 pub mod Numbered
+pub mod Shared
 pub mod Added
 pub mod Telling
 pub mod Scenario

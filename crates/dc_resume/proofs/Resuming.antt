@@ -35,9 +35,9 @@ kept_few [] q all = omega arith
 kept_few (link ∷ links) zero all = all.0.few
 kept_few (link ∷ links) (suc q) all = kept_few links q all.1
 
--- the beginning of a process that does nothing is a save
-nothing_ok : (S : System Guest) (p : ℕ) (ds : List Answer) → ds ≡ [] → SaveOk S p ds first_save
-nothing_ok S p [] none = record {
+-- the beginning of a process that does nothing is a save, under any number
+nothing_ok : (S : System Guest) (p k : ℕ) (ds : List Answer) → ds ≡ [] → SaveOk S p ds (record first_save { number = k })
+nothing_ok S p k [] none = record {
   within = omega arith;
   log_within = omega arith;
   told = refl;
@@ -45,7 +45,7 @@ nothing_ok S p [] none = record {
   no_log = λ _. refl;
   few = λ j less. absurd (let off : j < 0 = less in omega arith);
 }
-nothing_ok S p (a ∷ ds) none = absurd (let off : ⊥ = cc in off)
+nothing_ok S p k (a ∷ ds) none = absurd (let off : ⊥ = cc in off)
 
 module _ (images : List Image) (inputs : List (List (List ℕ))) (protocol : Protocol) where
   abbrev S : System Guest
@@ -70,13 +70,13 @@ module _ (images : List Image) (inputs : List (List (List ℕ))) (protocol : Pro
     inside : (p : ℕ) → p < n → saves p ≡ save_in (stores p)
     inside p less = rw (lt-ltb p n less) refl
 
-    outside : (p : ℕ) → n ≤ p → saves p ≡ first_save
+    outside : (p : ℕ) → n ≤ p → saves p ≡ record first_save { number = (stores 0).kernel.commit }
     outside p past = rw (le-ltb p n past) refl
 
     each : (p : ℕ) → SaveOk S p (own p acts) (saves p)
     each p = ⊎_elim
         (λ (less : p < n). subst (SaveOk S p (own p acts)) (sym (inside p less)) (are p less).save)
-        (λ (past : n ≤ p). subst (SaveOk S p (own p acts)) (sym (outside p past)) (nothing_ok S p (own p acts) (none_done images inputs p acts past run)))
+        (λ (past : n ≤ p). subst (SaveOk S p (own p acts)) (sym (outside p past)) (nothing_ok S p (stores 0).kernel.commit (own p acts) (none_done images inputs p acts past run)))
         (cases_lt p n)
 
     received_is : (p s : ℕ) → p < n → s < n → (at_position G p (at p) (own p acts)).received s ≡ slice_index (stores p).kernel.received s

@@ -1,43 +1,23 @@
 -- The acts of a report that is a run are answers that were given.
-use Rattle.std.proofs.Common.{◌≡◌, ◌≢◌, ◌∙◌, ◌<◌, ◌≤◌, ℕ, suc, List, [], ◌∷◌, ◌++◌, true, false, Option, None, Some, refl, ap, subst, sym, arith, ⊎_elim, append_assoc, reverse, slice_get}
+use Rattle.std.proofs.Common.{◌≡◌, ◌≢◌, ◌∙◌, ◌<◌, ◌≤◌, ℕ, suc, List, [], ◌∷◌, ◌++◌, true, false, Option, None, Some, refl, ap, subst, sym, arith, ⊎_elim, append_assoc, slice_get}
 use Rattle.std.proofs.lemmas.Bool.{cases_Bool, cases_eq, eq-eqb, ne_eqb}
-use Rattle.std.proofs.lemmas.List.{append-nil, reverse-append}
+use Rattle.std.proofs.lemmas.List.{append-nil}
 use Rattle.std.specs.Option.{option_map}
-use Rattle.dc_model.proofs.Own.{own_no, own_yes, put_other, put_self}
+use Rattle.dc_model.proofs.Reports.{happened_next}
 use Rattle.dc_model.proofs.Rising.{TurnsBelow}
 use Rattle.dc_model.specs.Drawn.{Drawn, DrawnFrom, draws}
-use Rattle.dc_model.specs.Guests.{Answer, Event, Guests}
+use Rattle.dc_model.specs.Guests.{Answer, Guests}
 use Rattle.dc_model.specs.Guests.Answer.{Plain, Clock, Random, InputNone, InputNext, InputEnd, ReceiveNone, ReceiveFrom}
-use Rattle.dc_model.specs.Guests.Event.{AtVisible}
-use Rattle.dc_model.specs.Process.{comes, fits, moved, visible_of}
-use Rattle.dc_model.specs.Runs.{Given, IsMail, IsRun, state, visibles}
-use Rattle.dc_model.specs.World.{World, act_of, answer_for, apply_answer, happened, put, reported, run, run_from, world_of}
+use Rattle.dc_model.specs.Process.{fits}
+use Rattle.dc_model.specs.Runs.{Given, IsMail, IsRun, state}
+use Rattle.dc_model.specs.World.{World, act_of, answer_for, apply_answer, happened, reported, run, run_from, world_of}
 use Rattle.dc_model.specs.declared.act.Act.{Act}
 use Rattle.dc_model.specs.declared.act.Act.TheVariants as act
 use Rattle.dc_model.specs.declared.act.Taken.{Taken}
 use Rattle.dc_model.specs.declared.entry.Entry.{Entry}
-use Rattle.dc_model.specs.declared.visible.Visible.{Visible}
 use Rattle.dc_recovery.specs.Invariant.{DrawnBelow}
 
 module _ {Mc : Type 0} (G : Guests Mc) where
-  -- the world of answers that were given, with one more
-  pub procs_next : (acts : List Given) (x : Given) (q : ℕ) → put x.p (moved G (state G acts x.p) x.answer) (state G acts) q ≡ state G (x ∷ acts) q
-  procs_next acts x q = ⊎_elim
-      (λ e. subst (λ (y : ℕ). put x.p (moved G (state G acts x.p) x.answer) (state G acts) y ≡ state G (x ∷ acts) y) e
-      (rw (put_self x.p (moved G (state G acts x.p) x.answer) (state G acts), own_yes x acts x.p refl) refl))
-      (λ ne. rw (put_other x.p q (moved G (state G acts x.p) x.answer) (state G acts) ne, own_no x acts q ne) refl)
-      (cases_eq x.p q)
-
-  reverse_record : (p k : ℕ) (n : Event) (records : List Visible) → reverse records ++ visible_of p k n ≡ reverse (visible_of p k n ++ records)
-  reverse_record p k (AtVisible body) records = sym (reverse-append (record { p = p; k = k; body = body } ∷ []) records)
-  reverse_record p k _ records = append-nil (reverse records)
-
-  happened_next : (acts : List Given) (x : Given) → happened G (world_of G acts) x.p x.answer ≡ world_of G (x ∷ acts)
-  happened_next acts x = λ i. record {
-    procs = λ q. procs_next acts x q i;
-    visibles = reverse_record x.p (state G acts x.p).visible (comes G (state G acts x.p) x.answer) (visibles G acts) i;
-  }
-
   -- what an act tells is what was given: its act, and the next message where it hands over one
   abbrev pub IsTold : List Given → ℕ → Act → Answer → Type 0
   IsTold acts p t a = (act_of a ≡ t) × IsMail G acts p a
@@ -81,7 +61,7 @@ module _ {Mc : Type 0} (G : Guests Mc) where
       let told = told_is given x.p x.act a is in
       let y : Given = record { t = x.t; p = x.p; answer = a } in
       let goes : run_from G (Some (happened G (world_of G given) x.p a)) acts ≡ Some w = rw fit at e in
-      let here : run_from G (Some (world_of G (y ∷ given))) acts ≡ Some w = subst (λ (v : World Mc). run_from G (Some v) acts ≡ Some w) (happened_next given y) goes in
+      let here : run_from G (Some (world_of G (y ∷ given))) acts ≡ Some w = subst (λ (v : World Mc). run_from G (Some v) acts ≡ Some w) (happened_next G given y) goes in
       let same : record { t = x.t; p = x.p; act = act_of a } ≡ x = ap (λ (t : Act). record { t = x.t; p = x.p; act = t }) told.0 in
       let all : reported (y ∷ given) ++ acts ≡ reported given ++ x ∷ acts = append_assoc (reported given) (record { t = x.t; p = x.p; act = act_of a } ∷ []) acts ∙ ap (λ (z : Taken). reported given ++ z ∷ acts) same in
       subst (λ (xs : List Taken). IsGivenAs xs w) all (next (y ∷ given) (is_run, record { fitting = fit; mail = told.1 }) here))

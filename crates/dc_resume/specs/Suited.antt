@@ -63,9 +63,9 @@ pub record IsFirstUnsuited (S : System Guest) (acts : List Given) (d : ℕ) (sto
 abbrev pub AreStored : System Guest → (ℕ → Stored) → Type 0
 AreStored S stores = (p : ℕ) → p < S.guests.count → IsKernel S.guests.count p (stores p).kernel
 
--- the saves that they are; past the last process there is none but the beginning
+-- the saves that they are; past the last process there is none but the beginning, under the number that process 0 has come to
 abbrev pub saves_in : System Guest → (ℕ → Stored) → ℕ → Save
-saves_in S stores p = if nat_lt p S.guests.count then save_in (stores p) else first_save
+saves_in S stores p = if nat_lt p S.guests.count then save_in (stores p) else record first_save { number = (stores 0).kernel.commit }
 
 -- commits are numbered as in a run: below the bound, and where all commit together with the same numbers
 pub record AreNumbered (protocol : Protocol) (procs : ℕ → Status) : Type 0 where

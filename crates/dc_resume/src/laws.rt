@@ -37,6 +37,7 @@ ghost use Rattle.dc_resume.specs.Suited.{AreNumbered, AreRead, AreStored, AreSui
 /// - `stand`: and the stores stand for that core.
 /// - `halted`: wherever a run has come to, what its stores stand for under a decided number suits its acts, where its commits are
 ///   numbered as in a run; so a run that was halted can be gone on with.
+/// - `alike`: stores of which the same was read suit the same acts.
 /// - `numbered`: and so they are, as long as no more entries were taken than a schedule has but one.
 /// - `well`: the lines of an earlier part and those of a part that goes on from it keep the promise together.
 /// - `told`: the acts of a report that are a run, and were drawn at turns below one, are answers that were given so.
@@ -51,6 +52,8 @@ pub fn runs_resume<M>()
     ensures halted { (S : System Guest) (schedule : List Entry) (t : ℕ) (c : Core) (d : ℕ) (readings : ℕ → Reading) → Holds S schedule t c
         → StoresStand S c (λ e. e ≡ d) (λ p e r. r ≡ readings p) → AreNumbered S.protocol c.procs → IsReached S d readings
         → (stores : ℕ → Stored) × AreRead S.guests.count readings stores × AreStored S stores × AreSuited S c.acts d stores }
+    ensures alike { (S : System Guest) (acts : List Given) (d : ℕ) (one other : ℕ → Stored) → AreStored S one → AreStored S other
+        → ((p : ℕ) → p < S.guests.count → reading_of (one p) ≡ reading_of (other p)) → AreSuited S acts d one → AreSuited S acts d other }
     ensures numbered { (S : System M) (schedule : List Entry) (start : Start) (marks : List Mark) (c : Core) → IsSound S
         → Holds S schedule start.entries start.core → AreUpTo (1 + 2 * start.entries) start.core.procs
         → (is_global S.protocol ≡ true → ShareNumbers start.core.procs) → LeadsTo S schedule start marks c → start.entries + length marks < ENTRIES

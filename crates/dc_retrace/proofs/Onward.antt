@@ -8,6 +8,7 @@ use Rattle.dc_guest.specs.Answers.{answer_of}
 use Rattle.dc_guest.specs.Guest.{Guest, guests_of}
 use Rattle.dc_kernel.specs.declared.saved.Saved.{Saved}
 use Rattle.dc_model.proofs.Own.{own_no, own_yes}
+use Rattle.dc_model.proofs.Reports.{procs_next}
 use Rattle.dc_model.specs.Guests.{Answer, Event, Guests, is_send, is_visible}
 use Rattle.dc_model.specs.Guests.Event.{AtEnd, AtInternal, AtClock, AtRandom, AtInput, AtReceive, AtVisible, AtSend}
 use Rattle.dc_model.specs.Process.{Local, comes, fits, local, moved, shows}
@@ -18,9 +19,10 @@ use Rattle.dc_model.specs.declared.act.Act.TheVariants as act
 use Rattle.dc_model.specs.declared.act.Taken.{Taken}
 use Rattle.dc_proc.specs.Carried.{system}
 use Rattle.dc_protocols.specs.declared.protocol.Protocol.{Protocol}
+use Rattle.dc_plain.proofs.Lists.{get_set_other, get_set_same}
 use Rattle.dc_plain.specs.Playing.{Happens, Played, if_fits, world_in}
 use Rattle.dc_plain.specs.declared.applied.Applied.{Applied}
-use Rattle.dc_resume.proofs.Telling.{procs_next, told_is}
+use Rattle.dc_resume.proofs.Telling.{told_is}
 use Rattle.dc_retrace.specs.Trails.{HasWalked, IsSeenAs, IsTrail}
 use Rattle.dc_retrace.specs.Read.{stored_in}
 use Rattle.dc_retrace.specs.declared.trail.Trail.{Trail}
@@ -67,29 +69,7 @@ module _ {Mc : Type 0} (G : Guests Mc) where
       told : (act_of a ≡ b) × IsMail G acts p a
       told = told_is G acts p b a (sym (answer_by old (world_of G acts) p b same) ∙ given.0)
 
--- an item set in a list
-pub get_set_same : {A : Type 0} (xs : List A) (i : ℕ) (x : A) → i < length xs → slice_get (slice_set xs i x) i ≡ Some x
-get_set_same [] i x within = absurd (let off : ⊥ = omega (arith, within) in off)
-get_set_same (y ∷ xs) zero x within = refl
-get_set_same (y ∷ xs) (suc i) x within = get_set_same xs i x (omega (arith, within))
-
-pub get_set_other : {A : Type 0} (xs : List A) (i j : ℕ) (x : A) → i ≢ j → slice_get (slice_set xs i x) j ≡ slice_get xs j
-get_set_other [] i j x apart = refl
-get_set_other (y ∷ xs) zero zero x apart = absurd (apart refl)
-get_set_other (y ∷ xs) zero (suc j) x apart = refl
-get_set_other (y ∷ xs) (suc i) zero x apart = refl
-get_set_other (y ∷ xs) (suc i) (suc j) x apart = get_set_other xs i j x (λ e. apart (ap suc e))
-
--- an item behind others
-pub get_front : {A : Type 0} (xs ys : List A) (i : ℕ) → i < length xs → slice_get (xs ++ ys) i ≡ slice_get xs i
-get_front [] ys i within = absurd (let off : ⊥ = omega (arith, within) in off)
-get_front (x ∷ xs) ys zero within = refl
-get_front (x ∷ xs) ys (suc i) within = get_front xs ys i (omega (arith, within))
-
-pub get_end : {A : Type 0} (xs : List A) (x : A) → slice_get (xs ++ x ∷ []) (length xs) ≡ Some x
-get_end [] x = refl
-get_end (y ∷ xs) x = get_end xs x
-
+-- an item that is there
 pub get_some : {A : Type 0} (xs : List A) (i : ℕ) → i < length xs → (x : A) × (slice_get xs i ≡ Some x)
 get_some [] i less = absurd (let off : ⊥ = omega (arith, less) in off)
 get_some (x ∷ xs) zero less = (x, refl)

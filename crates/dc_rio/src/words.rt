@@ -53,6 +53,8 @@ impl<C: Checkpoint> Checkpoint for OnWords<C> {
 
     ghost steady = { λ s dev. C.steady s.store dev };
 
+    ghost outlasts = { λ s dev g. C.outlasts s.store dev g };
+
     ghost leaves = { λ s dev d reading. C.leaves s.store dev d reading };
 
     ghost numbers = { λ s dev e. C.numbers s.store dev e };
@@ -139,6 +141,8 @@ impl<C: Checkpoint> Checkpoint for OnWords<C> {
     }
 
     ghost may_log = { λ s dev ready. C.may_log s.store dev ready };
+
+    ghost from_outlasts = { λ s dev g from. C.from_outlasts s.store dev g from };
 
     ghost settled = { λ s dev ready d e r low high. C.settled s.store dev ready d e r low high };
 

@@ -1,10 +1,13 @@
 -- What a run goes on with, by the told files.
-use Rattle.std.proofs.Common.{◌≡◌, ◌∙◌, ◌⊎◌, ◌+◌, ◌==◌, ◌&&◌, inl, inr, ℕ, Bool, true, false, List, Option, None, Some, IfOk, IfSome, IsErrOf, IsOkAnd, IsSome, OnErr, Result, Ok, Err, ap, length, nat_lt, refl, subst, sym}
+use Rattle.std.proofs.Common.{◌≡◌, ◌∙◌, ◌⊎◌, ◌+◌, ◌==◌, inl, inr, ℕ, Bool, true, false, List, Option, None, Some, IfErr, IfOk, IfSome, IsErrOf, IsOkAnd, IsSome, OnErr, Result, Ok, Err, ap, length, nat_lt, refl, subst, sym}
 use Rattle.std.proofs.lemmas.Bool.{and_parts, eqb-true, true≢false}
+use Rattle.dc_checkpoint.specs.declared.faults.StoreFault.{StoreFault}
 use Rattle.dc_check.proofs.Drawing.{drawn_when_played}
 use Rattle.dc_check.specs.Played.{first_stray, played}
 use Rattle.dc_command.specs.Command.{Halted}
 use Rattle.dc_course.specs.Headline.{Setting}
+use Rattle.dc_course.specs.Lent.{TellsStores}
+use Rattle.dc_disk.specs.Logs.{AreLeftAt, comes_of_content}
 use Rattle.dc_guest.specs.Guest.{Guest}
 use Rattle.dc_model.specs.World.{World}
 use Rattle.dc_model.specs.declared.act.Taken.{Taken}
@@ -22,6 +25,7 @@ use Rattle.dc_run.specs.declared.verdict.Did.TheVariants.{Resumed}
 use Rattle.dc_course.specs.Courses.{account_of as run_account}
 use Rattle.dc_course.specs.Running.{output}
 use Rattle.dc_course.specs.declared.course.Course.{Course}
+use Rattle.dc_media.specs.Devices.{of_disks}
 use Rattle.dc_media.specs.declared.disks.Disks as disks
 use Rattle.dc_model.proofs.Rising.{TurnsBelow}
 use Rattle.dc_model.specs.declared.entry.Entry.{Entry}
@@ -187,6 +191,23 @@ unsuited_by (faults.Failed q) v p same e = absurd (not_before is_unsuited (Devic
 unsuited_by (faults.Refused q why) v p same e = absurd (not_before is_unsuited (StoreRefused q why) (StoreUnsuited p) refl refl (sym same ∙ e))
 unsuited_by faults.Illegal v p same e = absurd (not_before is_unsuited NotHalted (StoreUnsuited p) refl refl (sym same ∙ e))
 
+abbrev is_refused : Verdict → Bool
+is_refused (StoreRefused p why) = true
+is_refused _ = false
+
+pub refused_by : (fault : RereadFault) (v : Verdict) (p : ℕ) (why : StoreFault) → v ≡ unresumed_by fault → v ≡ StoreRefused p why → fault ≡ faults.Refused p why
+refused_by (faults.Refused q said) v p why same e = let is : StoreRefused q said ≡ StoreRefused p why = sym same ∙ e in let one : q ≡ p = cc in let other : said ≡ why = cc in rw (one, other) refl
+refused_by (faults.Unsuited q) v p why same e = absurd (not_before is_refused (StoreUnsuited q) (StoreRefused p why) refl refl (sym same ∙ e))
+refused_by faults.Unsteady v p why same e = absurd (not_before is_refused (StoreUnsuited 0) (StoreRefused p why) refl refl (sym same ∙ e))
+refused_by faults.Memory v p why same e = absurd (not_before is_refused WantOfMemory (StoreRefused p why) refl refl (sym same ∙ e))
+refused_by (faults.Stopped q) v p why same e = absurd (not_before is_refused (DeviceStopped q) (StoreRefused p why) refl refl (sym same ∙ e))
+refused_by (faults.Failed q) v p why same e = absurd (not_before is_refused (DeviceFault q) (StoreRefused p why) refl refl (sym same ∙ e))
+refused_by faults.Illegal v p why same e = absurd (not_before is_refused NotHalted (StoreRefused p why) refl refl (sym same ∙ e))
+
+-- one that may have run did not want memory
+pub not_wanting : {T : Type 0} (fault : RereadFault) (v : Verdict) → v ≡ unresumed_by fault → may_have_run v ≡ true → IsErrOf {T = T} (Err fault) faults.Memory → ⊥
+not_wanting fault v same may e = let is : fault ≡ faults.Memory = cc in not_before may_have_run WantOfMemory v refl may (sym (same ∙ ap unresumed_by is))
+
 -- what it reported, by what it came to
 pub resumed_report : (halted : Bool) (run : Course) (outcome : Outcome) (v : Verdict) (entries : ℕ) (sink : SinkCourse)
     → outcome ≡ record { verdict = verdict_at halted run.ending; did = Resumed; acts = run.acts; marks = run.marks; lines = run.lines; difference = None }
@@ -201,11 +222,14 @@ account_is o run acts marks lines unkept = rw (acts, marks, lines, unkept) refl
 -- so it kept its promise
 pub is_resumed : {D : Type 0} (going : Going) (disk : disks.Ghosts D) (run : Course) (o : Outcome) (lent : Loan D) (out report : SinkCourse) (halted : Bool) → halted ≡ is_halted_again going
     → o.acts ≡ run.acts → o.marks ≡ run.marks → o.lines ≡ run.lines → run.journal.kept ≡ false → GoesOnKept disk going (run_account run) run.ending (output out.before out.after) lent
+    → (verdict_at (is_halted_again going) run.ending ≡ stood.Halted → TellsStores (of_disks disk) (length going.setting.images) lent.before lent.after
+    → AreLeftAt disk going.setting going.report.entries going.report.lines going.report.acts lent.before → AreLeftAt disk going.setting (going.report.entries + length run.marks.items) run.lines run.acts.items lent.after)
     → Reports (verdict_at halted run.ending) o.verdict (report_text (status_of (verdict_at halted run.ending)) (going.report.entries + length run.marks.items) run.acts.items run.lines) report
     → IsResumed going disk o lent out report
-is_resumed going disk run o lent out report halted again acts marks lines unkept kept reports = record {
+is_resumed going disk run o lent out report halted again acts marks lines unkept kept leaves reports = record {
   ending = run.ending;
   kept = subst (λ a. GoesOnKept disk going a run.ending (output out.before out.after) lent) (account_is o run acts marks lines unkept) kept;
+  halted = rw (acts, marks, lines) leaves;
   report_told = rw (acts, marks, lines) (subst (λ h. Reports (verdict_at h run.ending) o.verdict (report_text (status_of (verdict_at h run.ending)) (going.report.entries + length run.marks.items) run.acts.items run.lines) report) again reports);
 }
 
@@ -213,3 +237,7 @@ is_resumed going disk run o lent out report halted again acts marks lines unkept
 pub on_err_by : {T E P Q : Type 0} (r : Result T E) → (P → Q) → OnErr r P → OnErr r Q
 on_err_by (Ok x) by said = tt
 on_err_by (Err e) by said = by said
+
+-- a reading that did not end for what was read did not end so
+pub not_content : {T : Type 0} (r : Result T RereadFault) (why : RereadFault) → r ≡ Err why → comes_of_content why ≡ true → IfErr r (λ fault. comes_of_content fault ≡ false) → ⊥
+not_content r why e is said = true≢false (sym is ∙ subst (λ z. IfErr z (λ fault. comes_of_content fault ≡ false)) e said)

@@ -1,10 +1,12 @@
 -- The entries before a halt, and what is drawn at them.
-use Rattle.std.proofs.Common.{◌≡◌, ◌∙◌, ◌+◌, ◌<◌, ◌≤◌, ℕ, zero, suc, All, IfSome, List, [], ◌∷◌, Option, None, Some, true, ap, arith, drop, get_or, length, refl, slice_get, subst, sym, take}
+use Rattle.std.proofs.Common.{◌≡◌, ◌∙◌, ◌+◌, ◌<◌, ◌≤◌, ℕ, zero, suc, All, Bool, List, [], ◌∷◌, Option, None, Some, false, true, ap, arith, drop, get_or, length, refl, slice_get, subst, sym, take}
 use Rattle.std.proofs.lemmas.Bool.{ltb-true, true≢false}
 use Rattle.std.proofs.lemmas.List.{length-take, take-append-drop}
 use Rattle.std.proofs.lemmas.List.Elements.{All-cons, All-head, All-nil, All-tail, All-take}
 use Rattle.std.proofs.lemmas.Option.{get_or_from_slice_get, slice_get-get_or, slice_get_within}
 use Rattle.std.proofs.Math.ListN.{get_or-append}
+use Rattle.dc_course.specs.declared.ending.Ending.{Ending}
+use Rattle.dc_course.specs.declared.ending.Ending.TheVariants as ending
 use Rattle.dc_model.proofs.Rising.{TurnsBelow}
 use Rattle.dc_model.specs.Drawn.{DrawnFrom, draws}
 use Rattle.dc_model.specs.declared.act.Taken.{Taken}
@@ -13,8 +15,11 @@ use Rattle.dc_model.specs.declared.entry.Entry.TheVariants as entry
 use Rattle.dc_recovery.specs.Unstopped.{AreTurns}
 use Rattle.dc_report.specs.Reading.{AreActs}
 use Rattle.dc_world.specs.Worlds.{IsOfProcesses}
+use Rattle.dc_run.specs.Headline.{verdict_at}
 use Rattle.dc_run.specs.Opening.{entries_run, leaves_over}
 use Rattle.dc_run.specs.Resuming.{IsBehind}
+use Rattle.dc_run.specs.declared.verdict.Verdict.{Verdict}
+use Rattle.dc_run.specs.declared.verdict.Verdict.TheVariants.{Halted}
 
 -- no more are run than there are
 pub entries_few : (halt : Option ℕ) (entries : List Entry) → length (entries_run halt entries) ≤ length entries
@@ -108,3 +113,17 @@ below_few n next most (x ∷ acts) low are below = let rest = below_few n (suc x
 
 pub acts_below_few : (n most : ℕ) (acts : List Taken) → AreActs n 0 acts → TurnsBelow most acts → length acts ≤ most
 acts_below_few n most acts are below = let few = below_few n 0 most acts (omega arith) are below in omega (arith, few)
+
+abbrev pub is_halted_one : Verdict → Bool
+is_halted_one Halted = true
+is_halted_one _ = false
+
+-- only a run with entries left over is halted
+pub halted_said : (halted : Bool) (e : Ending) → verdict_at halted e ≡ Halted → halted ≡ true
+halted_said true e is = refl
+halted_said false ending.Done is = absurd (true≢false (sym (ap is_halted_one is)))
+halted_said false ending.Unfinished is = absurd (true≢false (sym (ap is_halted_one is)))
+halted_said false (ending.Device p) is = absurd (true≢false (sym (ap is_halted_one is)))
+halted_said false (ending.Store p why) is = absurd (true≢false (sym (ap is_halted_one is)))
+halted_said false ending.Sink is = absurd (true≢false (sym (ap is_halted_one is)))
+halted_said false (ending.Stopped p) is = absurd (true≢false (sym (ap is_halted_one is)))

@@ -43,14 +43,16 @@ pub with_ledger : {S : Type 0} (task : Task) (on : Devices S) (run : Course) (ou
     → outcome ≡ record { verdict = verdict_at (is_halted task) run.ending; did = Run; acts = run.acts; marks = run.marks; lines = run.lines; difference = None } → journal ≡ run.journal
     → n ≡ length task.setting.images → run.journal.kept ≡ keeps_journal task.ledger → (keeps_journal task.ledger ≡ true → AreTurns task.setting.schedule × (task.setting.stops ≡ []))
     → IsKept on (part_of task) (run_account run) run.ending (output out.before out.after) lent
+    → (verdict_at (is_halted task) run.ending ≡ Halted → on.tell (length task.setting.images) lent.before lent.after → on.resumable task.setting (length run.marks.items) run.lines run.acts.items lent.after)
     → Reports outcome.verdict o.verdict (ledger_text n outcome.verdict (account_of outcome (journal_in journal))) report
     → o.acts ≡ outcome.acts → o.marks ≡ outcome.marks → o.lines ≡ outcome.lines → IsReported task on o lent out report
-with_ledger task on run outcome journal o n lent out report is same count keeps turns kept reports acts marks lines = rw (acts, marks, lines) (rw is (record {
+with_ledger task on run outcome journal o n lent out report is same count keeps turns kept halted reports acts marks lines = rw (acts, marks, lines) (rw is (record {
   ending = run.ending;
   journal = journal_in run.journal;
   journal_is = kept_is run.journal ∙ keeps;
   turns = turns;
   kept = kept;
+  halted = halted;
   report_told = subst (λ k. Reports (verdict_at (is_halted task) run.ending) o.verdict (ledger_text k (verdict_at (is_halted task) run.ending) (run_account run)) report) count (rw (is, same) at reports);
 }))
 

@@ -4,6 +4,8 @@ mod Openings
 mod Audits
 mod Checks
 mod Halts
+mod LeftAgain
+mod Lefts
 mod Headlines
 mod Goings
 mod Ends

@@ -53,7 +53,7 @@ use Rattle.dc_audit.specs.declared.journal.Line.{Line}
 use Rattle.dc_command.specs.declared.command.Ledger.TheVariants as ledger
 use Rattle.dc_run.specs.Headline.{IsReported, Loan, Reports, SinkCourse, account_of, is_used_up, journal_or_report, keeps_journal, ledger_text, unreported, used_up_at, verdict_at}
 use Rattle.dc_run.specs.Opening.{Task, guests, halt_at, is_halted, part_of}
-use Rattle.dc_run.proofs.Halts.{drawn_more, drawn_within, entries_few, entries_fewer, turns_run}
+use Rattle.dc_run.proofs.Halts.{drawn_more, drawn_within, entries_few, entries_fewer, halted_said, turns_run}
 use Rattle.dc_run.proofs.Headlines.{not_used, used_said}
 use Rattle.dc_model.specs.Drawn.{Drawn}
 use Rattle.dc_model.specs.declared.act.Taken.{Taken}
@@ -199,20 +199,6 @@ reported_verdict : (stood v : Verdict) (text : List ℕ) (sink : SinkCourse) →
 reported_verdict stood v text sink calm (inl whole) = whole.0
 reported_verdict stood v text sink calm (inr cut) = absurd (no_rise sink.faults_before sink.faults_after calm cut.1)
 
-abbrev is_halted_one : Verdict → Bool
-is_halted_one Halted = true
-is_halted_one _ = false
-
--- only a run with entries left over is halted
-halted_said : (halted : Bool) (e : Ending) → verdict_at halted e ≡ Halted → halted ≡ true
-halted_said true e is = refl
-halted_said false ending.Done is = absurd (true≢false (sym (ap is_halted_one is)))
-halted_said false ending.Unfinished is = absurd (true≢false (sym (ap is_halted_one is)))
-halted_said false (ending.Device p) is = absurd (true≢false (sym (ap is_halted_one is)))
-halted_said false (ending.Store p why) is = absurd (true≢false (sym (ap is_halted_one is)))
-halted_said false ending.Sink is = absurd (true≢false (sym (ap is_halted_one is)))
-halted_said false (ending.Stopped p) is = absurd (true≢false (sym (ap is_halted_one is)))
-
 module _ {S : Type 0} (on : Devices S) (task : Task) (report_it : task.ledger ≡ ledger.Report) (o : Outcome) (lent : Loan S) (out report : SinkCourse) (given : IsGivenRun task.setting.images task.setting.inputs task.setting.schedule)
     (is : IsReported task on o lent out report) (tells : on.tell (length task.setting.images) lent.before lent.after) (calm : IsCalm out.faults_before out.faults_after)
     (calm' : IsCalm report.faults_before report.faults_after) (sink : o.verdict ≡ SinkFault outlet.Out → Rose out.faults_before out.faults_after) (unstopped : (p : ℕ) → o.verdict ≡ DeviceStopped p → ⊥)
@@ -239,7 +225,7 @@ module _ {S : Type 0} (on : Devices S) (task : Task) (report_it : task.ledger �
   halted_at said = let stood = sym (reported_verdict (verdict_at halted is.ending) o.verdict _ report calm' is.report_told) ∙ said in (stood, halted_said halted is.ending stood)
 
   pub run_passes : (shown' listed' : List ℕ) → out.after ≡ Some shown' → report.after ≡ Some listed'
-      → PassesFor task.setting listed' shown' o.acts.items × (o.verdict ≡ Halted → IsGoneOnWith task.setting listed' o.acts.items)
+      → PassesFor task.setting listed' shown' o.acts.items × (o.verdict ≡ Halted → IsGoneOnWith task.setting listed' o)
   run_passes shown' listed' at at' =
       let kept = is.kept tells in
       let h = kept.headline in
@@ -261,8 +247,7 @@ module _ {S : Type 0} (on : Devices S) (task : Task) (report_it : task.ledger �
             let status : status_of (verdict_at halted is.ending) ≡ 15 = ap status_of at_halt.0 in (
               record { setting = task.setting; report = record { status = 15; entries = length o.marks.items; acts = o.acts.items; lines = o.lines }; halt = halt_behind (length o.marks.items) (halt_at files names.plan) },
               rw (opens, here, list, reads, status, over, played_is) refl,
-              refl,
-              refl,
+              record { setting_is = refl; entries_are = refl; lines_are = refl; acts_are = refl },
             ),
       )
 

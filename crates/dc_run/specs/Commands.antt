@@ -15,7 +15,6 @@ use Rattle.dc_command.specs.declared.command.CommandFault.{CommandFault}
 use Rattle.dc_command.specs.declared.command.CommandFault.TheVariants as command
 use Rattle.dc_checkpoint.specs.declared.faults.StoreFault.{StoreFault}
 use Rattle.dc_words.specs.Results.{◌>>=◌, or_fault}
-use Rattle.dc_course.specs.Headline.{Setting}
 use Rattle.dc_plan.specs.declared.plan.Medium.{Medium}
 use Rattle.dc_plan.specs.declared.plan.Medium.TheVariants as medium
 use Rattle.dc_run.specs.Headline.{SinkCourse}

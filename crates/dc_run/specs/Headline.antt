@@ -105,13 +105,14 @@ IsKept on setting run ending out lent = on.tell (length setting.images) lent.bef
     → IsCourse setting run ending out (counts_of on.stops on.calls lent.before lent.after) (λ core x. on.left setting core x)
 
 -- with what it wrote at its end: the status is that of the verdict before that. Of a task the entries before its halt are run. One that wrote its journal was
--- given turns alone, and no stop was planned
+-- given turns alone, and no stop was planned. One that was halted left its devices so that it can be gone on with
 pub record IsReported {S : Type 0} (task : Task) (on : Devices S) (o : Outcome) (lent : Loan S) (out report : SinkCourse) : Type 0 where
   pub ending : Ending
   pub journal : Option (List Line)
   pub journal_is : is_some journal ≡ keeps_journal task.ledger
   pub turns : keeps_journal task.ledger ≡ true → AreTurns task.setting.schedule × (task.setting.stops ≡ [])
   pub kept : IsKept on (part_of task) (account_of o journal) ending (output out.before out.after) lent
+  pub halted : verdict_at (is_halted task) ending ≡ Halted → on.tell (length task.setting.images) lent.before lent.after → on.resumable task.setting (length o.marks.items) o.lines o.acts.items lent.after
   pub report_told : Reports (verdict_at (is_halted task) ending) o.verdict (ledger_text (length task.setting.images) (verdict_at (is_halted task) ending) (account_of o journal)) report
 
 -- the line of an outcome was written whole, or its sink failed and a part of its front was

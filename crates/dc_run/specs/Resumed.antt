@@ -1,5 +1,5 @@
 -- What a call of the program promises of a run that went on.
-use Rattle.std.specs.Prelude.{◌≡◌, ◌⊎◌, ◌<◌, ◌+◌, ℕ, List, Option, None, Some, IsSome, length, map, reverse}
+use Rattle.std.specs.Prelude.{◌≡◌, ◌⊎◌, ◌<◌, ◌+◌, ℕ, List, None, Some, IsSome, length, map, reverse}
 use Rattle.dc_checkpoint.specs.declared.faults.StoreFault.{StoreFault}
 use Rattle.dc_course.specs.Continued.{IsCourseOn}
 use Rattle.dc_course.specs.Courses.{counts_of}
@@ -7,7 +7,7 @@ use Rattle.dc_course.specs.Headline.{Account, Setting, system_in}
 use Rattle.dc_course.specs.Lent.{TellsStores, capped_by}
 use Rattle.dc_course.specs.Running.{Output, output}
 use Rattle.dc_course.specs.declared.ending.Ending.{Ending}
-use Rattle.dc_disk.specs.Logs.{AreLogsRead, FirstLogHas, IsFirstLogSteady, LogRefuses, LogsLeft, LogsStood}
+use Rattle.dc_disk.specs.Logs.{AreLeftAt, AreLogsRead, FirstLogHas, IsFirstLogSteady, LogRefuses, LogsLeft, LogsStood}
 use Rattle.dc_elf.specs.Loaded.{seen_image}
 use Rattle.dc_elf.specs.declared.image.Image.{Image}
 use Rattle.dc_guest.specs.Guest.{Guest}
@@ -27,7 +27,7 @@ use Rattle.dc_reread.specs.declared.faults.RereadFault.{RereadFault}
 use Rattle.dc_reread.specs.declared.faults.RereadFault.TheVariants as faults
 use Rattle.dc_run.specs.declared.outcome.Outcome.{Outcome}
 use Rattle.dc_run.specs.declared.verdict.Verdict.{Verdict}
-use Rattle.dc_run.specs.declared.verdict.Verdict.TheVariants.{DeviceFault, DeviceStopped, NotHalted, StoreRefused, StoreUnsuited, WantOfMemory}
+use Rattle.dc_run.specs.declared.verdict.Verdict.TheVariants.{DeviceFault, DeviceStopped, Halted, NotHalted, StoreRefused, StoreUnsuited, WantOfMemory}
 
 -- images that are seen as those of its setting
 pub record ImagesOf (going : Going) : Type 0 where
@@ -46,10 +46,14 @@ GoesOnKept disk going run ending out lent = (i : ImagesOf going) × (TellsStores
     → (lines : List Visible) (world : World Guest) → run_of (system_in going.setting).guests going.report.acts ≡ Some world → length lines ≡ going.report.lines → thin lines ≡ world.visibles
     → GoesOnFrom disk (onward_of going) i.images going.report.acts lines run ending out lent)
 
--- a run that went on and kept the promise, with its report, of both parts: the status is that of the verdict before the report
+-- a run that went on and kept the promise, with its report, of both parts: the status is that of the verdict before the report. One that was halted again left
+-- its disks so that it can be gone on with, where it went on from disks that a run left so
 pub record IsResumed {D : Type 0} (going : Going) (disk : disks.Ghosts D) (o : Outcome) (lent : Loan D) (out report : SinkCourse) : Type 0 where
   pub ending : Ending
   pub kept : GoesOnKept disk going (account_of o None) ending (output out.before out.after) lent
+  pub halted : verdict_at (is_halted_again going) ending ≡ Halted → TellsStores (of_disks disk) (length going.setting.images) lent.before lent.after
+      → AreLeftAt disk going.setting going.report.entries going.report.lines going.report.acts lent.before
+      → AreLeftAt disk going.setting (going.report.entries + length o.marks.items) o.lines o.acts.items lent.after
   pub report_told : Reports (verdict_at (is_halted_again going) ending) o.verdict (report_text (status_of (verdict_at (is_halted_again going) ending)) (going.report.entries + length o.marks.items) o.acts.items o.lines) report
 
 -- the verdict of a run that did not go on; that acts are no run was found before
@@ -70,15 +74,23 @@ IsUnsteady disk going lent = (i : ImagesOf going) × (IsSome (disk.told lent.aft
 abbrev pub IsFoundUnsuited : {D : Type 0} → disks.Ghosts D → Going → Loan D → ℕ → Type 0
 IsFoundUnsuited disk going lent p = (i : ImagesOf going) × (x : AreLogsRead disk (system_in (onward_of going)) i.images going.report.acts lent.before lent.after) × IsFirstUnsuited (system_in (onward_of going)) x.given x.decided x.stored p
 
--- so it was found, or it is the first one, whose decided number is not steady
-abbrev pub IsUnsuited : {D : Type 0} → disks.Ghosts D → Going → Loan D → ℕ → Type 0
-IsUnsuited disk going lent p = IsFoundUnsuited disk going lent p ⊎ ((p ≡ 0) × IsUnsteady disk going lent)
+-- the disks held what a run left that had come to what the report says, and tell what they hold still
+pub record WereLeft {D : Type 0} (disk : disks.Ghosts D) (going : Going) (lent : Loan D) : Type 0 where
+  pub left : AreLeftAt disk going.setting going.report.entries going.report.lines going.report.acts lent.before
+  pub told : (p : ℕ) → p < length going.setting.images → IsSome (disk.told lent.after p)
 
--- the log of process p stands for this refusal alone, under some decided number and under whatever number the first log may hold
+-- so it was found, or it is the first one, whose decided number is not steady; and a run that had come to what the report says did not leave the disks so
+pub record IsUnsuited {D : Type 0} (disk : disks.Ghosts D) (going : Going) (lent : Loan D) (p : ℕ) : Type 0 where
+  pub found : IsFoundUnsuited disk going lent p ⊎ ((p ≡ 0) × IsUnsteady disk going lent)
+  pub unleft : WereLeft disk going lent → ⊥
+
+-- the log of process p stands for this refusal alone, under some decided number and under whatever number the first log may hold; and a run that had come to
+-- what the report says did not leave the disks so
 pub record IsRefusedStore {D : Type 0} (disk : disks.Ghosts D) (going : Going) (lent : Loan D) (p : ℕ) (fault : StoreFault) : Type 0 where
   pub images : ImagesOf going
   pub some : (d : ℕ) × LogRefuses disk images.images d lent.after p fault
   pub under : (d : ℕ) → FirstLogHas disk images.images lent.after d → LogRefuses disk images.images d lent.after p fault
+  pub unleft : WereLeft disk going lent → ⊥
 
 -- under whatever number the first log may hold now, it held that number before, and each log stands for nothing that it did not stand for
 abbrev pub HaveStood : {D : Type 0} → disks.Ghosts D → Going → Loan D → Type 0

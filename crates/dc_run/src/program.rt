@@ -113,7 +113,7 @@ pub fn dc<L: Library, K: Keeps, D: Disks, O: Sink, R: Sink>(
     // The journal that it wrote in place of its report, where its schedule was used up, has Save-work: an audit of it answers so.
     ensures passes { result.did ≡ Did.Run → IfSome (L.files lib.old) (λ files. IsOkAnd (work_of files words.now) (λ work. IfRun work (λ task.
         task.ledger ≡ Ledger.Report → (devices_of K.Keeps D.Disks (medium_of files words.now)).tell (length task.setting.images) (lent keeps.old disks.old) (lent keeps.new disks.new) → WritesPassing task.setting (course (O.held out.old) (O.held out.new) (O.faults out.old) (O.faults out.new))
-        (course (R.held report.old) (R.held report.new) (R.faults report.old) (R.faults report.new)) result.verdict result.acts.items))) }
+        (course (R.held report.old) (R.held report.new) (R.faults report.old) (R.faults report.new)) result))) }
 
     ensures saves { result.did ≡ Did.Run → IfSome (L.files lib.old) (λ files. IsOkAnd (work_of files words.now) (λ work. IfRun work (λ task.
         task.ledger ≡ Ledger.Journal → (devices_of K.Keeps D.Disks (medium_of files words.now)).tell (length task.setting.images) (lent keeps.old disks.old) (lent keeps.new disks.new) → is_used_up result.verdict ≡ true →
@@ -366,7 +366,7 @@ fn run_plan<L: Library, K: Keeps, D: Disks, O: Sink, R: Sink>(
     ensures begun { is_of_going_on result.verdict ≡ false }
     ensures passes { result.did ≡ Did.Run → IfSome (L.files lib.old) (λ files. IsOkAnd (as_verdict (opening_of files (order_view order.now))) (λ setting.
         order.now.ledger ≡ Ledger.Report → (devices_of K.Keeps D.Disks (medium_at files order.now.plan.now)).tell (length setting.images) (lent keeps.old disks.old) (lent keeps.new disks.new) → WritesPassing setting (course (O.held out.old) (O.held out.new) (O.faults out.old) (O.faults out.new))
-        (course (R.held report.old) (R.held report.new) (R.faults report.old) (R.faults report.new)) result.verdict result.acts.items)) }
+        (course (R.held report.old) (R.held report.new) (R.faults report.old) (R.faults report.new)) result)) }
     ensures ran { result.did ≡ Did.Run → (medium : Media) × (task : Task) × (task.ledger ≡ order.now.ledger) ×
         IsReported task (devices_of K.Keeps D.Disks medium) result (loan (lent keeps.old disks.old) (lent keeps.new disks.new)) (course (O.held out.old) (O.held out.new) (O.faults out.old) (O.faults out.new))
         (course (R.held report.old) (R.held report.new) (R.faults report.old) (R.faults report.new)) }

@@ -1,12 +1,13 @@
 //! Going on with a run that was halted.
 
-ghost use Rattle.std.specs.Prelude.{◌≡◌, ◌⊎◌, ◌≤◌, ◌<◌, ◌+◌, ◌^◌, ℕ, All, IfOk, IfSome, IsErrOf, IsOkAnd, None, Ok, OnErr, Some, false, true, length};
+ghost use Rattle.std.specs.Prelude.{◌≡◌, ◌⊎◌, ◌≤◌, ◌<◌, ◌+◌, ◌^◌, ℕ, All, IfErr, IfOk, IfSome, IsErrOf, IsOkAnd, None, Ok, OnErr, Some, false, true, length};
 ghost use Rattle.dc_checkpoint.specs.declared.faults.StoreFault.{StoreFault as StoreFaults};
 ghost use Rattle.dc_command.specs.Command.{halted_view};
 ghost use Rattle.dc_course.specs.Courses.{account_of};
 ghost use Rattle.dc_course.specs.Lent.{AreLeftFrom, KeepsTold};
 ghost use Rattle.dc_course.specs.Running.{output};
 ghost use Rattle.dc_course.specs.declared.ending.Ending.TheVariants as endings;
+ghost use Rattle.dc_disk.specs.Logs.{comes_of_content};
 ghost use Rattle.dc_limits.specs.declared.bounds.TheConstants.{ENTRIES};
 ghost use Rattle.dc_limits.specs.declared.sizes.TheConstants.{PROCESSES};
 ghost use Rattle.dc_media.specs.Causes.{Rose};
@@ -20,7 +21,7 @@ ghost use Rattle.dc_run.specs.Commands.{IsExact, IsOpenedFor, stores_used, work_
 ghost use Rattle.dc_run.specs.Headline.{Reports, course, loan, verdict_at};
 ghost use Rattle.dc_run.specs.Opening.{Files};
 ghost use Rattle.dc_run.specs.Outcomes.{IsNothing, status_of};
-ghost use Rattle.dc_run.specs.Resumed.{GoesOnKept, HaveStood, IsFoundUnsuited, IsRefusedStore, IsResumed, IsUnsteady, IsUnsuited, unresumed_by};
+ghost use Rattle.dc_run.specs.Resumed.{GoesOnKept, HaveStood, IsFoundUnsuited, IsRefusedStore, IsResumed, IsUnsteady, IsUnsuited, WereLeft, unresumed_by};
 ghost use Rattle.dc_run.specs.Resuming.{AsksToResume, Going as Goings, IsBehind, IsRunOf, comes_before, going_in, going_with, was_halted};
 ghost use Rattle.dc_run.specs.Again.{going_of};
 ghost use Rattle.dc_run.specs.Settings.{Answers, LibraryKept, has_ended, is_refusal, may_have_run, setting_of};
@@ -156,6 +157,7 @@ fn go_on_with<D: Disks, O: Sink>(
     ensures unsuited { (p : ℕ) → IsErrOf result (faults.Unsuited p) → IsFoundUnsuited D.Disks (going_of going) (loan disks.old disks.new) p }
     ensures unsteady { IsErrOf result faults.Unsteady → IsUnsteady D.Disks (going_of going) (loan disks.old disks.new) }
     ensures legal { ¬ IsErrOf result faults.Illegal }
+    ensures resumable { WereLeft D.Disks (going_of going) (loan disks.old disks.new) → IfErr result (λ fault. comes_of_content fault ≡ false) }
     ensures refused { (p : ℕ) (fault : StoreFaults) → IsErrOf result (faults.Refused p fault) → IsRefusedStore D.Disks (going_of going) (loan disks.old disks.new) p fault }
     ensures stood { (IsErrOf result faults.Memory → ⊥) → OnErr result (HaveStood D.Disks (going_of going) (loan disks.old disks.new)) }
     ensures stopped { (p : ℕ) → IsErrOf result (faults.Stopped p) → Rose (D.stops disks.old p) (D.stops disks.new p) }

@@ -135,6 +135,7 @@ module _ {C D : Type 0} (g : checkpoint.Ghosts C D) (images : List Image) (old n
     exposed_are = λ q less. ap (λ xs. slice_index xs q) exposed ∙ world.exposed_are q less;
     lines_are = world.lines_are ∙ sym lines;
     numbered = λ alone. absurd (true≢false (sym together ∙ alone));
+    undecided = λ alone. absurd (true≢false (sym together ∙ alone));
     decided = λ _. record {
       least = (world.decided together).least;
       steady = steady;

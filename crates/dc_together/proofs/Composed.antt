@@ -197,6 +197,7 @@ world_shown g S together c x n more lines long was world = record {
   exposed_are = world.exposed_are;
   lines_are = let l = length-append more lines in omega (arith, l, long, was);
   numbered = λ alone. absurd (true≢false (sym together ∙ alone));
+  undecided = λ alone. absurd (true≢false (sym together ∙ alone));
   decided = λ is. let d = world.decided is in record { least = d.least; steady = d.steady; saved = d.saved; held = d.held; few = λ m p counts inside off. let most = d.few m p counts inside off in omega (arith, most) };
 }
 

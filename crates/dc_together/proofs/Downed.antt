@@ -62,6 +62,7 @@ module _ {C D : Type 0} (g : checkpoint.Ghosts C D) (S : System Guest) (together
     exposed_are = λ q less. ap (λ xs. slice_index xs q) exposed ∙ world.exposed_are q less;
     lines_are = world.lines_are ∙ sym lines;
     numbered = λ alone. absurd (true≢false (sym together ∙ alone));
+    undecided = λ alone. absurd (true≢false (sym together ∙ alone));
     decided = λ _. decided_down;
   }
 
@@ -93,5 +94,6 @@ module _ {C D : Type 0} (g : checkpoint.Ghosts C D) (S : System Guest) (together
       exposed_are = λ q less. ap (λ xs. slice_index xs q) exposed ∙ world.exposed_are q less ∙ sym (exposed_still q less);
       lines_are = world.lines_are ∙ sym lines;
       numbered = λ alone. absurd (true≢false (sym together ∙ alone));
+      undecided = λ alone. absurd (true≢false (sym together ∙ alone));
       decided = λ _. decided_down;
     }

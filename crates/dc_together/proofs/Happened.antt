@@ -275,6 +275,7 @@ module _ {C D : Type 0} (g : checkpoint.Ghosts C D) (laws : Laws g) (images : Li
           exposed_are = exposed_next;
           lines_are = world.lines_are ∙ sym lines_are;
           numbered = λ alone. absurd (true≢false (sym together ∙ alone));
+          undecided = λ alone. absurd (true≢false (sym together ∙ alone));
           decided = λ _. let was = world.decided together in record {
             least = was.least;
             steady = steady;

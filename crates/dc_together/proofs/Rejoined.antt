@@ -108,5 +108,6 @@ module _ {C D : Type 0} (g : checkpoint.Ghosts C D) (S : System Guest) (sound : 
             ∙ sym (ap (last_at S.exposes S.guests q) (unlogged_is q) ∙ last_oldest S.exposes S.guests q (reach S q (own q c.acts) (save q)) (own q c.acts) (omega arith));
         lines_are = world.lines_are ∙ sym lines;
         numbered = λ alone. absurd (true≢false (sym together ∙ alone));
+        undecided = λ alone. absurd (true≢false (sym together ∙ alone));
         decided = λ _. decided;
       }

@@ -130,6 +130,8 @@ impl<K: Keeps> Checkpoint for Segment<K> {
 
     ghost steady = { λ s dev. Unit {0} };
 
+    ghost outlasts = { λ s dev g. Unit {0} };
+
     ghost leaves = { λ s dev d r. StandsFor (shape_of s.frame) (seen K.Keeps s.frame dev) d r };
 
     ghost numbers = { λ s dev e. Numbers (seen K.Keeps s.frame dev) e };
@@ -248,6 +250,8 @@ impl<K: Keeps> Checkpoint for Segment<K> {
     }
 
     ghost may_log = { λ s dev ready. tt };
+
+    ghost from_outlasts = { λ s dev g from. tt };
 
     ghost settled = { λ s dev ready d e r low high. settled_reading (shape_of s.frame) (since_of s.marks) _ ready d e r };
 

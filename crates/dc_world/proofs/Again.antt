@@ -153,13 +153,16 @@ module _ {C D : Type 0} (g : checkpoint.Ghosts C D) (setup : Setup) (earlier : E
 
   module _ (some : 0 < length setup.images.items) (few : entries ≤ 1000000) (free : is_causal setup.protocol ≡ false) (exposed : AreExposed T read.given w.exposed.items)
       (steady : At 0 stores (λ c. g.steady c dev)) where
-    numbered : is_joint setup.protocol ≡ true → (e : ℕ) → numbers_of g stage e → e ≡ read.decided
-    numbered joint e counts =
+    numbered : (e : ℕ) → numbers_of g stage e → e ≡ read.decided
+    numbered e counts =
         let (c, there, image, image_is) = store_at 0 some in
         read.numbers image c image_is (over 0 c there image image_is) e (some_and (λ z. g.numbers z dev e) (slice_get stores 0) c there counts)
 
+    undecided : is_joint setup.protocol ≡ false → read.decided ≡ 0
+    undecided = ((are 0 (let e = length-map setup.images.items seen_image in omega (arith, e, some))).decided refl).alone
+
     number_is : (e : ℕ) → decided_by (is_joint setup.protocol) (numbers_of g stage) e → e ≡ read.decided
-    number_is = decided_is (is_joint setup.protocol) (numbers_of g stage) read.decided numbered ((are 0 (let e = length-map setup.images.items seen_image in omega (arith, e, some))).decided refl).alone
+    number_is = decided_is (is_joint setup.protocol) (numbers_of g stage) read.decided (λ _. numbered) undecided
 
     read_is : (p e : ℕ) (r : Reading) → p < T.guests.count → decided_by (is_joint setup.protocol) (numbers_of g stage) e → leaves_of g stage p e r → r ≡ reading_of (read.stored p)
     read_is p e r less counts left =
@@ -182,6 +185,7 @@ module _ {C D : Type 0} (g : checkpoint.Ghosts C D) (setup : Setup) (earlier : E
       left = let e = begins.left_is in omega (arith, e, few);
       read = read_is;
       numbers = numbered;
+      alone = undecided;
       steady = λ joint. let (c, there, image, image_is) = store_at 0 some in and_some (λ z. g.steady z dev) (slice_get stores 0) c there (steady c there);
     }
 

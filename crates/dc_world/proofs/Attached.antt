@@ -117,8 +117,8 @@ module _ {C D : Type 0} (g : checkpoint.Ghosts C D) (leaves_alike : (b c : C) (d
 
   -- what was read of all
   unfoldable pub is_beside : (S : System Guest) (acts : List Taken) (d : ℕ) (given : List Given) (stored : ℕ → Stored) → IsRun S.guests given → reported given ≡ acts → AreStored S stored → AreReadAs g d stored (on stores1 new) → AllOld g (on stores old) (on stores1 new) d
-      → AtPair 0 stores stores1 (λ b c. always b → AreAll d (g.numbers c new)) → IsReadBeside g S images acts old new
-  is_beside S acts d given stored run reports are read all numbers = record {
+      → AtPair 0 stores stores1 (λ b c. always b → AreAll d (g.numbers c new)) → AtPair 0 stores stores1 (λ b c. (e : ℕ) → g.numbers c new e → g.numbers b old e × AllOld g (on stores old) (on stores1 new) e) → IsReadBeside g S images acts old new
+  is_beside S acts d given stored run reports are read all numbers stands = record {
     decided = d;
     given = given;
     stored = stored;
@@ -129,4 +129,5 @@ module _ {C D : Type 0} (g : checkpoint.Ghosts C D) (leaves_alike : (b c : C) (d
     are_read = all_read d stored read;
     stood = all_stood d all;
     numbers = all_numbered d numbers;
+    were = λ e has. let (b, z, b_at, z_at, counts, back) = number_read e has in back (stands b z b_at z_at e counts).0;
   }

@@ -13,7 +13,7 @@ use Rattle.dc_words.specs.Lists.{lists_of}
 use Rattle.dc_protocols.specs.Rules.{is_joint}
 use Rattle.dc_protocols.specs.declared.protocol.Protocol.{Protocol}
 use Rattle.dc_twophase.proofs.Pairs.{before_it}
-use Rattle.dc_world.proofs.Begun.{get_end, get_front}
+use Rattle.dc_plain.proofs.Lists.{get_end, get_front}
 use Rattle.dc_world.proofs.Felling.{handled_falls}
 use Rattle.dc_together.specs.Joints.{AreUp, FallTogether, whose}
 use Rattle.dc_world.proofs.Over.{over_still}

@@ -297,6 +297,7 @@ module _ {C D : Type 0} (g : checkpoint.Ghosts C D) (setup : Setup) (entries : �
       exposed_are = λ p less. ap (λ xs. slice_index xs p) begins.exposed_are ∙ get_or-replicate (length images) p 0 0 (within p less);
       lines_are = sym begins.lines_are;
       numbered = λ _. number_of;
+      undecided = λ _. zero;
       decided = λ _. decided_first;
     }
 

@@ -70,7 +70,7 @@ pub record Refuses {C D : Type 0} (g : checkpoint.Ghosts C D) (images : List Ima
   pub only : OverAny g images p (λ c. (r : Reading) → g.leaves c dev d r → r ≡ Err fault)
 
 -- all stores were read under one decided number, beside acts that are a run with these answers: what each stands for now under that number, and stood for
--- before
+-- before, and which number the first one may hold, and might hold before
 pub record IsReadBeside {C D : Type 0} (g : checkpoint.Ghosts C D) (S : System Guest) (images : List Image) (acts : List Taken) (old new : D) : Type 0 where
   pub decided : ℕ
   pub given : List Given
@@ -82,6 +82,7 @@ pub record IsReadBeside {C D : Type 0} (g : checkpoint.Ghosts C D) (S : System G
   pub are_read : (p : ℕ) → OverAny g images p (λ c. (r : Reading) → g.leaves c new decided r → r ≡ reading_of (stored p))
   pub stood : Stood g images decided old new
   pub numbers : OverAny g images 0 (λ c. AreAll decided (g.numbers c new))
+  pub were : (d : ℕ) → HasNumber g images new d → HasNumber g images old d
 
 -- each was read of its process's store, with room for another log
 abbrev pub AreRead : ℕ → List Saved → Type 0
@@ -117,7 +118,8 @@ pub record IsReopened {C D : Type 0} (g : checkpoint.Ghosts C D) (S : System Gue
   pub exposed : AreExposed S acts x.exposed
   pub left : x.left ≤ ENTRIES
   pub read : (p e : ℕ) (r : Reading) → p < S.guests.count → decided_by (is_joint S.protocol) (numbers_of g x) e → leaves_of g x p e r → r ≡ reading_of (stores p)
-  pub numbers : is_joint S.protocol ≡ true → (e : ℕ) → numbers_of g x e → e ≡ d
+  pub numbers : (e : ℕ) → numbers_of g x e → e ≡ d
+  pub alone : is_joint S.protocol ≡ false → d ≡ 0
   pub steady : is_joint S.protocol ≡ true → IsSomeAnd (store_of x 0) (λ c. g.steady c x.dev)
 
 -- what was done is what was reported, nobody is up, and so much more may be done

@@ -56,7 +56,7 @@ returns-in-Err-clause-stopped g c stores at index images schedule core told_old 
     (λ r l. c.recover.ensures.stands r l) (ap is_up here) falls
     (λ q ne. c.put-in-Err.ensures.others q (λ e. ne (sym e)) ∙ sym (put_other slots0 p q (Some (Down c.args.down)) (λ e. ne (sym e))))
     (c.put-in-Err.ensures.long ∙ sym long_old) (ap (λ (w : Processes). w.protocol) c.put-in-Err.ensures.rest) (ap (λ (w : Processes). lists_of w.inputs.items) c.put-in-Err.ensures.rest)
-    (ap (λ (w : Processes). w.acts.items) c.put-in-Err.ensures.rest) (ap (λ (w : Processes). w.exposed.items) c.put-in-Err.ensures.rest) (ap (λ (w : Processes). w.lines + 0) c.put-in-Err.ensures.rest ∙ no_more) (omega (arith, left_is))
+    (ap (λ (w : Processes). w.acts.items) c.put-in-Err.ensures.rest) (ap (λ (w : Processes). w.exposed.items) c.put-in-Err.ensures.rest) (ap (λ (w : Processes). w.lines + 0) c.put-in-Err.ensures.rest ∙ no_more) (omega (arith, left_is)) c.recover.ensures.no_higher
 
 -- where a run has come to, what came back has counts for the turns that are left
 impossible : (g : given.Over) (c : goal.After-put g) → WithStores g.C.Checkpoint c.args.turn.now.p c.args.store.now (λ stores. HasNoRun g.C.Checkpoint (with_slot c.args.turn.now.p (Down c.args.down) (stage_of stores c.args.dev.now c.args.processes.now))
@@ -181,5 +181,5 @@ returns-in-Ok-clause-turned g c stores at index images schedule core told_old to
     (subst (λ m. LearnsAll c.args.processes.now.protocol m p upto (Some (Up up)) (slot_at w2.slots.items p)) (sym long_old) c.rise.ensures.learned)
     (λ q less ne. subst (λ s. Learns p (slice_index (held up).based q) s (slot_at w2.slots.items q)) (sym (put_other slots0 p q (Some (Down c.args.down)) ne)) (c.rise.ensures.others q (subst (λ m. q < m) long_old less) ne))
     (c.rise.ensures.long ∙ sym long_old) (ap (λ (w : Processes). w.protocol) c.rise.ensures.rest) (ap (λ (w : Processes). lists_of w.inputs.items) c.rise.ensures.rest) (ap (λ (w : Processes). w.exposed.items) c.rise.ensures.rest)
-    (ap (λ (w : Processes). w.lines + 0) c.rise.ensures.rest ∙ no_more) (omega (arith, left_is)) c.rise.ensures.acts in
+    (ap (λ (w : Processes). w.lines + 0) c.rise.ensures.rest ∙ no_more) (omega (arith, left_is)) c.rise.ensures.acts c.recover.ensures.no_higher in
     subst (λ m. IsTurned g.C.Checkpoint images core old new (entry.Turn c.args.turn.now) (marked m None)) (sym c.rise.ensures.mark) turned

@@ -120,6 +120,7 @@ returns-in-Ok-clause-went g c stores at index images schedule core words words1 
     (numbered_more (2 ^ 32 - 1 - 2 * c.args.processes.now.left + 2) (2 ^ 32 - 1 - 2 * (c.tell.new.processes.left - 1)) (g.C.Checkpoint.leaves c.take_in.new.store c.take_in.new.dev 0) (omega (arith, c.requires.left, left_is, c.requires.next.counts.commit))
     (t.numbered 0 (2 ^ 32 - 1 - 2 * c.args.processes.now.left) c.requires.next.floor (omega (arith, c.requires.next.counts.commit))
     (numbered_less (2 ^ 32 - 1 - 2 * c.args.processes.now.left) (leaves_of g.C.Checkpoint old p 0) (g.C.Checkpoint.leaves c.args.store.now c.args.dev.now 0) (λ r l. and_some (λ x. g.C.Checkpoint.leaves x c.args.dev.now 0 r) (slice_get stores p) c.args.store.now at l) (world.numbered alone p inside))))
+    c.in-Ok.ensures.call.no_higher
 
 pub returns-in-Err-clause-fell : goal.returns-in-Err-clause-fell
 returns-in-Err-clause-fell g c stores at index images schedule core words alone told0 now world inside given =
@@ -194,7 +195,8 @@ returns-in-Err-clause-fell g c stores at index images schedule core words alone 
           (numbered_more (2 ^ 32 - 1 - 2 * c.args.processes.now.left + 2) (2 ^ 32 - 1 - 2 * (c.fall.new.processes.left - 1)) (g.C.Checkpoint.leaves c.fall.new.store c.take_in.new.dev 0) (omega (arith, c.requires.left, left_is, c.requires.next.counts.commit))
           (numbered_less (2 ^ 32 - 1 - 2 * c.args.processes.now.left + 2) (g.C.Checkpoint.leaves c.take_in.new.store c.take_in.new.dev 0) (g.C.Checkpoint.leaves c.fall.new.store c.take_in.new.dev 0) (λ r l. c.fall.ensures.store.stands c.take_in.new.dev 0 r (omega arith) l)
           (t.numbered 0 (2 ^ 32 - 1 - 2 * c.args.processes.now.left) c.requires.next.floor (omega (arith, c.requires.next.counts.commit))
-          (numbered_less (2 ^ 32 - 1 - 2 * c.args.processes.now.left) (leaves_of g.C.Checkpoint old p 0) (g.C.Checkpoint.leaves c.args.store.now c.args.dev.now 0) (λ r l. and_some (λ x. g.C.Checkpoint.leaves x c.args.dev.now 0 r) (slice_get stores p) c.args.store.now at l) (world.numbered alone p inside))))),
+          (numbered_less (2 ^ 32 - 1 - 2 * c.args.processes.now.left) (leaves_of g.C.Checkpoint old p 0) (g.C.Checkpoint.leaves c.args.store.now c.args.dev.now 0) (λ r l. and_some (λ x. g.C.Checkpoint.leaves x c.args.dev.now 0 r) (slice_get stores p) c.args.store.now at l) (world.numbered alone p inside)))))
+          (λ m below e has. c.in-Err.ensures.call.no_higher m below e (c.fall.ensures.store.numbers c.take_in.new.dev e has)),
     )
 
 -- the others, and what its own store needs

@@ -1,4 +1,4 @@
-use Rattle.std.proofs.Common.{◌≡◌, ◌∙◌, ◌⊎◌, ◌≤◌, ◌<◌, ℕ, List, Err, IfOk, IsErrOf, IsSome, Result, OnErr, true, ap, arith, inl, inr, length, refl, reverse, rules, subst, sym}
+use Rattle.std.proofs.Common.{◌≡◌, ◌∙◌, ◌⊎◌, ◌≤◌, ◌<◌, ℕ, List, Err, IfOk, IsErrOf, IsSome, Result, OnErr, ap, arith, inl, inr, length, refl, reverse, rules, subst, sym}
 use Rattle.std.proofs.lemmas.Bool.{cases_order}
 use Rattle.std.proofs.lemmas.Result.{IfOk-weaker}
 use Rattle.dc_course.specs.Continued.{IsCourseOn, IsEarlier, setting_from}
@@ -6,6 +6,7 @@ use Rattle.dc_course.specs.Courses.{account_of, counts_of}
 use Rattle.dc_course.specs.Headline.{system_in}
 use Rattle.dc_course.specs.Lent.{IsLeftAlone, KeepsTold, TellsStores, capped_by}
 use Rattle.dc_course.specs.Running.{output}
+use Rattle.dc_disk.proofs.Rereadable.{resumable}
 use Rattle.dc_disk.proofs.Rereading.{disk_part, first_steady, has_number, log_refuses, logs_read, logs_stood, number_logged, on_errs, said_err}
 use Rattle.dc_disk.specs.Logs.{AreLogsRead, FirstLogHas, IsFirstLogSteady, LogRefuses, LogsLeft, LogsStood}
 use Rattle.dc_media.specs.Causes.{Rose}
@@ -92,14 +93,14 @@ returns-clause-unsuited g c p e =
     let found = c.go_on-course.ensures.unsuited p e in
     subst (λ k. (x : AreLogsRead g.D.Disks of images acts c.args.disks.now k) × IsFirstUnsuited of x.given x.decided x.stored p) {x = c.go_on-course.new.dev.device.now} (search rules)
     (subst (λ k. (x : AreLogsRead g.D.Disks of images acts k c.go_on-course.new.dev.device.now) × IsFirstUnsuited of x.given x.decided x.stored p) lent
-    (logs_read g.D.Disks (λ d. d.device.now) (λ s. shape_of s.store.frame) (record { sizes = λ s. refl; forms = λ s. refl; kernels = λ s. s.store.frame.layout; events = λ s. s.store.frame.events; firsts = λ s. refl; leaves_to = λ s x d r l. l; leaves_from = λ s x d r l. l; numbers_to = λ s x d l. l; numbers_from = λ s x d l. l; steady_to = λ s x kept none. record { kept = kept; high = λ e held. inr (omega (arith, none)) } }) images c.new-armed.result c.go_on-course.new.dev of acts found.0, found.1))
+    (logs_read g.D.Disks (λ d. d.device.now) (λ s. shape_of s.store.frame) (record { sizes = λ s. refl; forms = λ s. refl; kernels = λ s. s.store.frame.layout; events = λ s. s.store.frame.events; firsts = λ s. refl; leaves_to = λ s x d r l. l; leaves_from = λ s x d r l. l; numbers_to = λ s x d l. l; numbers_from = λ s x d l. l; steady_to = λ s x kept none. record { kept = kept; high = λ e held. inr (omega (arith, none)) }; steady_from = λ s x steady. steady.kept }) images c.new-armed.result c.go_on-course.new.dev of acts found.0, found.1))
 
 pub returns-clause-refused : goal.returns-clause-refused
 returns-clause-refused g c p fault e =
     let images = c.args.setup.images.items in
     let refuses = c.go_on-course.ensures.refused p fault e in
     subst (λ k. (d : ℕ) × LogRefuses g.D.Disks images d k p fault) {x = c.go_on-course.new.dev.device.now} (search rules)
-    (refuses.0, log_refuses g.D.Disks (λ d. d.device.now) (λ s. shape_of s.store.frame) (record { sizes = λ s. refl; forms = λ s. refl; kernels = λ s. s.store.frame.layout; events = λ s. s.store.frame.events; firsts = λ s. refl; leaves_to = λ s x d r l. l; leaves_from = λ s x d r l. l; numbers_to = λ s x d l. l; numbers_from = λ s x d l. l; steady_to = λ s x kept none. record { kept = kept; high = λ e held. inr (omega (arith, none)) } }) images c.new-armed.result c.go_on-course.new.dev refuses.0 p fault refuses.1)
+    (refuses.0, log_refuses g.D.Disks (λ d. d.device.now) (λ s. shape_of s.store.frame) (record { sizes = λ s. refl; forms = λ s. refl; kernels = λ s. s.store.frame.layout; events = λ s. s.store.frame.events; firsts = λ s. refl; leaves_to = λ s x d r l. l; leaves_from = λ s x d r l. l; numbers_to = λ s x d l. l; numbers_from = λ s x d l. l; steady_to = λ s x kept none. record { kept = kept; high = λ e held. inr (omega (arith, none)) }; steady_from = λ s x steady. steady.kept }) images c.new-armed.result c.go_on-course.new.dev refuses.0 p fault refuses.1)
 
 pub returns-clause-headline : goal.returns-clause-headline
 returns-clause-headline g c =
@@ -122,23 +123,23 @@ returns-clause-headline g c =
     }) lines
     (subst (λ ss. IsEarlier (setting_from c.args.setup c.args.schedule.now ss c.args.earlier.now.entries) c.args.earlier.now lines) (sym c.new-armed.ensures.stops) earlier) in
     disk_part disk c.args.setup c.args.earlier.now c.args.schedule.now armed.plan.stops c.args.stops.items lines (account_of course) course.ending out (λ d. d.device.now) armed dev part.0 c.args.disks.now part.3 part.4
-    c.new-armed.ensures.stops lent c.requires.some part.2 (λ s. shape_of s.store.frame) (record { sizes = λ s. refl; forms = λ s. refl; kernels = λ s. s.store.frame.layout; events = λ s. s.store.frame.events; firsts = λ s. refl; leaves_to = λ s x d r l. l; leaves_from = λ s x d r l. l; numbers_to = λ s x d l. l; numbers_from = λ s x d l. l; steady_to = λ s x kept none. record { kept = kept; high = λ e held. inr (omega (arith, none)) } })) c.go_on-course.ensures.headline)
+    c.new-armed.ensures.stops lent c.requires.some part.2 (λ s. shape_of s.store.frame) (record { sizes = λ s. refl; forms = λ s. refl; kernels = λ s. s.store.frame.layout; events = λ s. s.store.frame.events; firsts = λ s. refl; leaves_to = λ s x d r l. l; leaves_from = λ s x d r l. l; numbers_to = λ s x d l. l; numbers_from = λ s x d l. l; steady_to = λ s x kept none. record { kept = kept; high = λ e held. inr (omega (arith, none)) }; steady_from = λ s x steady. steady.kept })) c.go_on-course.ensures.headline)
 
 pub returns-clause-unsteady : goal.returns-clause-unsteady
 returns-clause-unsteady g c e =
     let images = c.args.setup.images.items in
     let lent : c.new-armed.result.device.now ≡ c.args.disks.now = ap (λ b. b.now) c.new-armed.ensures.device in
     subst (λ k. IsSome (g.D.Disks.told k 0) → IsFirstLogSteady g.D.Disks images c.args.disks.now → ⊥) {x = c.go_on-course.new.dev.device.now} (search rules)
-    (λ told first. c.go_on-course.ensures.unsteady e told (first_steady g.D.Disks (λ d. d.device.now) (λ s. shape_of s.store.frame) (record { sizes = λ s. refl; forms = λ s. refl; kernels = λ s. s.store.frame.layout; events = λ s. s.store.frame.events; firsts = λ s. refl; leaves_to = λ s x d r l. l; leaves_from = λ s x d r l. l; numbers_to = λ s x d l. l; numbers_from = λ s x d l. l; steady_to = λ s x kept none. record { kept = kept; high = λ e held. inr (omega (arith, none)) } }) images c.new-armed.result (subst (IsFirstLogSteady g.D.Disks images) (sym lent) first)))
+    (λ told first. c.go_on-course.ensures.unsteady e told (first_steady g.D.Disks (λ d. d.device.now) (λ s. shape_of s.store.frame) (record { sizes = λ s. refl; forms = λ s. refl; kernels = λ s. s.store.frame.layout; events = λ s. s.store.frame.events; firsts = λ s. refl; leaves_to = λ s x d r l. l; leaves_from = λ s x d r l. l; numbers_to = λ s x d l. l; numbers_from = λ s x d l. l; steady_to = λ s x kept none. record { kept = kept; high = λ e held. inr (omega (arith, none)) }; steady_from = λ s x steady. steady.kept }) images c.new-armed.result (subst (IsFirstLogSteady g.D.Disks images) (sym lent) first)))
 
 pub returns-clause-refused_under : goal.returns-clause-refused_under
 returns-clause-refused_under g c d = subst (λ k. FirstLogHas g.D.Disks c.args.setup.images.items k d → (p : ℕ) (why : StoreFault) → IsErrOf c.go_on-course.result (fault.Refused p why) → LogRefuses g.D.Disks c.args.setup.images.items d k p why) {x = c.go_on-course.new.dev.device.now} (search rules)
     (λ held p why e.
     let images = c.args.setup.images.items in
     let handles = said_err c.go_on-course.result (fault.Refused p why) e (c.go_on-course.ensures.handles (λ wanting. not_wanting p why c.go_on-course.result e wanting)) in
-    log_refuses g.D.Disks (λ d. d.device.now) (λ s. shape_of s.store.frame) (record { sizes = λ s. refl; forms = λ s. refl; kernels = λ s. s.store.frame.layout; events = λ s. s.store.frame.events; firsts = λ s. refl; leaves_to = λ s x d r l. l; leaves_from = λ s x d r l. l; numbers_to = λ s x d l. l; numbers_from = λ s x d l. l; steady_to = λ s x kept none. record { kept = kept; high = λ e held. inr (omega (arith, none)) } }) images c.new-armed.result c.go_on-course.new.dev d p why
+    log_refuses g.D.Disks (λ d. d.device.now) (λ s. shape_of s.store.frame) (record { sizes = λ s. refl; forms = λ s. refl; kernels = λ s. s.store.frame.layout; events = λ s. s.store.frame.events; firsts = λ s. refl; leaves_to = λ s x d r l. l; leaves_from = λ s x d r l. l; numbers_to = λ s x d l. l; numbers_from = λ s x d l. l; steady_to = λ s x kept none. record { kept = kept; high = λ e held. inr (omega (arith, none)) }; steady_from = λ s x steady. steady.kept }) images c.new-armed.result c.go_on-course.new.dev d p why
     (c.go_on-course.ensures.refused_under d
-    (has_number g.D.Disks (λ d. d.device.now) (λ s. shape_of s.store.frame) (record { sizes = λ s. refl; forms = λ s. refl; kernels = λ s. s.store.frame.layout; events = λ s. s.store.frame.events; firsts = λ s. refl; leaves_to = λ s x d r l. l; leaves_from = λ s x d r l. l; numbers_to = λ s x d l. l; numbers_from = λ s x d l. l; steady_to = λ s x kept none. record { kept = kept; high = λ e held. inr (omega (arith, none)) } }) images c.go_on-course.new.dev d handles held) p why e))
+    (has_number g.D.Disks (λ d. d.device.now) (λ s. shape_of s.store.frame) (record { sizes = λ s. refl; forms = λ s. refl; kernels = λ s. s.store.frame.layout; events = λ s. s.store.frame.events; firsts = λ s. refl; leaves_to = λ s x d r l. l; leaves_from = λ s x d r l. l; numbers_to = λ s x d l. l; numbers_from = λ s x d l. l; steady_to = λ s x kept none. record { kept = kept; high = λ e held. inr (omega (arith, none)) }; steady_from = λ s x steady. steady.kept }) images c.go_on-course.new.dev d handles held) p why e))
 
 pub returns-clause-stood : goal.returns-clause-stood
 returns-clause-stood g c enough =
@@ -149,7 +150,14 @@ returns-clause-stood g c enough =
     subst (λ k. OnErr c.go_on-course.result ((d : ℕ) → FirstLogHas g.D.Disks images k d → FirstLogHas g.D.Disks images c.args.disks.now d × LogsStood g.D.Disks images d c.args.disks.now k)) {x = c.go_on-course.new.dev.device.now} (search rules)
     (on_errs c.go_on-course.result (c.go_on-course.ensures.handles enough) c.go_on-course.ensures.stood (λ handles stood d held.
     let was = stood d
-    (has_number g.D.Disks (λ d. d.device.now) (λ s. shape_of s.store.frame) (record { sizes = λ s. refl; forms = λ s. refl; kernels = λ s. s.store.frame.layout; events = λ s. s.store.frame.events; firsts = λ s. refl; leaves_to = λ s x d r l. l; leaves_from = λ s x d r l. l; numbers_to = λ s x d l. l; numbers_from = λ s x d l. l; steady_to = λ s x kept none. record { kept = kept; high = λ e held. inr (omega (arith, none)) } }) images dev d handles held) in (
-      subst (λ z. FirstLogHas g.D.Disks images z d) lent (number_logged g.D.Disks (λ d. d.device.now) (λ s. shape_of s.store.frame) (record { sizes = λ s. refl; forms = λ s. refl; kernels = λ s. s.store.frame.layout; events = λ s. s.store.frame.events; firsts = λ s. refl; leaves_to = λ s x d r l. l; leaves_from = λ s x d r l. l; numbers_to = λ s x d l. l; numbers_from = λ s x d l. l; steady_to = λ s x kept none. record { kept = kept; high = λ e held. inr (omega (arith, none)) } }) images armed d was.0),
-      subst (λ z. LogsStood g.D.Disks images d z dev.device.now) lent (logs_stood g.D.Disks (λ d. d.device.now) (λ s. shape_of s.store.frame) (record { sizes = λ s. refl; forms = λ s. refl; kernels = λ s. s.store.frame.layout; events = λ s. s.store.frame.events; firsts = λ s. refl; leaves_to = λ s x d r l. l; leaves_from = λ s x d r l. l; numbers_to = λ s x d l. l; numbers_from = λ s x d l. l; steady_to = λ s x kept none. record { kept = kept; high = λ e held. inr (omega (arith, none)) } }) images armed dev d handles was.1),
+    (has_number g.D.Disks (λ d. d.device.now) (λ s. shape_of s.store.frame) (record { sizes = λ s. refl; forms = λ s. refl; kernels = λ s. s.store.frame.layout; events = λ s. s.store.frame.events; firsts = λ s. refl; leaves_to = λ s x d r l. l; leaves_from = λ s x d r l. l; numbers_to = λ s x d l. l; numbers_from = λ s x d l. l; steady_to = λ s x kept none. record { kept = kept; high = λ e held. inr (omega (arith, none)) }; steady_from = λ s x steady. steady.kept }) images dev d handles held) in (
+      subst (λ z. FirstLogHas g.D.Disks images z d) lent (number_logged g.D.Disks (λ d. d.device.now) (λ s. shape_of s.store.frame) (record { sizes = λ s. refl; forms = λ s. refl; kernels = λ s. s.store.frame.layout; events = λ s. s.store.frame.events; firsts = λ s. refl; leaves_to = λ s x d r l. l; leaves_from = λ s x d r l. l; numbers_to = λ s x d l. l; numbers_from = λ s x d l. l; steady_to = λ s x kept none. record { kept = kept; high = λ e held. inr (omega (arith, none)) }; steady_from = λ s x steady. steady.kept }) images armed d was.0),
+      subst (λ z. LogsStood g.D.Disks images d z dev.device.now) lent (logs_stood g.D.Disks (λ d. d.device.now) (λ s. shape_of s.store.frame) (record { sizes = λ s. refl; forms = λ s. refl; kernels = λ s. s.store.frame.layout; events = λ s. s.store.frame.events; firsts = λ s. refl; leaves_to = λ s x d r l. l; leaves_from = λ s x d r l. l; numbers_to = λ s x d l. l; numbers_from = λ s x d l. l; steady_to = λ s x kept none. record { kept = kept; high = λ e held. inr (omega (arith, none)) }; steady_from = λ s x steady. steady.kept }) images armed dev d handles was.1),
     )))
+
+-- the other answers say what each refusal means, and none means that of logs that a run left
+pub returns-clause-resumable : goal.returns-clause-resumable
+returns-clause-resumable g c left tells =
+    resumable g.D.Disks (setting_from c.args.setup c.args.schedule.now c.args.stops.items c.args.earlier.now.entries) c.args.setup.images.items refl c.args.earlier.now.entries c.args.earlier.now.lines c.args.earlier.now.acts.now
+    c.args.disks.now _ c.requires.some left tells c.go_on-course.result
+    (returns-clause-unsuited g c) (returns-clause-unsteady g c) c.go_on-course.ensures.illegal (returns-clause-refused_under g c) (returns-clause-stood g c)

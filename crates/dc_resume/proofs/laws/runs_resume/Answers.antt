@@ -3,6 +3,7 @@ use Rattle.dc_model.proofs.Rising.{TurnsBelow}
 use Rattle.dc_model.specs.Drawn.{Drawn}
 use Rattle.dc_proc.specs.Processes.{reading_of}
 use Rattle.dc_resume.proofs.Added.{well}
+use Rattle.dc_resume.proofs.Alike.{suited_alike}
 use Rattle.dc_resume.proofs.Halting.{are_suited}
 use Rattle.dc_resume.proofs.Numbered.{numbered}
 use Rattle.dc_resume.proofs.Resuming.{holds, stand}
@@ -17,6 +18,9 @@ returns-clause-stand g c = λ images inputs protocol acts lines d stores run sto
 
 pub returns-clause-halted : goal.returns-clause-halted
 returns-clause-halted g c = λ S schedule t core d readings now stands numbers reached. are_suited S schedule t core now numbers (λ e. e ≡ d) (λ p e r. r ≡ readings p) stands d refl readings (λ p less. refl) reached
+
+pub returns-clause-alike : goal.returns-clause-alike
+returns-clause-alike g c = λ S acts d one other stored others read. suited_alike S acts d one other stored others read
 
 pub returns-clause-numbered : goal.returns-clause-numbered
 returns-clause-numbered g c = λ S schedule start marks core sound now few alike led less. numbered S sound schedule start now few alike marks core led less

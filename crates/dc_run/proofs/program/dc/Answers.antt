@@ -103,7 +103,7 @@ returns-in-Ok-Run-clause-passes g c ran = let asked : asked_of c.args.words.now 
     let out = course (g.O.Sink.held c.args.out.now) (g.O.Sink.held c.run_plan.new.out) (g.O.Sink.faults c.args.out.now) (g.O.Sink.faults c.run_plan.new.out) in
     let report = course (g.R.Sink.held c.args.report.now) (g.R.Sink.held c.run_plan.new.report) (g.R.Sink.faults c.args.report.now) (g.R.Sink.faults c.run_plan.new.report) in
     run_of_words (g.L.Library.files c.args.lib.now) c.args.words.now (order_view c.in-Ok-Run.order)
-    (λ m task. task.ledger ≡ Ledger.Report → (devices_of g.K.Keeps g.D.Disks m).tell (length task.setting.images) (lent c.args.keeps.now c.args.disks.now) (lent c.run_plan.new.keeps c.run_plan.new.disks) → WritesPassing task.setting out report c.run_plan.result.verdict c.run_plan.result.acts.items) asked (c.run_plan.ensures.passes ran)
+    (λ m task. task.ledger ≡ Ledger.Report → (devices_of g.K.Keeps g.D.Disks m).tell (length task.setting.images) (lent c.args.keeps.now c.args.disks.now) (lent c.run_plan.new.keeps c.run_plan.new.disks) → WritesPassing task.setting out report c.run_plan.result) asked (c.run_plan.ensures.passes ran)
 
 pub returns-in-Ok-Run-clause-keeps_others : goal.returns-in-Ok-Run-clause-keeps_others
 returns-in-Ok-Run-clause-keeps_others g c = let asked : asked_of c.args.words.now ≡ Some (ToRun (order_view c.in-Ok-Run.order)) = search rules in

@@ -8,6 +8,7 @@ use Rattle.dc_run.proofs.OnMedia.{each_so, either_failed, either_same, either_st
 use Rattle.dc_command.specs.Command.{order_view}
 use Rattle.dc_command.specs.declared.command.Ledger.{Ledger}
 use Rattle.dc_command.specs.declared.command.Ledger.TheVariants as ledger
+use Rattle.dc_course.specs.Courses.{account_of as run_account}
 use Rattle.dc_elf.specs.Loaded.{seen_image}
 use Rattle.dc_run.specs.Headline.{IsReported, course, is_used_up, keeps_journal, loan, verdict_at}
 use Rattle.dc_run.specs.Media.{HasFailed, HasStopped, IsOtherSame, devices_of, lent}
@@ -22,6 +23,7 @@ use Rattle.dc_run.specs.declared.verdict.Verdict.TheVariants.{DeviceFault, Devic
 use Rattle.dc_run.proofs.Works.{begun_refusal, closed_refusal, exact_work, for_known, opened_work, refused_exact, refused_work, told_verdict}
 use Rattle.dc_run.proofs.Headlines.{IsOpenedSo, free_unopened, opened_so, reported_begun, reported_may, reported_so, run_ledger, unopened_begun, with_ledger}
 use Rattle.dc_run.proofs.Leaving.{left_same, opened_left}
+use Rattle.dc_run.proofs.Lefts.{halted_on}
 use Rattle.dc_run.specs.Commands.{stores_used, work_by}
 use Rattle.dc_command.specs.Command.Asked.{ToRun}
 use Rattle.dc_run.proofs.program.run_plan.Given.{Over}
@@ -60,7 +62,9 @@ written : (g : Over) (c : goal.After-drop-journal g) → IsReported (task_for c.
 written g c = let count : c.len-n.result ≡ length c.in-Ok.setting.images.items = search rules in
     with_ledger (task_for c.args.order.now.ledger c.in-Ok.setting) (devices_of g.K.Keeps g.D.Disks c.in-Ok.setting.medium) c.in-Ok-run_setting.course c.outcome_of-outcome.result.0 c.outcome_of-outcome.result.1 c.reported.result _ _ _ _
     (outcome_is g c) c.outcome_of-outcome.ensures.journal (count ∙ sym (length-map c.in-Ok.setting.images.items seen_image)) (c.in-Ok-run_setting.ensures.kept ∙ ap keeps_journal c.in-Ok.ensures.ledger)
-    (λ keeps. c.in-Ok.ensures.turns (c.in-Ok.ensures.ledger ∙ keeps_is c.args.order.now.ledger keeps)) c.in-Ok-run_setting.ensures.headline c.reported.ensures.reports c.reported.ensures.acts c.reported.ensures.marks c.reported.ensures.lines
+    (λ keeps. c.in-Ok.ensures.turns (c.in-Ok.ensures.ledger ∙ keeps_is c.args.order.now.ledger keeps)) c.in-Ok-run_setting.ensures.headline
+    (halted_on g.K.Keeps g.D.Disks c.in-Ok.setting.medium (task_for c.args.order.now.ledger c.in-Ok.setting) (run_account c.in-Ok-run_setting.course) c.in-Ok-run_setting.course.ending _ _ c.in-Ok.ensures.given.schedule_is.0 c.in-Ok-run_setting.ensures.headline)
+    c.reported.ensures.reports c.reported.ensures.acts c.reported.ensures.marks c.reported.ensures.lines
 
 pub returns-in-Ok-run_setting-clause-headline : goal.returns-in-Ok-run_setting-clause-headline
 returns-in-Ok-run_setting-clause-headline g c ran = opened_so (g.L.Library.files c.args.lib.now) (order_view c.args.order.now) (setting_of c.in-Ok.setting) c.in-Ok.setting.halt c.in-Ok.setting.medium
@@ -117,7 +121,7 @@ returns-in-Ok-run_setting-clause-passes g c ran =
     let after = lent c.run_setting.new.keeps c.run_setting.new.disks in
     let on = devices_of g.K.Keeps g.D.Disks c.in-Ok.setting.medium in
     let reports = run_ledger (is_halted (task_of c.in-Ok.setting)) c.in-Ok-run_setting.course c.outcome_of-outcome.result.0 c.reported.result.verdict _ report (outcome_is g c) c.reported.ensures.reports in
-    opened_so (g.L.Library.files c.args.lib.now) (order_view c.args.order.now) setting c.in-Ok.setting.halt c.in-Ok.setting.medium (λ m t. t.ledger ≡ ledger.Report → (devices_of g.K.Keeps g.D.Disks m).tell (length t.setting.images) before after → WritesPassing t.setting out report c.reported.result.verdict c.reported.result.acts.items) (opened_is g c)
+    opened_so (g.L.Library.files c.args.lib.now) (order_view c.args.order.now) setting c.in-Ok.setting.halt c.in-Ok.setting.medium (λ m t. t.ledger ≡ ledger.Report → (devices_of g.K.Keeps g.D.Disks m).tell (length t.setting.images) before after → WritesPassing t.setting out report c.reported.result) (opened_is g c)
     (λ report_it tells calm calm' empty empty' shown listed at at'. run_passes on (task_for ledger.Report c.in-Ok.setting) refl c.reported.result (loan before after) out report c.in-Ok.ensures.given
     (subst (λ l. IsReported (task_for l c.in-Ok.setting) on c.reported.result (loan before after) out report) report_it (written g c))
     tells calm calm' (λ e. c.in-Ok-run_setting.ensures.sink (sink_ending (is_halted (task_of c.in-Ok.setting)) c.in-Ok-run_setting.course.ending c.reported.result.verdict _ report reports e))

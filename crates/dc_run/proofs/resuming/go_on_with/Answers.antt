@@ -1,11 +1,12 @@
-use Rattle.std.proofs.Common.{◌≡◌, ◌∙◌, ℕ, All, List, ap, length, refl, subst, sym}
+use Rattle.std.proofs.Common.{◌∙◌, ◌<◌, All, List, ap, length, refl, subst, sym}
 use Rattle.std.proofs.lemmas.List.{length-map}
 use Rattle.std.proofs.lemmas.Result.{IfOk-weaker}
 use Rattle.dc_course.specs.Courses.{account_of}
 use Rattle.dc_course.specs.Headline.{system_in}
 use Rattle.dc_course.specs.Lent.{TellsStores}
 use Rattle.dc_course.specs.Running.{output}
-use Rattle.dc_disk.specs.Logs.{AreLogsRead}
+use Rattle.dc_disk.proofs.Rereadable.{left_again}
+use Rattle.dc_disk.specs.Logs.{AreLeftAt, AreLogsRead}
 use Rattle.dc_elf.specs.Loaded.{seen_image}
 use Rattle.dc_media.specs.Devices.{of_disks}
 use Rattle.dc_model.proofs.Rising.{TurnsBelow}
@@ -13,6 +14,7 @@ use Rattle.dc_model.specs.Drawn.{Drawn}
 use Rattle.dc_model.specs.World.{run as run_of}
 use Rattle.dc_model.specs.declared.act.Taken.{Taken}
 use Rattle.dc_model.specs.declared.entry.Entry.{Entry}
+use Rattle.dc_reread.specs.declared.faults.RereadFault.TheVariants as faults
 use Rattle.dc_resume.specs.Suited.{IsFirstUnsuited}
 use Rattle.dc_world.specs.Worlds.{IsOfProcesses}
 use Rattle.dc_run.specs.Again.{going_of}
@@ -20,7 +22,8 @@ use Rattle.dc_run.specs.Headline.{loan}
 use Rattle.dc_run.specs.Opening.{entries_run}
 use Rattle.dc_run.specs.Resumed.{GoesOnFrom}
 use Rattle.dc_run.specs.Resuming.{onward_of}
-use Rattle.dc_run.proofs.Goings.{on_err_by}
+use Rattle.dc_run.specs.Settings.{setting_of}
+use Rattle.dc_run.proofs.Goings.{not_content, on_err_by}
 use Rattle.dc_run.proofs.Halts.{drawn_less, run_named}
 use Rattle.dc_run.proofs.Headlines.{entries_named}
 use Rattle.dc_run.proofs.resuming.go_on_with.Goals as goal
@@ -70,11 +73,21 @@ returns-clause-unsuited g c p e =
 pub returns-clause-unsteady : goal.returns-clause-unsteady
 returns-clause-unsteady g c e = (record { images = c.args.going.setting.images.items; seen = refl }, c.go_on_disks.ensures.unsteady e)
 
+pub returns-clause-resumable : goal.returns-clause-resumable
+returns-clause-resumable g c were =
+    let s = c.args.going.setting in
+    let from = c.args.going.report.entries in
+    c.go_on_disks.ensures.resumable
+    (subst (λ (xs : List Taken). AreLeftAt g.D.Disks (record (setting_of s) { schedule = c.entries_run-entries.result.now; stops = s.stops.items; from = from }) from c.args.going.report.lines xs c.args.disks.now) (sym c.as_slice.ensures)
+    (left_again g.D.Disks (setting_of s) c.entries_run-entries.result.now s.stops.items from from c.args.going.report.lines c.args.going.report.acts.items c.args.disks.now were.left))
+    (λ p less. were.told p (subst (λ n. p < n) (sym (length-map s.images.items seen_image)) less))
+
 pub returns-clause-refused : goal.returns-clause-refused
 returns-clause-refused g c p fault e = record {
   images = record { images = c.args.going.setting.images.items; seen = refl };
   some = c.go_on_disks.ensures.refused p fault e;
   under = λ d has. c.go_on_disks.ensures.refused_under d has p fault e;
+  unleft = λ were. not_content c.go_on_disks.result (faults.Refused p fault) e refl (returns-clause-resumable g c were);
 }
 
 pub returns-clause-stood : goal.returns-clause-stood

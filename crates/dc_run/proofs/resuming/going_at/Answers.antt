@@ -1,4 +1,4 @@
-use Rattle.std.proofs.Common.{◌≡◌, ◌∙◌, ◌≤◌, ap, length, rules, subst, sym}
+use Rattle.std.proofs.Common.{◌∙◌, ◌≤◌, length, rules, subst, sym}
 use Rattle.dc_command.specs.Command.{halted_view}
 use Rattle.dc_model.proofs.Rising.{TurnsBelow}
 use Rattle.dc_report.specs.Reads.{seen}
@@ -6,7 +6,7 @@ use Rattle.dc_run.specs.Again.{going_of}
 use Rattle.dc_run.specs.Settings.{Answers, setting_of}
 use Rattle.dc_run.specs.declared.resuming.Going.{Going}
 use Rattle.dc_run.proofs.Checks.{read_for}
-use Rattle.dc_run.proofs.Goings.{asked_to_open, going_is, halted_below, library_of, ok_by, refusal_before}
+use Rattle.dc_run.proofs.Goings.{asked_to_open, going_is, halted_below, library_of, ok_by}
 use Rattle.dc_run.proofs.Halts.{acts_below_few}
 use Rattle.dc_run.proofs.resuming.going_at.Goals as goal
 

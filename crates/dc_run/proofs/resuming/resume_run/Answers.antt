@@ -1,15 +1,23 @@
-use Rattle.std.proofs.Common.{◌≡◌, ◌∙◌, ⊎_elim, Err, true, ap, inl, inr, refl, rules, subst, sym}
+use Rattle.std.proofs.Common.{◌≡◌, ◌∙◌, ◌<◌, ⊎_elim, Err, true, ap, inl, inr, refl, rules, subst, sym}
 use Rattle.std.proofs.lemmas.Bool.{true≢false}
+use Rattle.std.proofs.lemmas.List.{length-map}
 use Rattle.dc_command.specs.Command.{halted_view}
+use Rattle.dc_course.specs.Courses.{account_of as run_account}
+use Rattle.dc_course.specs.Lent.{AreLeftFrom}
+use Rattle.dc_media.specs.Devices.{of_disks}
+use Rattle.dc_course.specs.declared.course.Course.{Course}
+use Rattle.dc_elf.specs.Loaded.{seen_image}
+use Rattle.dc_reread.specs.declared.faults.RereadFault.TheVariants as faults
 use Rattle.dc_run.specs.Again.{going_of}
 use Rattle.dc_run.specs.Headline.{course, loan}
-use Rattle.dc_run.specs.Resumed.{IsResumed, IsUnsuited}
+use Rattle.dc_run.specs.Resumed.{HaveStood, IsRefusedStore, IsResumed, IsUnsuited}
 use Rattle.dc_run.specs.Resuming.{AsksToResume, going_in, is_halted_again}
 use Rattle.dc_run.specs.Settings.{differing_line, has_ended, is_free, may_have_run}
 use Rattle.dc_run.specs.declared.verdict.Outlet.TheVariants.{Out, Report}
 use Rattle.dc_run.specs.declared.verdict.Verdict.TheVariants.{DeviceFault, DeviceStopped, LibraryFault, NotSaved, SinkFault, Usage}
-use Rattle.dc_run.proofs.Goings.{before_is, free_unresumed, going_so, is_resumed, is_usage, not_before, resumed_report, unsuited_by}
+use Rattle.dc_run.proofs.Goings.{before_is, free_unresumed, going_so, is_resumed, is_usage, not_before, not_content, not_wanting, refused_by, resumed_report, unsuited_by}
 use Rattle.dc_run.proofs.Headlines.{reported_may, reported_so}
+use Rattle.dc_run.proofs.LeftAgain.{left_on}
 use Rattle.dc_run.proofs.Works.{exact_work, for_known, opened_work, refused_exact}
 use Rattle.dc_run.proofs.resuming.resume_run.Goals as goal
 
@@ -69,7 +77,8 @@ returns-in-Ok-go_on_with-clause-resumed g c on =
     going_so _ (halted_view c.args.names.now) (going_of c.in-Ok.going) (λ going. IsResumed going g.D.Disks c.reported.result (loan c.args.disks.now c.go_on_with.new.disks) out report) c.in-Ok.ensures.told
     (is_resumed (going_of c.in-Ok.going) g.D.Disks c.in-Ok-go_on_with.course c.reported.result _ out report c.leaves_over-halted.result again
     (c.reported.ensures.acts ∙ ap (λ o. o.acts) c.outcome_of.ensures) (c.reported.ensures.marks ∙ ap (λ o. o.marks) c.outcome_of.ensures) (c.reported.ensures.lines ∙ ap (λ o. o.lines) c.outcome_of.ensures)
-    c.in-Ok-go_on_with.ensures.unkept c.in-Ok-go_on_with.ensures.kept reports)
+    c.in-Ok-go_on_with.ensures.unkept c.in-Ok-go_on_with.ensures.kept (left_on g.D.Disks (going_of c.in-Ok.going) (run_account c.in-Ok-go_on_with.course) c.in-Ok-go_on_with.course.ending _ _ (subst (λ n. 0 < n) (sym (length-map c.in-Ok.going.setting.images.items seen_image)) c.in-Ok.going.setting.some)
+    c.in-Ok.going.setting.entries.0 c.in-Ok.ensures.ran c.in-Ok.ensures.before c.in-Ok.ensures.taken.1 c.in-Ok-go_on_with.ensures.kept) reports)
 
 pub returns-in-Ok-go_on_with-clause-went : goal.returns-in-Ok-go_on_with-clause-went
 returns-in-Ok-go_on_with-clause-went g c on =
@@ -81,7 +90,8 @@ returns-in-Ok-go_on_with-clause-went g c on =
       c.in-Ok.ensures.ran,
       is_resumed (going_of c.in-Ok.going) g.D.Disks c.in-Ok-go_on_with.course c.reported.result _ out report c.leaves_over-halted.result again
           (c.reported.ensures.acts ∙ ap (λ o. o.acts) c.outcome_of.ensures) (c.reported.ensures.marks ∙ ap (λ o. o.marks) c.outcome_of.ensures) (c.reported.ensures.lines ∙ ap (λ o. o.lines) c.outcome_of.ensures)
-          c.in-Ok-go_on_with.ensures.unkept c.in-Ok-go_on_with.ensures.kept reports,
+          c.in-Ok-go_on_with.ensures.unkept c.in-Ok-go_on_with.ensures.kept (left_on g.D.Disks (going_of c.in-Ok.going) (run_account c.in-Ok-go_on_with.course) c.in-Ok-go_on_with.course.ending _ _ (subst (λ n. 0 < n) (sym (length-map c.in-Ok.going.setting.images.items seen_image)) c.in-Ok.going.setting.some)
+          c.in-Ok.going.setting.entries.0 c.in-Ok.ensures.ran c.in-Ok.ensures.before c.in-Ok.ensures.taken.1 c.in-Ok-go_on_with.ensures.kept) reports,
     )
 
 pub returns-in-Err-go_on_with-clause-refused : goal.returns-in-Err-go_on_with-clause-refused
@@ -90,5 +100,20 @@ returns-in-Err-go_on_with-clause-refused g c refusal is = for_known _ (λ files 
 
 pub returns-in-Err-go_on_with-clause-unsuited : goal.returns-in-Err-go_on_with-clause-unsuited
 returns-in-Err-go_on_with-clause-unsuited g c p e = going_so _ (halted_view c.args.names.now) (going_of c.in-Ok.going) (λ going. IsUnsuited g.D.Disks going (loan c.args.disks.now c.go_on_with.new.disks) p) c.in-Ok.ensures.told
-    (⊎_elim (λ found. inl (c.in-Err-go_on_with.ensures.unsuited p (ap Err found))) (λ first. inr (first.0, c.in-Err-go_on_with.ensures.unsteady (ap Err first.1)))
-    (unsuited_by c.in-Err-go_on_with.fault c.idle-in-Err-go_on_with.result.verdict p (c.idle-in-Err-go_on_with.ensures.verdict ∙ c.unresumed.ensures) e))
+    (let why = unsuited_by c.in-Err-go_on_with.fault c.idle-in-Err-go_on_with.result.verdict p (c.idle-in-Err-go_on_with.ensures.verdict ∙ c.unresumed.ensures) e in record {
+      found = ⊎_elim (λ found. inl (c.in-Err-go_on_with.ensures.unsuited p (ap Err found))) (λ first. inr (first.0, c.in-Err-go_on_with.ensures.unsteady (ap Err first.1))) why;
+      unleft = λ were. ⊎_elim (λ found. not_content {T = Course} (Err c.in-Err-go_on_with.fault) (faults.Unsuited p) (ap Err found) refl (c.in-Err-go_on_with.ensures.resumable were))
+          (λ first. not_content {T = Course} (Err c.in-Err-go_on_with.fault) faults.Unsteady (ap Err first.1) refl (c.in-Err-go_on_with.ensures.resumable were)) why;
+    })
+
+pub returns-in-Err-go_on_with-clause-store : goal.returns-in-Err-go_on_with-clause-store
+returns-in-Err-go_on_with-clause-store g c p fault e idle = going_so _ (halted_view c.args.names.now) (going_of c.in-Ok.going) (λ going. IsRefusedStore g.D.Disks going (loan c.args.disks.now c.go_on_with.new.disks) p fault) c.in-Ok.ensures.told
+    (c.in-Err-go_on_with.ensures.refused p fault (ap Err (refused_by c.in-Err-go_on_with.fault c.idle-in-Err-go_on_with.result.verdict p fault (c.idle-in-Err-go_on_with.ensures.verdict ∙ c.unresumed.ensures) e)))
+
+pub returns-in-Err-go_on_with-clause-stood : goal.returns-in-Err-go_on_with-clause-stood
+returns-in-Err-go_on_with-clause-stood g c idle may = going_so _ (halted_view c.args.names.now) (going_of c.in-Ok.going) (λ going. HaveStood g.D.Disks going (loan c.args.disks.now c.go_on_with.new.disks)) c.in-Ok.ensures.told
+    (c.in-Err-go_on_with.ensures.stood (not_wanting {T = Course} c.in-Err-go_on_with.fault c.idle-in-Err-go_on_with.result.verdict (c.idle-in-Err-go_on_with.ensures.verdict ∙ c.unresumed.ensures) may))
+
+pub returns-in-Err-go_on_with-clause-disks_others : goal.returns-in-Err-go_on_with-clause-disks_others
+returns-in-Err-go_on_with-clause-disks_others g c = for_known _ (λ files here. rw (c.in-Ok.ensures.told files here)
+    (subst (λ n. AreLeftFrom n (of_disks g.D.Disks) c.args.disks.now c.go_on_with.new.disks) (sym (length-map c.in-Ok.going.setting.images.items seen_image)) c.in-Err-go_on_with.ensures.others))

@@ -25,7 +25,7 @@ pub returns-clause-read : goal.returns-clause-read
 unfolding is_beside
 returns-clause-read g c = if_both _ _ _ c.read_all.result c.read_all.ensures.reread c.read_all.ensures.decided (λ reread is recovered.
     let stored = stored_in is.memories c.read_all.new.saved in (
-      is_beside g.C.Checkpoint g.met.C.Checkpoint.leaves_alike g.met.C.Checkpoint.numbers_alike c.args.past.now.images.now c.args.dev.now c.read_all.new.dev c.args.stores.now c.read_all.new.stores c.requires.stores c.read_all.auto.stores c.requires.attached c.read_all.ensures.same (system_in c.args.past.now) c.args.past.now.acts.now reread.decided is.given stored is.retraced.is_run is.retraced.reports is.read.are_stored is.read.are_read recovered.were recovered.decided,
+      is_beside g.C.Checkpoint g.met.C.Checkpoint.leaves_alike g.met.C.Checkpoint.numbers_alike c.args.past.now.images.now c.args.dev.now c.read_all.new.dev c.args.stores.now c.read_all.new.stores c.requires.stores c.read_all.auto.stores c.requires.attached c.read_all.ensures.same (system_in c.args.past.now) c.args.past.now.acts.now reread.decided is.given stored is.retraced.is_run is.retraced.reports is.read.are_stored is.read.are_read recovered.were recovered.decided c.read_all.ensures.stands,
       is.suited,
       λ p. refl,
       λ free. trails_exposed c.args.past.now is.given stored reread.trails.items free is.retraced.count is.retraced.trails_are,
@@ -36,7 +36,7 @@ unfolding is_beside
 returns-clause-unsuited g c p e =
     let found = c.read_all.ensures.unsuited p e in
     let is = found.2 in (
-      is_beside g.C.Checkpoint g.met.C.Checkpoint.leaves_alike g.met.C.Checkpoint.numbers_alike c.args.past.now.images.now c.args.dev.now c.read_all.new.dev c.args.stores.now c.read_all.new.stores c.requires.stores c.read_all.auto.stores c.requires.attached c.read_all.ensures.same (system_in c.args.past.now) c.args.past.now.acts.now found.0 is.given (stored_in is.memories c.read_all.new.saved) is.retraced.is_run is.retraced.reports is.read.are_stored is.read.are_read found.1.were found.1.decided,
+      is_beside g.C.Checkpoint g.met.C.Checkpoint.leaves_alike g.met.C.Checkpoint.numbers_alike c.args.past.now.images.now c.args.dev.now c.read_all.new.dev c.args.stores.now c.read_all.new.stores c.requires.stores c.read_all.auto.stores c.requires.attached c.read_all.ensures.same (system_in c.args.past.now) c.args.past.now.acts.now found.0 is.given (stored_in is.memories c.read_all.new.saved) is.retraced.is_run is.retraced.reports is.read.are_stored is.read.are_read found.1.were found.1.decided c.read_all.ensures.stands,
       is.first,
     )
 
