@@ -10,7 +10,7 @@ use Rattle.dc_media.specs.declared.tear.Tear.{Tear}
 use Rattle.dc_media.specs.Tears.{left, torn}
 use Rattle.dc_media.specs.Told.{Device}
 use Rattle.dc_armed.specs.Laws.{GoesOn}
-use Rattle.dc_armed.specs.Stops.{Plan, Comes}
+use Rattle.dc_armed.specs.Stops.{StopsSoFar, Comes}
 use Rattle.dc_armed.specs.Torn.{IsOverwrite, Overwrites, at_once, in_parts, torn_calls}
 use Rattle.dc_armed.proofs.Counting.{IsInCalls-none, IsInCalls-then}
 use Rattle.dc_armed.proofs.Surviving.{Overwrites-nothing, Overwrites-same, Overwrites-survives, Overwrites-then}
@@ -128,7 +128,7 @@ length-torn tear old piece e =
     omega arith
 
 -- a torn write is a refused one, whether a stop came or the disk refused a part
-pub Writes-comes : {T : Type 0} (e at : ℕ) (p : ℕ) (tear : Tear) (piece : List ℕ) (old new : Plan) (done result : Result T DeviceFault) (a b : Option Disk)
+pub Writes-comes : {T : Type 0} (e at : ℕ) (p : ℕ) (tear : Tear) (piece : List ℕ) (old new : StopsSoFar) (done result : Result T DeviceFault) (a b : Option Disk)
     → at + length piece ≤ e → IfSome a (HasExtent e)
     → Overwrites at (length piece) (λ bytes. torn tear bytes piece) done a b
     → OnOk done ((result ≡ Err Stopped) × Comes p old new) → OnErr done ((result ≡ done) × (new.came ≡ old.came))

@@ -4,12 +4,12 @@ use Rattle.dc_media.specs.declared.faults.DeviceFault.{DeviceFault}
 use Rattle.dc_media.specs.declared.faults.DeviceFault.TheVariants.{Stopped}
 use Rattle.dc_media.specs.Causes.{IsCaused, counted_by}
 use Rattle.dc_media.specs.Told.{Becomes, Device, showing}
-use Rattle.dc_armed.specs.Stops.{Plan, Comes, Progresses, came_to, calls_left, calls_to, capped, count_of, waiting_for}
+use Rattle.dc_armed.specs.Stops.{StopsSoFar, Comes, Progresses, came_to, calls_left, calls_to, capped, count_of, waiting_for}
 
 -- the device within, and the stops that are planned for it
 pub record Armed (D : Type 0) : Type 0 where
   pub device : D
-  pub plan : Plan
+  pub plan : StopsSoFar
 
 -- what is the device's own
 abbrev pub within : {D X : Type 0} → (D → ℕ → X) → Armed D → ℕ → X

@@ -3,14 +3,14 @@ use Rattle.std.proofs.Common.{◌<◌, ◌≤◌, ◌∙◌, ℕ, arith, refl, �
 use Rattle.std.proofs.lemmas.Bool.{cases_lt}
 use Rattle.dc_media.specs.Told.{Device}
 use Rattle.dc_armed.specs.Armed.{Armed, IsAwaited, IsLater, IsPunctual, IsUnfailed, IsUnrefused, all_stops, within}
-use Rattle.dc_armed.specs.Stops.{Plan, Progresses, came_to}
+use Rattle.dc_armed.specs.Stops.{StopsSoFar, Progresses, came_to}
 
 -- nothing was called
-pub progresses_self : (plan : Plan) → Progresses plan plan
+pub progresses_self : (plan : StopsSoFar) → Progresses plan plan
 progresses_self plan = record { stops_same = refl; later = λ p. omega arith; once = λ p. omega arith }
 
 -- one call and then more
-pub progresses_on : (old between new : Plan) → Progresses old between → Progresses between new → Progresses old new
+pub progresses_on : (old between new : StopsSoFar) → Progresses old between → Progresses between new → Progresses old new
 progresses_on old between new first then = record {
   stops_same = then.stops_same ∙ first.stops_same;
   later = λ p. omega (arith, first.later p, then.later p);

@@ -6,7 +6,7 @@ use Rattle.dc_media.specs.Stores.{set_words}
 use Rattle.dc_media.specs.Told.{Device}
 use Rattle.dc_armed.specs.declared.stop.Waiting.{Waiting}
 use Rattle.dc_armed.specs.Armed.{Armed, IsPassedOn, IsPlanned}
-use Rattle.dc_armed.specs.Stops.{Plan, Waits, after_answer, calls_to, one_fewer, waiting_for}
+use Rattle.dc_armed.specs.Stops.{StopsSoFar, Waits, after_answer, calls_to, one_fewer, waiting_for}
 use Rattle.dc_armed.specs.Torn.{at_once, torn_store}
 
 -- the stop that comes at one of the next n calls
@@ -43,7 +43,7 @@ counted_down zero waiting = waiting
 counted_down (suc n) waiting = one_fewer (counted_down n waiting)
 
 -- at most n calls of a process, and what waits after them
-pub record AreCountedDown {T : Type 0} (n p : ℕ) (result : Result T DeviceFault) (old new : Plan) : Type 0 where
+pub record AreCountedDown {T : Type 0} (n p : ℕ) (result : Result T DeviceFault) (old new : StopsSoFar) : Type 0 where
   pub made : ℕ
   pub few : made ≤ n
   pub calls : calls_to new p ≡ counted_by made (calls_to old p)

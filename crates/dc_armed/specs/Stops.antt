@@ -27,22 +27,22 @@ sooner_waiting None stop = waiting_of stop
 sooner_waiting (Some waiting) stop = if nat_lt stop.call waiting.calls then waiting_of stop else waiting
 
 -- the stops, for each process the one that waits in this turn, how many came to it, and how many calls it made in all
-pub record Plan : Type 0 where
+pub record StopsSoFar : Type 0 where
   pub stops : List PlannedStop
   pub waiting : List (Option Waiting)
   pub came : List ℕ
   pub calls : List ℕ
 
 -- the stop that waits for a process
-abbrev pub waiting_for : Plan → ℕ → Option Waiting
+abbrev pub waiting_for : StopsSoFar → ℕ → Option Waiting
 waiting_for plan p = get_or plan.waiting p None
 
 -- how many stops came to a process
-abbrev pub came_to : Plan → ℕ → ℕ
+abbrev pub came_to : StopsSoFar → ℕ → ℕ
 came_to plan p = get_or plan.came p 0
 
 -- how many calls a process made; past the last process the count stands at its last value
-abbrev pub calls_to : Plan → ℕ → ℕ
+abbrev pub calls_to : StopsSoFar → ℕ → ℕ
 calls_to plan p = if nat_lt p STORES then get_or plan.calls p 0 else 2 ^ 64 - 1
 
 -- the tear of a stop that comes at the next call
@@ -51,7 +51,7 @@ due_of None = None
 due_of (Some waiting) = if waiting.calls == 1 then Some waiting.tear else None
 
 -- the tear of the stop that comes at the next call of a process
-abbrev pub due : Plan → ℕ → Option Tear
+abbrev pub due : StopsSoFar → ℕ → Option Tear
 due plan p = due_of (waiting_for plan p)
 
 -- one call fewer to wait for; a stop whose call is past waits no more
@@ -76,24 +76,24 @@ after_answer (Err Stopped) waiting = None
 after_answer (Err Failed) waiting = waiting
 
 -- this waits for a process now; for the others what waited, and the stops are the same
-pub record Waits (p : ℕ) (waiting : Option Waiting) (old new : Plan) : Type 0 where
+pub record Waits (p : ℕ) (waiting : Option Waiting) (old new : StopsSoFar) : Type 0 where
   pub here : waiting_for new p ≡ waiting
   pub others : (q : ℕ) → q ≢ p → waiting_for new q ≡ waiting_for old q
   pub stops_same : new.stops ≡ old.stops
 
 -- one more stop came to a process, and none to the others; a count of 64 bits stays at its last value
-pub record Comes (p : ℕ) (old new : Plan) : Type 0 where
+pub record Comes (p : ℕ) (old new : StopsSoFar) : Type 0 where
   pub here : came_to new p ≡ counted (came_to old p)
   pub later : came_to old p ≤ came_to new p
   pub others : (q : ℕ) → q ≢ p → came_to new q ≡ came_to old q
 
 -- one more call of a process, and none of the others
-pub record Calls (p : ℕ) (old new : Plan) : Type 0 where
+pub record Calls (p : ℕ) (old new : StopsSoFar) : Type 0 where
   pub here : calls_to new p ≡ counted (calls_to old p)
   pub others : (q : ℕ) → q ≢ p → calls_to new q ≡ calls_to old q
 
 -- n more calls of a process, and none of the others
-pub record CallsInRow (n p : ℕ) (old new : Plan) : Type 0 where
+pub record CallsInRow (n p : ℕ) (old new : StopsSoFar) : Type 0 where
   pub here : calls_to new p ≡ counted_by n (calls_to old p)
   pub others : (q : ℕ) → q ≢ p → calls_to new q ≡ calls_to old q
 
@@ -112,7 +112,7 @@ count_of None = 0
 count_of (Some waiting) = 1
 
 -- a later state of the plan within a turn: its stops are the same, and no stop came to a process but one that waited for it, which waits no more
-pub record Progresses (old new : Plan) : Type 0 where
+pub record Progresses (old new : StopsSoFar) : Type 0 where
   pub stops_same : new.stops ≡ old.stops
   pub later : (p : ℕ) → came_to old p ≤ came_to new p
   pub once : (p : ℕ) → came_to new p + count_of (waiting_for new p) ≤ came_to old p + count_of (waiting_for old p)

@@ -27,10 +27,10 @@ pub(crate) struct StopPlan {
 
 impl Model for StopPlan {
     ghost use Rattle.std.specs.Prelude.{◌≡◌, false};
-    ghost use Rattle.dc_armed.specs.Stops.{Plan};
+    ghost use Rattle.dc_armed.specs.Stops.{StopsSoFar};
     ghost use Rattle.dc_armed.specs.Turns.{ComesNone, WaitNone};
 
-    ghost Value = { Plan };
+    ghost Value = { StopsSoFar };
 
     ghost view = { λ s. record { stops = s.stops.items; waiting = s.waiting; came = s.came; calls = s.calls } };
 

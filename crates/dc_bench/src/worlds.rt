@@ -2,7 +2,7 @@
 
 ghost use Rattle.std.specs.Prelude.{◌≡◌, ◌<◌, ◌≤◌, ◌+◌, ◌*◌, All, IfOk, IfSome, OnOk, false, length};
 ghost use Rattle.dc_protocols.specs.Rules.{is_joint};
-ghost use Rattle.dc_world.specs.Opened.{CanOpen};
+ghost use Rattle.dc_world.specs.Openable.{CanOpen};
 ghost use Rattle.dc_world.specs.Worlds.{MayRun};
 
 use dc_checkpoint::Checkpoint;
@@ -44,9 +44,9 @@ fn setup_of(
     words: &[u32; 4],
     n: u32,
 ) -> Result<Setup, AllocError>
+    requires some { 0 < n }
+    requires few { n ≤ PROCESSES }
     ensures images { IfOk result (λ setup. length setup.images.items ≡ n) }
-    ensures inputs { IfOk result (λ setup. length setup.inputs.items ≡ n) }
-    ensures good { IfOk result (λ setup. All CanOpen setup.images.items) }
     ensures protocol { IfOk result (λ setup. setup.protocol ≡ protocol) }
 {
     let mut images = Vec::new(alloc);

@@ -50,12 +50,12 @@ abbrev pub showing : {C D : Type 0} → Device D → Handle C → (C → D → T
 showing on of lent leaves numbers steady = record { on = on; index = of.index; size = of.size; form = of.form; first = of.first; floor = of.floor; lent = lent; leaves = leaves; numbers = numbers; steady = steady }
 
 -- a store with the device that is lent to it
-pub record Moment (C D : Type 0) : Type 0 where
+pub record OnDevice (C D : Type 0) : Type 0 where
   pub store : C
   pub dev : D
 
 -- this store, with this device
-abbrev pub on : {C D : Type 0} → C → D → Moment C D
+abbrev pub on : {C D : Type 0} → C → D → OnDevice C D
 on store dev = record { store = store; dev = dev }
 
 -- the same store: its device, its memory's size, whose it is, and what it stands for before it was made
@@ -115,7 +115,7 @@ IsUnrefused result = (fault : StoreFault) → IsErrOf result (check.Refused faul
 
 -- what every call leaves: the same store, with what it needs of the device; the counts of its own device with their causes; each other device as it was; and
 -- a later state of the loan
-pub record Touches {C D T : Type 0} (g : Store C D) (old new : Moment C D) (result : Result T CheckFault) : Type 0 where
+pub record Touches {C D T : Type 0} (g : Store C D) (old new : OnDevice C D) (result : Result T CheckFault) : Type 0 where
   pub same : IsSameStore g old.store new.store
   pub lent : g.lent new.store new.dev
   pub counts : IsCounted g.on (g.index old.store) old.dev new.dev result
@@ -124,14 +124,14 @@ pub record Touches {C D T : Type 0} (g : Store C D) (old new : Moment C D) (resu
 
 -- what a call leaves that decides nothing and goes on from a ready store: besides that, its floor no higher and no decided number over those that were there;
 -- and its content is no reason to refuse it
-pub record IsCall {C D T : Type 0} (g : Store C D) (old new : Moment C D) (result : Result T CheckFault) : Type 0 where
+pub record IsCall {C D T : Type 0} (g : Store C D) (old new : OnDevice C D) (result : Result T CheckFault) : Type 0 where
   pub touches : Touches g old new result
   pub floor : g.floor new.store ≤ g.floor old.store
   pub no_higher : AreNoHigher (g.numbers old.store old.dev) (g.numbers new.store new.dev)
   pub unrefused : IsUnrefused result
 
 -- where the decided number is steady, and this is so of what it may be, it stays steady, and is one that was there
-pub record KeepsNumbers {C D : Type 0} (g : Store C D) (where_so : (ℕ → Type 0) → Type 0) (old new : Moment C D) : Type 0 where
+pub record KeepsNumbers {C D : Type 0} (g : Store C D) (where_so : (ℕ → Type 0) → Type 0) (old new : OnDevice C D) : Type 0 where
   pub steady : g.steady old.store old.dev → where_so (g.numbers old.store old.dev) → g.steady new.store new.dev
   pub among : g.steady old.store old.dev → where_so (g.numbers old.store old.dev) → AreAmong (g.numbers old.store old.dev) (g.numbers new.store new.dev)
 
@@ -140,7 +140,7 @@ abbrev pub always : (ℕ → Type 0) → Type 0
 always numbers = Unit {0}
 
 -- what adds nothing: each image stands for what one stood for, and the decided number stays
-pub record AddsNothing {C D : Type 0} (g : Store C D) (old new : Moment C D) : Type 0 where
+pub record AddsNothing {C D : Type 0} (g : Store C D) (old new : OnDevice C D) : Type 0 where
   pub stands : Narrows (g.floor old.store) (g.leaves old.store old.dev) (g.leaves new.store new.dev)
   pub decided : KeepsNumbers g always old new
 

@@ -292,7 +292,7 @@ pub trait Checkpoint: Sized {
     ghost from_outlasts: { (c : Self) (dev : Self.Device) (g : ℕ) → AreFrom g (numbers c dev) → outlasts c dev g };
 
     /// A ready store stands for the same under each decided number from its floor on.
-    ghost settled: { (c : Self) (dev : Self.Device) → ready c dev → (d e : ℕ) (reading : Reading) → floor c ≤ d → floor c ≤ e → leaves c dev d reading → leaves c dev e reading };
+    ghost none_waits: { (c : Self) (dev : Self.Device) → ready c dev → (d e : ℕ) (reading : Reading) → floor c ≤ d → floor c ≤ e → leaves c dev d reading → leaves c dev e reading };
 
     /// A told store stands for something under each decided number.
     ghost some_reading: { (c : Self) (dev : Self.Device) → told dev (index c) → (d : ℕ) → (reading : Reading) × leaves c dev d reading };

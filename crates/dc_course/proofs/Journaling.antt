@@ -24,7 +24,7 @@ use Rattle.dc_course.proofs.Steps.{now_holds, now_world, sound}
 use Rattle.dc_course.specs.Courses.{journal_in}
 use Rattle.dc_course.specs.declared.leaving.Journal.{Journal}
 use Rattle.dc_course.specs.Headline.{Setting, is_stopped, start_at, system_in, turn_after}
-use Rattle.dc_course.proofs.Between.{Later, entry_at, told_between}
+use Rattle.dc_course.proofs.Between.{Later, come_between, come_on, entry_at}
 use Rattle.dc_course.proofs.Promised.{led_opened}
 use Rattle.dc_course.specs.Journals.{IsJournalOf, KeepsJournal, Noted, unstopped_front}
 use Rattle.dc_course.specs.Running.{CanBegin, IsRunning, Output, RunsOn, StepsOn, output}
@@ -172,25 +172,25 @@ module _ {C D : Type 0} (g : checkpoint.Ghosts C D) (entries : List Entry) (star
   -- an entry that went on, behind entries of which none was stopped: its lines are kept, or it was stopped
   pub keeps_more : (entry : Entry) → slice_get entries (length mid.moment.marks) ≡ Some entry → StepsOn g entry mid.moment new.moment → (after : List Line) → EntryLeaves g mid.moment.stage entry mid.lines after → (m : Mark) → new.moment.marks ≡ mid.moment.marks ++ m ∷ []
       → (is_stopped m ≡ true → new.lines ≡ mid.lines) → (is_stopped m ≡ false → new.lines ≡ after) → KeepsJournal g entries start new
-  keeps_more entry at steps after leaves m marks_are stopped live setting up first ok from is only told still running upto j0 =
-      let between = told_between g start.moment.stage mid.moment.stage new.moment.stage long same tells later told still in
-      let r0 = runs setting (opened_core up) first ok is told between running in
-      let j = keeps setting up first ok from is only told between running upto j0 in
+  keeps_more entry at steps after leaves m marks_are stopped live setting up first come from is only upto j0 =
+      let between = come_between g start.moment mid.moment new.moment long same tells later setting (opened_core up) first come in
+      let there = come_on g start.moment mid.moment new.moment long same tells later entries runs setting (opened_core up) first come is in
+      let j = keeps setting up first between from is only upto j0 in
       let here = entry_at setting entries (length mid.moment.marks) entry is at in
-      let r1 = subst (λ ms. IsRunning g setting (opened_core up) new.moment.stage ms (output first new.moment.held)) marks_are (steps setting (opened_core up) first ok here between still r0) in
-      let count = r0.world.count_is in
+      let r1 = subst (λ ms. IsRunning g setting (opened_core up) new.moment.stage ms (output first new.moment.held)) marks_are (steps setting (opened_core up) first there here) in
+      let count = there.running.world.count_is in
       subst (λ ms. IsJournalOf setting up ms new.lines) (sym marks_are) (⊎_elim
       (λ (halt : m ≡ mark.Stopped). subst (λ k. IsJournalOf setting up (mid.moment.marks ++ k ∷ []) new.lines) (sym halt)
       (subst (IsJournalOf setting up (mid.moment.marks ++ mark.Stopped ∷ [])) (sym (stopped (ap is_stopped halt))) (journal_stopped setting up mid.moment.marks mid.lines whole.1 j)))
       (λ (on : (m ≢ mark.Stopped) × (is_stopped m ≡ false)). subst (IsJournalOf setting up (mid.moment.marks ++ m ∷ [])) (sym (live on.1))
-      (journal_next g setting up ok from only (omega (arith, few, count)) (upto whole.0) mid.moment.marks whole.1 mid.moment.stage (output first mid.moment.held) between r0 entry here mid.lines after leaves j m on.0 new.moment.stage (output first new.moment.held) r1))
+      (journal_next g setting up come.can from only (omega (arith, few, count)) (upto whole.0) mid.moment.marks whole.1 mid.moment.stage (output first mid.moment.held) there.told there.running entry here mid.lines after leaves j m on.0 new.moment.stage (output first new.moment.held) r1))
       (stopped_or m))
 
   -- one that a fault ended leaves nothing
   pub keeps_ended : new.moment.marks ≡ mid.moment.marks → new.lines ≡ mid.lines → KeepsJournal g entries start new
-  keeps_ended marks_are lines_are setting up first ok from is only told still running upto j0 =
-      let between = told_between g start.moment.stage mid.moment.stage new.moment.stage long same tells later told still in
-      subst (λ ms. IsJournalOf setting up ms new.lines) (sym marks_are) (subst (IsJournalOf setting up mid.moment.marks) (sym lines_are) (keeps setting up first ok from is only told between running upto j0))
+  keeps_ended marks_are lines_are setting up first come from is only upto j0 =
+      let between = come_between g start.moment mid.moment new.moment long same tells later setting (opened_core up) first come in
+      subst (λ ms. IsJournalOf setting up ms new.lines) (sym marks_are) (subst (IsJournalOf setting up mid.moment.marks) (sym lines_are) (keeps setting up first between from is only upto j0))
 
 -- what is said of a journal that is kept
 pub if_kept : (journal : Journal) (P : List Line → Type 0) → (journal.kept ≡ true → P journal.lines.items) → IfSome (journal_in journal) P

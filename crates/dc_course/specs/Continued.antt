@@ -11,7 +11,7 @@ use Rattle.dc_model.specs.declared.entry.Entry.{Entry}
 use Rattle.dc_model.specs.declared.visible.Visible.{Visible}
 use Rattle.dc_recovery.specs.Core.{Core}
 use Rattle.dc_resume.specs.Parts.{GoesOnWell}
-use Rattle.dc_world.specs.declared.opening.Setup.{Setup}
+use Rattle.dc_world.specs.declared.setup.Setup.{Setup}
 use Rattle.dc_world.specs.declared.reopening.Earlier.{Earlier}
 use Rattle.dc_course.specs.Courses.{Counts, PlannedCome, setting_of}
 use Rattle.dc_course.specs.Headline.{Account, CoreLed, IsCountedOn, IsEnding, Last, Setting, Shows, marks_at, start_at, system_in, torn_at}

@@ -13,7 +13,7 @@ use Rattle.dc_recovery.specs.Core.{Core, Start, opening}
 use Rattle.dc_recovery.specs.Unstopped.{AreTurns, IsDetermined, Unstopped}
 use Rattle.dc_together.specs.Joints.{Belongs}
 use Rattle.dc_processes.specs.Stages.{decided_by}
-use Rattle.dc_world.specs.declared.opening.Setup.{Setup}
+use Rattle.dc_world.specs.declared.setup.Setup.{Setup}
 use Rattle.dc_course.specs.Headline.{Account, AreUpAlike, IsEnding, IsHeadline, Last, Setting, StopsTold, marks_at, system_in}
 use Rattle.dc_course.specs.Headline.Last.{Whole}
 use Rattle.dc_course.specs.Journals.{EndsAtFirstStop, IsJournalOf}

@@ -5,13 +5,12 @@ use Rattle.dc_checkpoint.specs.declared.checkpoint.Checkpoint as checkpoint
 use Rattle.dc_model.specs.declared.entry.Entry.{Entry}
 use Rattle.dc_model.specs.declared.mark.Mark.{Mark}
 use Rattle.dc_model.specs.declared.mark.Mark.TheVariants as mark
-use Rattle.dc_processes.specs.Stages.{IsTold}
 use Rattle.dc_recovery.specs.Core.{Core, opened_core, opening}
 use Rattle.dc_recovery.specs.Turned.{LeadsTo}
 use Rattle.dc_recovery.specs.Unstopped.{AreTurns, Unstopped}
 use Rattle.dc_savework.specs.Journal.{journal_of}
 use Rattle.dc_course.specs.Headline.{Setting, is_stopped, system_in}
-use Rattle.dc_course.specs.Running.{CanBegin, IsRest, IsRunning, Moment, moment_of, output}
+use Rattle.dc_course.specs.Running.{HasCome, IsRest, Moment, moment_of}
 use Rattle.dc_course.specs.declared.ending.Ending.{Ending}
 use Rattle.dc_course.specs.declared.ending.Ending.TheVariants.{Stopped}
 use Rattle.dc_course.specs.declared.running.Running.{Running}
@@ -57,6 +56,5 @@ AreUpUnless stopped up = stopped ≡ None → (p : ℕ) → up p ≡ true
 
 -- a run of turns, from its opening, over devices that tell: its lines were its journal and are
 abbrev pub KeepsJournal : {C D : Type 0} → checkpoint.Ghosts C D → List Entry → Noted C D → Noted C D → Type 0
-KeepsJournal g entries old new = (setting : Setting) (up : ℕ → Bool) (first : Option (List ℕ)) → CanBegin setting (opened_core up) → setting.from ≡ 0 → IsRest setting entries → AreTurns setting.schedule
-    → IsTold g old.moment.stage → IsTold g new.moment.stage → IsRunning g setting (opened_core up) old.moment.stage old.moment.marks (output first old.moment.held) → AreUpUnless old.stopped up
-    → IsJournalOf setting up old.moment.marks old.lines → IsJournalOf setting up new.moment.marks new.lines
+KeepsJournal g entries old new = (setting : Setting) (up : ℕ → Bool) (first : Option (List ℕ)) → HasCome g setting (opened_core up) first old.moment new.moment → setting.from ≡ 0 → IsRest setting entries → AreTurns setting.schedule
+    → AreUpUnless old.stopped up → IsJournalOf setting up old.moment.marks old.lines → IsJournalOf setting up new.moment.marks new.lines

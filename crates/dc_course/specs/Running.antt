@@ -108,16 +108,22 @@ IsEndedBy g (fault.Device p) setting begun m first = IsEnded g setting begun m.s
 IsEndedBy g (fault.Store p why) setting begun m first = ⊥
 IsEndedBy g fault.Sink setting begun m first = (torn : Visible) × IsEnded g setting begun m.stage m.marks (CutOff torn) (output first m.held) × (turn_after setting m.marks < length setting.schedule)
 
--- wherever a run has come to, an entry leads it on, where its devices were told and still tell
+-- a run of this setting, that began at this core, has come to a moment, by what the output held at first; its devices were told there, and tell at another still
+pub record HasCome {C D : Type 0} (g : checkpoint.Ghosts C D) (setting : Setting) (begun : Core) (first : Option (List ℕ)) (old new : Moment C D) : Type 0 where
+  pub can : CanBegin setting begun
+  pub told : IsTold g old.stage
+  pub tells : IsTold g new.stage
+  pub running : IsRunning g setting begun old.stage old.marks (output first old.held)
+
+-- wherever a run has come to, an entry leads it on
 abbrev pub StepsOn : {C D : Type 0} → checkpoint.Ghosts C D → Entry → Moment C D → Moment C D → Type 0
-StepsOn g entry old new = (setting : Setting) (begun : Core) (first : Option (List ℕ)) → CanBegin setting begun → slice_get setting.schedule (turn_after setting old.marks) ≡ Some entry
-    → IsTold g old.stage → IsTold g new.stage → IsRunning g setting begun old.stage old.marks (output first old.held)
+StepsOn g entry old new = (setting : Setting) (begun : Core) (first : Option (List ℕ)) → HasCome g setting begun first old new → slice_get setting.schedule (turn_after setting old.marks) ≡ Some entry
     → IsRunning g setting begun new.stage new.marks (output first new.held)
 
 -- or it ends there by a fault
 abbrev pub StepsOff : {C D : Type 0} → checkpoint.Ghosts C D → Entry → TurnFault → Moment C D → Moment C D → Type 0
-StepsOff g entry fault old new = (setting : Setting) (begun : Core) (first : Option (List ℕ)) → CanBegin setting begun → slice_get setting.schedule (turn_after setting old.marks) ≡ Some entry
-    → IsTold g old.stage → IsTold g new.stage → IsRunning g setting begun old.stage old.marks (output first old.held) → IsEndedBy g fault setting begun new first
+StepsOff g entry fault old new = (setting : Setting) (begun : Core) (first : Option (List ℕ)) → HasCome g setting begun first old new → slice_get setting.schedule (turn_after setting old.marks) ≡ Some entry
+    → IsEndedBy g fault setting begun new first
 
 -- these entries are the rest of a setting's schedule, from where its run begins
 abbrev pub IsRest : Setting → List Entry → Type 0
@@ -125,11 +131,8 @@ IsRest setting entries = drop setting.from setting.schedule ≡ entries
 
 -- wherever a run began, the rest of the schedule leads it on
 abbrev pub RunsOn : {C D : Type 0} → checkpoint.Ghosts C D → List Entry → Moment C D → Moment C D → Type 0
-RunsOn g entries old new = (setting : Setting) (begun : Core) (first : Option (List ℕ)) → CanBegin setting begun → IsRest setting entries
-    → IsTold g old.stage → IsTold g new.stage → IsRunning g setting begun old.stage old.marks (output first old.held)
-    → IsRunning g setting begun new.stage new.marks (output first new.held)
+RunsOn g entries old new = (setting : Setting) (begun : Core) (first : Option (List ℕ)) → HasCome g setting begun first old new → IsRest setting entries → IsRunning g setting begun new.stage new.marks (output first new.held)
 
 -- or it ends before by a fault
 abbrev pub RunsOff : {C D : Type 0} → checkpoint.Ghosts C D → List Entry → TurnFault → Moment C D → Moment C D → Type 0
-RunsOff g entries fault old new = (setting : Setting) (begun : Core) (first : Option (List ℕ)) → CanBegin setting begun → IsRest setting entries
-    → IsTold g old.stage → IsTold g new.stage → IsRunning g setting begun old.stage old.marks (output first old.held) → IsEndedBy g fault setting begun new first
+RunsOff g entries fault old new = (setting : Setting) (begun : Core) (first : Option (List ℕ)) → HasCome g setting begun first old new → IsRest setting entries → IsEndedBy g fault setting begun new first

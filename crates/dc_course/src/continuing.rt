@@ -19,7 +19,6 @@ ghost use Rattle.dc_reread.specs.Faults.{recovery_in};
 ghost use Rattle.dc_reread.specs.declared.faults.RereadFault.TheVariants as faults;
 ghost use Rattle.dc_resume.specs.Suited.{AreSuited, IsFirstUnsuited, saves_in};
 ghost use Rattle.dc_together.specs.Joints.{whose};
-ghost use Rattle.dc_world.specs.Opened.{CanOpen};
 ghost use Rattle.dc_world.specs.Reopened.{HasHandle, HasNumber, IsFirstSteady, IsReadBeside, Refuses, Stood};
 ghost use Rattle.dc_world.specs.Worlds.{IsOfProcesses};
 
@@ -47,10 +46,6 @@ pub fn go_on<C: Planned + Drop, O: Sink>(
     dev: &mut C::Device,
     out: &mut O,
 ) -> Result<Course, RereadFault>
-    requires some { 0 < length setup.images.items }
-    requires few { length setup.images.items ≤ PROCESSES }
-    requires inputs { length setup.inputs.items ≡ length setup.images.items }
-    requires good { All CanOpen setup.images.items }
     requires seven { is_causal setup.protocol ≡ false }
     requires entries { length schedule.now ≤ ENTRIES }
     requires processes { All (IsOfProcesses (length setup.images.items)) schedule.now }

@@ -8,7 +8,7 @@ ghost use Rattle.dc_course.specs.declared.ending.Ending.TheVariants as endings;
 ghost use Rattle.dc_media.specs.Causes.{Rose};
 ghost use Rattle.dc_media.specs.Told.{TellsOn};
 ghost use Rattle.dc_protocols.specs.Rules.{is_causal};
-ghost use Rattle.dc_world.specs.Opened.{CanOpen, IsCalmUnlessStopped};
+ghost use Rattle.dc_world.specs.Opened.{IsCalmUnlessStopped};
 ghost use Rattle.dc_processes.specs.Stages.{KeepsTelling};
 ghost use Rattle.dc_world.specs.Worlds.{IsOfProcesses};
 ghost use Rattle.dc_world.specs.declared.faults.OpenFault.TheVariants as opening;
@@ -105,10 +105,6 @@ pub fn run<C: Planned + Drop, O: Sink>(
     dev: &mut C::Device,
     out: &mut O,
 ) -> Result<Course, OpenFault>
-    requires some { 0 < length setup.images.items }
-    requires few { length setup.images.items ≤ PROCESSES }
-    requires inputs { length setup.inputs.items ≡ length setup.images.items }
-    requires good { All CanOpen setup.images.items }
     requires seven { is_causal setup.protocol ≡ false }
     requires entries { length schedule.now ≤ ENTRIES }
     requires processes { All (IsOfProcesses (length setup.images.items)) schedule.now }

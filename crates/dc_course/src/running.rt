@@ -7,7 +7,7 @@ ghost use Rattle.dc_armed.specs.Stops.{first_stop};
 ghost use Rattle.dc_course.specs.Headline.{IsCountedOn, is_planned, is_stopped, turn_after};
 ghost use Rattle.dc_course.specs.Headline.{Setting as Settings};
 ghost use Rattle.dc_course.specs.Journals.{AreCutAtStop, KeepsJournal, cut_by, noted_of};
-ghost use Rattle.dc_course.specs.Running.{CanBegin, IsRest, IsSettingOf, RunsOff, RunsOn, StepsOff, StepsOn, moment_of};
+ghost use Rattle.dc_course.specs.Running.{IsRest, IsSettingOf, RunsOff, RunsOn, StepsOff, StepsOn, moment_of};
 ghost use Rattle.dc_course.specs.Traces.{RunsBy};
 ghost use Rattle.dc_media.specs.Causes.{Rose};
 ghost use Rattle.dc_media.specs.Told.{TellsOn};
@@ -164,7 +164,7 @@ impl<C: Planned + Drop> Running<C> {
         ensures lasts { C.lasts dev.old dev.new }
         ensures stops { (setting : Settings) (p : ℕ) → IsSettingOf self.old setting → setting.stops ≡ C.planned dev.old → IsRest setting schedule.now → ((q : ℕ) → q < length setting.images → C.stops dev.new q < 2 ^ 64 - 1)
             → IsCountedOn setting p self.old.marks.items self.new.marks.items (C.unplanned dev.old) (C.unplanned dev.new) }
-        ensures come { (setting : Settings) (begun : Core) → CanBegin setting begun → IsSettingOf self.old setting → setting.stops ≡ C.planned dev.old → IsRest setting schedule.now
+        ensures come { (setting : Settings) (begun : Core) → IsSettingOf self.old setting → setting.stops ≡ C.planned dev.old → IsRest setting schedule.now
             → RunsBy C.Checkpoint C.calls setting begun (moment_of self.old dev.old (O.held out.old)) (moment_of self.new dev.new (O.held out.new)) (IsOk result) }
         ensures planned { (p : ℕ) → C.stops dev.new p + C.unplanned dev.old p ≤ C.unplanned dev.new p + C.stops dev.old p + length schedule.now }
         ensures alone { C.planned dev.old ≡ [] → (p : ℕ) → C.stops dev.new p + C.unplanned dev.old p ≤ C.unplanned dev.new p + C.stops dev.old p }

@@ -17,7 +17,7 @@ use Rattle.std.proofs.lemmas.List.{length-map}
 use Rattle.dc_media.specs.declared.planned.PlannedStop.{PlannedStop}
 use Rattle.dc_model.specs.declared.entry.Entry.{Entry}
 use Rattle.dc_elf.specs.Loaded.{seen_image}
-use Rattle.dc_world.specs.declared.opening.Setup.{Setup}
+use Rattle.dc_world.specs.declared.setup.Setup.{Setup}
 use Rattle.dc_course.specs.Courses.{IsCourse, StoresLeft, counts_of, setting_of}
 use Rattle.dc_course.specs.Headline.{Account, Setting}
 use Rattle.dc_course.specs.Running.{Output}

@@ -27,7 +27,7 @@ use Rattle.dc_model.specs.declared.entry.Entry.{Entry}
 use Rattle.dc_model.specs.declared.visible.Visible.{Visible}
 use Rattle.dc_recovery.specs.Recoveries.{resumed_core}
 use Rattle.dc_resume.specs.Suited.{saves_in}
-use Rattle.dc_world.specs.declared.opening.Setup.{Setup}
+use Rattle.dc_world.specs.declared.setup.Setup.{Setup}
 use Rattle.dc_world.specs.declared.reopening.Earlier.{Earlier}
 use Rattle.dc_disk.proofs.Logs.{logs_left}
 use Rattle.dc_disk.proofs.Logged.{IsLogged, shape_for}

@@ -18,7 +18,7 @@ ghost use Rattle.dc_protocols.specs.Rules.{is_causal};
 ghost use Rattle.dc_recovery.specs.Recoveries.{resumed_core};
 ghost use Rattle.dc_reread.specs.declared.faults.RereadFault.TheVariants as faults;
 ghost use Rattle.dc_resume.specs.Suited.{IsFirstUnsuited, saves_in};
-ghost use Rattle.dc_world.specs.Opened.{CanOpen, IsCalmUnlessStopped};
+ghost use Rattle.dc_world.specs.Opened.{IsCalmUnlessStopped};
 ghost use Rattle.dc_world.specs.Worlds.{IsOfProcesses};
 
 use crate::stores::OnDisks;
@@ -43,10 +43,6 @@ pub fn go_on_disks<D: Disks, O: Sink>(
     disks: &mut D,
     out: &mut O,
 ) -> Result<Course, RereadFault>
-    requires some { 0 < length setup.images.items }
-    requires few { length setup.images.items ≤ PROCESSES }
-    requires inputs { length setup.inputs.items ≡ length setup.images.items }
-    requires good { All CanOpen setup.images.items }
     requires seven { is_causal setup.protocol ≡ false }
     requires entries { length schedule.now ≤ ENTRIES }
     requires processes { All (IsOfProcesses (length setup.images.items)) schedule.now }

@@ -144,7 +144,7 @@ impl<C: Checkpoint> Checkpoint for OnDisks<C> {
 
     ghost from_outlasts = { λ s dev g from. C.from_outlasts s.store dev g from };
 
-    ghost settled = { λ s dev ready d e r low high. C.settled s.store dev ready d e r low high };
+    ghost none_waits = { λ s dev ready d e r low high. C.none_waits s.store dev ready d e r low high };
 
     ghost some_reading = { λ s dev told. C.some_reading s.store dev told };
 

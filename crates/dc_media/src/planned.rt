@@ -2,8 +2,8 @@ use crate::Tear;
 
 /// A stop that is planned at a call of a process's device within a turn.
 ///
-/// Calls are numbered from 1 in each turn; a store, a write and a sync are counted, and words in a row as stores of each. Where the call
-/// does not come, nothing stops.
+/// Calls are numbered from 1 in each turn; a store, a copied line, a write and a sync are counted, and words in a row as stores of each.
+/// Where the call does not come, nothing stops.
 #[derive(Clone, Copy)]
 pub struct PlannedStop {
     /// The turn in which it comes.

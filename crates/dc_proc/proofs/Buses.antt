@@ -1,6 +1,6 @@
 -- What stores over a lent memory come to.
 use Rattle.std.proofs.Common.{◌≡◌, ◌∙◌, ℕ, List, [], ◌∷◌, refl, sym, ap, subst, ⊎_elim, Ok, Err, IfErr, OnOk, Result}
-use Rattle.dc_checkpoint.specs.Calls.{IsCall, Moment}
+use Rattle.dc_checkpoint.specs.Calls.{IsCall, OnDevice}
 use Rattle.dc_checkpoint.specs.Handles.{showing_of}
 use Rattle.dc_checkpoint.specs.declared.checkpoint.Checkpoint as checkpoint
 use Rattle.dc_checkpoint.specs.declared.faults.CheckFault.{CheckFault}
@@ -9,7 +9,7 @@ use Rattle.dc_proc.specs.Following.{DeviceLaws, stores_none, stores_then}
 use Rattle.dc_rv32.specs.Stores.{BreakOff, Follow, OnceAtMost}
 
 -- whatever the result carries
-module _ {C D T : Type 0} (g : checkpoint.Ghosts C D) (a b : Moment C D) where
+module _ {C D T : Type 0} (g : checkpoint.Ghosts C D) (a b : OnDevice C D) where
   pub call_ok : (x : T) → IsCall (showing_of g) a b done → IsCall (showing_of g) a b (Ok x)
   call_ok x one = record {
     touches = let was = one.touches in record {
@@ -70,7 +70,7 @@ module _ {C D T : Type 0} (g : checkpoint.Ghosts C D) (a b : Moment C D) where
   stores_err why one = record { call = call_err why one.call; adds_nothing = one.adds_nothing; numbers = tt }
 
 -- a memory over a store: two names that stay, and the store with its device
-module _ {B N M C D : Type 0} (g : checkpoint.Ghosts C D) (laws : DeviceLaws g) (first : B → N) (second : B → M) (at : B → Moment C D) where
+module _ {B N M C D : Type 0} (g : checkpoint.Ghosts C D) (laws : DeviceLaws g) (first : B → N) (second : B → M) (at : B → OnDevice C D) where
   -- what stores left of it
   abbrev pub Left : B → B → Result (Unit {0}) CheckFault → Type 0
   Left a b r = (first b ≡ first a) × (second b ≡ second a) × Stores g (at a) (at b) r

@@ -26,7 +26,7 @@ use Rattle.dc_proc.specs.declared.up.Up.{Up}
 use Rattle.dc_protocols.specs.declared.protocol.Protocol.{Protocol}
 use Rattle.dc_recovery.proofs.Spans.{oldest_next}
 use Rattle.dc_recovery.specs.Core.{Status}
-use Rattle.dc_recovery.specs.Parts.{passed, sets_unlogged}
+use Rattle.dc_recovery.specs.Parts.{event_later, sets_unlogged}
 use Rattle.dc_recovery.specs.Saves.{answer_at}
 use Rattle.dc_recovery.specs.Systems.{System}
 use Rattle.dc_rv32.specs.Machine.{machine_of}
@@ -127,7 +127,7 @@ module _ (images : List Image) (inputs : List (List (List ℕ))) (pr : Protocol)
     unread_next true = map_drop logged_of (held u).unread ∙ ap (drop 1) is.unread_is
     unread_next false = is.unread_is
 
-    pub at_next : IsAt S p answers (passed replay (sets_unlogged log replay a) st) after (held u2)
+    pub at_next : IsAt S p answers (event_later replay (sets_unlogged log replay a) st) after (held u2)
     at_next = record {
       kernel_is = subst (λ (z : Local Guest). IsKernelAt G.count p (suc st.position) z after (held u2).kernel) (sym moved_is) kernel_next;
       kept = λ q less. (links_next q less).1 ∙ ap (λ xs. drop (slice_index xs q) (l.sent q ++ posted came q)) (sym others_same)
@@ -140,7 +140,7 @@ module _ (images : List Image) (inputs : List (List (List ℕ))) (pr : Protocol)
     }
 
   process_next : (old new : Option (List ℕ)) → IsProcess S p answers st old (held u) → IfSome old (λ w. n ≡ next_of (over u.guest w)) → IfSome old (λ w. e ≡ effect_of (event_of n (machine_over u.guest w)))
-      → Becomes old new (λ b w. over u2.guest w ≡ after_next n a (over u.guest b)) → IsProcess S p answers (passed replay (sets_unlogged log replay a) st) new (held u2)
+      → Becomes old new (λ b w. over u2.guest w ≡ after_next n a (over u.guest b)) → IsProcess S p answers (event_later replay (sets_unlogged log replay a) st) new (held u2)
   process_next old None is n_is e_is taken = tt
   process_next None (Some w) is n_is e_is taken = absurd taken
   process_next (Some b) (Some w) is n_is e_is taken = at_next b w is n_is e_is taken
@@ -148,9 +148,9 @@ module _ (images : List Image) (inputs : List (List (List ℕ))) (pr : Protocol)
   -- the whole of it
   pub over_next : (old new : Option (List ℕ)) (before leaves : Reading → Type 0) → IsOver S p answers st old (held u) before → IfSome old (λ w. n ≡ next_of (over u.guest w))
       → IfSome old (λ w. e ≡ effect_of (event_of n (machine_over u.guest w))) → Becomes old new (λ b w. over u2.guest w ≡ after_next n a (over u.guest b)) → ((r : Reading) → leaves r → before r)
-      → IsOver S p answers (passed replay (sets_unlogged log replay a) st) new (held u2) leaves
+      → IsOver S p answers (event_later replay (sets_unlogged log replay a) st) new (held u2) leaves
   over_next old new before leaves over n_is e_is taken less = record {
     going = record { up = over.going.up; one = over.going.one; from = let f = over.going.from in omega (arith, f); within = let w = there_within st.position answers a there in omega (arith, w) };
     process = process_next old new over.process n_is e_is taken;
-    stands = subst (λ xs. Stands G p answers (slice_index xs) (passed replay (sets_unlogged log replay a) st) leaves) (sym others_same) (λ r l. over.stands r (less r l));
+    stands = subst (λ xs. Stands G p answers (slice_index xs) (event_later replay (sets_unlogged log replay a) st) leaves) (sym others_same) (λ r l. over.stands r (less r l));
   }

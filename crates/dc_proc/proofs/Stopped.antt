@@ -24,7 +24,7 @@ use Rattle.dc_recovery.proofs.Rows.{log_unseen}
 use Rattle.dc_recovery.specs.Alone.{answers_alone, event_alone, rule_alone, status_alone, without_commits}
 use Rattle.dc_recovery.specs.Answers.{replays}
 use Rattle.dc_recovery.specs.Core.{Status}
-use Rattle.dc_recovery.specs.Parts.{fallen, first_of, left_of, may_store, passed, second_of, sets_unlogged, torn, torn_log}
+use Rattle.dc_recovery.specs.Parts.{fallen, first_of, left_of, may_store, event_later, second_of, sets_unlogged, torn, torn_log}
 use Rattle.dc_recovery.specs.Parts.Place.{Nowhere, InBefore, InLog, InEvent, InAfter}
 use Rattle.dc_recovery.specs.Saves.{Logged}
 use Rattle.dc_recovery.specs.Systems.{System}
@@ -126,20 +126,20 @@ module _ (images : List Image) (inputs : List (List (List ℕ))) (pr : Protocol)
       based_is = subst (λ (r : Rule). Based more (second_of r.log x (first_of r.before st)) based) rule_same was;
     }
 
-    pub stopped_after : asked.after ≡ true → Stands S.guests p more others (torn (passed replay (sets_unlogged asked.log replay a) (second_of asked.log x (first_of asked.before st)))) leaves → acts.after ≡ acts.more → Based more (second_of asked.log x (first_of asked.before st)) based → Is
+    pub stopped_after : asked.after ≡ true → Stands S.guests p more others (torn (event_later replay (sets_unlogged asked.log replay a) (second_of asked.log x (first_of asked.before st)))) leaves → acts.after ≡ acts.more → Based more (second_of asked.log x (first_of asked.before st)) based → Is
     stopped_after due stood written was = record {
       place = InAfter;
       somewhere = λ e. true≢false (sym (ap is_whole e));
       may = ap (λ (r : Rule). r.after) (sym rule_same) ∙ due;
-      stands = subst (λ (b : Bool). Stands S.guests p more others (torn (passed b (sets_unlogged (rule_alone S p answers st a).log b a) (second_of (rule_alone S p answers st a).log x (first_of (rule_alone S p answers st a).before st)))) leaves) replay_same
-          (subst (λ (r : Rule). Stands S.guests p more others (torn (passed replay (sets_unlogged r.log replay a) (second_of r.log x (first_of r.before st)))) leaves) rule_same stood);
+      stands = subst (λ (b : Bool). Stands S.guests p more others (torn (event_later b (sets_unlogged (rule_alone S p answers st a).log b a) (second_of (rule_alone S p answers st a).log x (first_of (rule_alone S p answers st a).before st)))) leaves) replay_same
+          (subst (λ (r : Rule). Stands S.guests p more others (torn (event_later replay (sets_unlogged r.log replay a) (second_of r.log x (first_of r.before st)))) leaves) rule_same stood);
       written = written;
       based_is = subst (λ (r : Rule). Based more (second_of r.log x (first_of r.before st)) based) rule_same was;
     }
 
   -- it was not stopped
   pub unstopped : (memory : Option (List ℕ)) (h : Held) (leaves : Reading → Type 0)
-      → IsOver S p more (first_of asked.after (passed replay (sets_unlogged asked.log replay a) (second_of asked.log x (first_of asked.before st)))) memory h leaves
+      → IsOver S p more (first_of asked.after (event_later replay (sets_unlogged asked.log replay a) (second_of asked.log x (first_of asked.before st)))) memory h leaves
       → IsOver S p more (status_alone S p answers st a Nowhere) memory h leaves
   unstopped memory h leaves over = subst (λ (b : Bool). IsOver S p more (left_of (rule_alone S p answers st a) b x st Nowhere) memory h leaves) replay_same
       (subst (λ (r : Rule). IsOver S p more (left_of r replay x st Nowhere) memory h leaves) rule_same over)

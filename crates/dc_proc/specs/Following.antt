@@ -1,7 +1,7 @@
 -- Calls of a store one after the other.
 use Rattle.std.proofs.Common.{◌≡◌, ◌∙◌, ℕ, Ok, Err, Result, refl, arith, OnOk, subst}
 use Rattle.std.proofs.lemmas.Result.{on_ok_weaker}
-use Rattle.dc_checkpoint.specs.Calls.{IsCall, IsCounted, Moment}
+use Rattle.dc_checkpoint.specs.Calls.{IsCall, IsCounted, OnDevice}
 use Rattle.dc_checkpoint.specs.Handles.{same_start, same_then, showing_of}
 use Rattle.dc_checkpoint.specs.declared.checkpoint.Checkpoint as checkpoint
 use Rattle.dc_checkpoint.specs.declared.faults.CheckFault.{CheckFault}
@@ -25,7 +25,7 @@ pub record DeviceLaws {C D : Type 0} (g : checkpoint.Ghosts C D) : Type 0 where
 
 module _ {C D : Type 0} (g : checkpoint.Ghosts C D) (laws : DeviceLaws g) where
   -- no call
-  pub call_none : (now : Moment C D) → g.lent now.store now.dev → IsCall (showing_of g) now now done
+  pub call_none : (now : OnDevice C D) → g.lent now.store now.dev → IsCall (showing_of g) now now done
   call_none now is = record {
     touches = record {
       same = same_start now.store;
@@ -47,7 +47,7 @@ module _ {C D : Type 0} (g : checkpoint.Ghosts C D) (laws : DeviceLaws g) where
   }
 
   -- one call more
-  pub call_then : {T : Type 0} (r : Result T CheckFault) (a b c : Moment C D) → IsCall (showing_of g) a b done → IsCall (showing_of g) b c r → IsCall (showing_of g) a c r
+  pub call_then : {T : Type 0} (r : Result T CheckFault) (a b c : OnDevice C D) → IsCall (showing_of g) a b done → IsCall (showing_of g) b c r → IsCall (showing_of g) a c r
   call_then r a b c one two = let before = one.touches in let after = two.touches in record {
     touches = record {
       same = same_then before.same after.same;
@@ -69,7 +69,7 @@ module _ {C D : Type 0} (g : checkpoint.Ghosts C D) (laws : DeviceLaws g) where
   }
 
   -- no store
-  pub stores_none : (now : Moment C D) → g.lent now.store now.dev → Stores g now now done
+  pub stores_none : (now : OnDevice C D) → g.lent now.store now.dev → Stores g now now done
   stores_none now is = record {
     call = call_none now is;
     adds_nothing = record { stands = λ d s h l. l; decided = record { steady = λ s so. s; among = λ s so e here. here } };
@@ -77,7 +77,7 @@ module _ {C D : Type 0} (g : checkpoint.Ghosts C D) (laws : DeviceLaws g) where
   }
 
   -- stores more
-  pub stores_then : {T : Type 0} (r : Result T CheckFault) (a b c : Moment C D) → Stores g a b done → Stores g b c r → Stores g a c r
+  pub stores_then : {T : Type 0} (r : Result T CheckFault) (a b c : OnDevice C D) → Stores g a b done → Stores g b c r → Stores g a c r
   stores_then r a b c one two = let before = one.adds_nothing in let after = two.adds_nothing in record {
     call = call_then r a b c one.call two.call;
     adds_nothing = record {
@@ -91,6 +91,6 @@ module _ {C D : Type 0} (g : checkpoint.Ghosts C D) (laws : DeviceLaws g) where
   }
 
 -- stores of which each was done, and what else holds of them
-pub ok_done : {C D P Q : Type 0} (g : checkpoint.Ghosts C D) (r : Result (Unit {0}) CheckFault) (a b : Moment C D) → P → Q → Stores g a b r → OnOk r (P × Q × Stores g a b done)
+pub ok_done : {C D P Q : Type 0} (g : checkpoint.Ghosts C D) (r : Result (Unit {0}) CheckFault) (a b : OnDevice C D) → P → Q → Stores g a b r → OnOk r (P × Q × Stores g a b done)
 ok_done g (Ok x) a b p q one = (p, q, one)
 ok_done g (Err why) a b p q one = tt

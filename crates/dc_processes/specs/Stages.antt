@@ -3,12 +3,14 @@ use Rattle.std.specs.Prelude.{◌≡◌, ◌<◌, ◌≤◌, ◌*◌, ◌-◌, �
 use Rattle.dc_checkpoint.specs.Calls.{AreAll}
 use Rattle.dc_checkpoint.specs.States.{Reading, State, number_in}
 use Rattle.dc_checkpoint.specs.declared.checkpoint.Checkpoint as checkpoint
+use Rattle.dc_elf.specs.Images.{Image}
 use Rattle.dc_guest.specs.Guest.{Guest}
 use Rattle.dc_model.specs.Guests.{Event}
 use Rattle.dc_model.specs.Runs.{own}
 use Rattle.dc_model.specs.World.{reported}
 use Rattle.dc_model.specs.declared.act.Taken.{Taken}
 use Rattle.dc_words.specs.Lists.{lists_of}
+use Rattle.dc_proc.specs.Carried.{system}
 use Rattle.dc_proc.specs.Events.{HasCountsFor}
 use Rattle.dc_proc.specs.Processes.{IsNumbered}
 use Rattle.dc_proc.specs.Ups.{IsFit}
@@ -36,6 +38,10 @@ pub record Stage (C D : Type 0) : Type 0 where
   pub lines : ℕ
   pub entries : ℕ
   pub left : ℕ
+
+-- its guests, of these images, under its protocol
+abbrev pub system_at : {C D : Type 0} → List Image → Stage C D → System Guest
+system_at images x = system images x.inputs x.protocol
 
 -- a store of the process of this number
 abbrev pub store_of : {C D : Type 0} → Stage C D → ℕ → Option C

@@ -1,7 +1,7 @@
 -- What a process needs to take its next event in its slot, and what it is after that.
 use Rattle.std.specs.Prelude.{◌≡◌, ◌<◌, ◌≤◌, ◌+◌, ◌-◌, ◌^◌, ℕ, List, true, false, Option, None, Some, IfSome, Result, OnOk, OnErr, IfOk}
 use Rattle.dc_calls.specs.declared.call.Call.{Call}
-use Rattle.dc_checkpoint.specs.Calls.{AreAmong, Moment, Narrows}
+use Rattle.dc_checkpoint.specs.Calls.{AreAmong, OnDevice, Narrows}
 use Rattle.dc_checkpoint.specs.declared.checkpoint.Checkpoint as checkpoint
 use Rattle.dc_events.specs.Kinds.{kind_of}
 use Rattle.dc_guest.specs.Answers.{effect_of, may_answer}
@@ -80,7 +80,7 @@ abbrev pub attempt : ℕ → Answer → List Taken → List Taken → Attempt
 attempt t answer before after = record { t = t; answer = answer; before = before; after = after }
 
 -- what became of process u in its slot, whole or refused: it is up still
-pub record HasTaken {C D : Type 0} (g : checkpoint.Ghosts C D) (old new : Moment C D) (e : Attempt) (result : Result (Option Shown) CheckFault) (u : Process) (slot : Option Slot) : Type 0 where
+pub record HasTaken {C D : Type 0} (g : checkpoint.Ghosts C D) (old new : OnDevice C D) (e : Attempt) (result : Result (Option Shown) CheckFault) (u : Process) (slot : Option Slot) : Type 0 where
   pub up : Process
   pub there : slot ≡ Some (Up up)
   pub same : IsSameUp u up

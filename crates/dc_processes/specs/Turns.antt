@@ -9,7 +9,6 @@ use Rattle.dc_model.specs.declared.visible.Visible.{Visible}
 use Rattle.dc_model.specs.Guests.{Answer}
 use Rattle.dc_model.specs.Process.{comes}
 use Rattle.dc_model.specs.Runs.{own}
-use Rattle.dc_proc.specs.Carried.{system}
 use Rattle.dc_proc.specs.declared.shown.Shown.{Shown}
 use Rattle.dc_protocols.specs.Rules.{is_joint}
 use Rattle.dc_recovery.proofs.Given.{IsGiven}
@@ -20,7 +19,7 @@ use Rattle.dc_recovery.specs.Alone.{MayStopAlone}
 use Rattle.dc_recovery.specs.Parts.{Place, may_stop}
 use Rattle.dc_recovery.specs.Parts.Place.{Nowhere}
 use Rattle.dc_recovery.specs.Turned.{Turned, after_turn}
-use Rattle.dc_processes.specs.Stages.{IsTold, IsWorld, Stage, memory_of, store_of}
+use Rattle.dc_processes.specs.Stages.{IsTold, IsWorld, Stage, memory_of, store_of, system_at}
 use Rattle.dc_processes.specs.declared.slot.Slot.{Slot}
 
 -- what was shown, as lines
@@ -40,19 +39,27 @@ marked mark shown = record { mark = mark; shown = shown }
 -- the theory allows it: the core that the world stands for after the entry, which shows this more
 pub record IsTurned {C D : Type 0} (g : checkpoint.Ghosts C D) (images : List Image) (c : Core) (old new : Stage C D) (entry : Entry) (did : Marked) : Type 0 where
   pub after : Core
-  pub turned : Turned (system images old.inputs old.protocol) old.entries c entry did.mark after
+  pub turned : Turned (system_at images old) old.entries c entry did.mark after
   pub lines_are : after.lines ≡ lines_of did.shown ++ c.lines
-  pub stands : IsWorld g (system images old.inputs old.protocol) after new
+  pub stands : IsWorld g (system_at images old) after new
+
+-- so it is said where a run has come to this core, and the world stands for it
+abbrev pub IfCome : {C D : Type 0} → checkpoint.Ghosts C D → List Image → List Entry → Core → Stage C D → Type 0 → Type 0
+IfCome g images schedule c x says = Holds (system_at images x) schedule x.entries c → IsWorld g (system_at images x) c x → says
+
+-- and its process p may be given this answer
+abbrev pub IfGiven : {C D : Type 0} → checkpoint.Ghosts C D → List Image → List Entry → Core → Stage C D → ℕ → Answer → Type 0 → Type 0
+IfGiven g images schedule c x p a says = IfCome g images schedule c x (p < (system_at images x).guests.count → IsGiven (system_at images x).guests c p a → says)
 
 -- wherever the run had come to, whatever its guests, where its devices were told and still tell
 abbrev pub GoesOn : {C D : Type 0} → checkpoint.Ghosts C D → Stage C D → Stage C D → Entry → Mark → Option Visible → Type 0
 GoesOn g old new entry mark shown = (images : List Image) (schedule : List Entry) (c : Core) → IsTold g old → IsTold g new
-    → Holds (system images old.inputs old.protocol) schedule old.entries c → IsWorld g (system images old.inputs old.protocol) c old → IsTurned g images c old new entry (marked mark shown)
+    → IfCome g images schedule c old (IsTurned g images c old new entry (marked mark shown))
 
 -- there is no run that has come to such a world, where its devices were told and still tell
 abbrev pub HasNoRun : {C D : Type 0} → checkpoint.Ghosts C D → Stage C D → Stage C D → Type 0
 HasNoRun g old new = (images : List Image) (schedule : List Entry) (c : Core) → IsTold g old → IsTold g new
-    → Holds (system images old.inputs old.protocol) schedule old.entries c → IsWorld g (system images old.inputs old.protocol) c old → ⊥
+    → IfCome g images schedule c old ⊥
 
 -- whatever stores there are, each that of its slot, among them this one of process p
 abbrev pub WithStores : {C D : Type 0} → checkpoint.Ghosts C D → ℕ → C → (List C → Type 0) → Type 0
@@ -85,30 +92,22 @@ with_slot p slot x = record x { slots = slice_set x.slots p (Some slot) }
 abbrev pub Went : {C D : Type 0} → checkpoint.Ghosts C D → Stage C D → Stage C D → ℕ → Answer → Type 0
 Went g old new p a = (images : List Image) (schedule : List Entry) (c : Core) (words words1 : List ℕ) → is_joint old.protocol ≡ false
     → memory_of g (store_of old p) old.dev ≡ Some words → memory_of g (store_of new p) new.dev ≡ Some words1
-    → Holds (system images old.inputs old.protocol) schedule old.entries c → IsWorld g (system images old.inputs old.protocol) c old → p < (system images old.inputs old.protocol).guests.count
-    → IsGiven (system images old.inputs old.protocol).guests c p a
-    → IsWorld g (system images old.inputs old.protocol) (after_turn (system images old.inputs old.protocol) old.entries c p a Nowhere) new
+    → IfGiven g images schedule c old p a (IsWorld g (system_at images old) (after_turn (system_at images old) old.entries c p a Nowhere) new)
 
 -- one that was stopped in one of its places: the world stands for the core that a stop there leaves
 abbrev pub Fell : {C D : Type 0} → checkpoint.Ghosts C D → Stage C D → Stage C D → ℕ → Answer → Type 0
 Fell g old new p a = (images : List Image) (schedule : List Entry) (c : Core) (words : List ℕ) → is_joint old.protocol ≡ false → memory_of g (store_of old p) old.dev ≡ Some words
-    → Holds (system images old.inputs old.protocol) schedule old.entries c → IsWorld g (system images old.inputs old.protocol) c old → p < (system images old.inputs old.protocol).guests.count
-    → IsGiven (system images old.inputs old.protocol).guests c p a
-    → (w : Place) × (w ≢ Nowhere) × MayStopAlone (system images old.inputs old.protocol) p (own p c.acts) (c.procs p) a w
-    × IsWorld g (system images old.inputs old.protocol) (after_turn (system images old.inputs old.protocol) old.entries c p a w) new
+    → IfGiven g images schedule c old p a ((w : Place) × (w ≢ Nowhere) × MayStopAlone (system_at images old) p (own p c.acts) (c.procs p) a w
+    × IsWorld g (system_at images old) (after_turn (system_at images old) old.entries c p a w) new)
 
 -- a turn of process p that was answered so and went whole, where all commit together: wherever the run had come to, whatever its guests, the world stands
 -- for the core after it
 abbrev pub WentTogether : {C D : Type 0} → checkpoint.Ghosts C D → Stage C D → Stage C D → ℕ → Answer → Type 0
 WentTogether g old new p a = (images : List Image) (schedule : List Entry) (c : Core) → is_joint old.protocol ≡ true → IsTold g old
-    → Holds (system images old.inputs old.protocol) schedule old.entries c → IsWorld g (system images old.inputs old.protocol) c old → p < (system images old.inputs old.protocol).guests.count
-    → IsGiven (system images old.inputs old.protocol).guests c p a
-    → IsWorld g (system images old.inputs old.protocol) (after_turn (system images old.inputs old.protocol) old.entries c p a Nowhere) new
+    → IfGiven g images schedule c old p a (IsWorld g (system_at images old) (after_turn (system_at images old) old.entries c p a Nowhere) new)
 
 -- one that was stopped in one of its places, as its protocol and its event allow: the world stands for the core that a stop there leaves
 abbrev pub FellTogether : {C D : Type 0} → checkpoint.Ghosts C D → Stage C D → Stage C D → ℕ → Answer → Type 0
 FellTogether g old new p a = (images : List Image) (schedule : List Entry) (c : Core) → is_joint old.protocol ≡ true → IsTold g old
-    → Holds (system images old.inputs old.protocol) schedule old.entries c → IsWorld g (system images old.inputs old.protocol) c old → p < (system images old.inputs old.protocol).guests.count
-    → IsGiven (system images old.inputs old.protocol).guests c p a
-    → (w : Place) × (w ≢ Nowhere) × (may_stop (rule_at (system images old.inputs old.protocol) c p a) (stores_at (system images old.inputs old.protocol).guests c p a) (comes (system images old.inputs old.protocol).guests (stands (system images old.inputs old.protocol).guests c p) a) a w ≡ true)
-    × IsWorld g (system images old.inputs old.protocol) (after_turn (system images old.inputs old.protocol) old.entries c p a w) new
+    → IfGiven g images schedule c old p a ((w : Place) × (w ≢ Nowhere) × (may_stop (rule_at (system_at images old) c p a) (stores_at (system_at images old).guests c p a) (comes (system_at images old).guests (stands (system_at images old).guests c p) a) a w ≡ true)
+    × IsWorld g (system_at images old) (after_turn (system_at images old) old.entries c p a w) new)

@@ -15,7 +15,7 @@ use Rattle.dc_recovery.specs.Core.{Core, Status, Which, numbers_of, save_of, sta
 use Rattle.dc_recovery.specs.Core.Which.{Newer, Older}
 use Rattle.dc_recovery.specs.Invariant.{Holds}
 use Rattle.dc_recovery.specs.Numbers.{ShareNumbers, HasNumbers}
-use Rattle.dc_recovery.specs.Parts.{Company, Place, commit_if, commits_in, each, fallen, first, is_with, left, log_if, logged, passed, risen, second, sets_unlogged, third, torn_in, torn_log}
+use Rattle.dc_recovery.specs.Parts.{Company, Place, commit_if, commits_in, each, fallen, first, is_with, left, log_if, logged, event_later, risen, second, sets_unlogged, third, torn_in, torn_log}
 use Rattle.dc_recovery.specs.Parts.Place.{InAfter, InBefore, InEvent, InLog, Nowhere}
 use Rattle.dc_recovery.specs.Saves.{Logged}
 use Rattle.dc_recovery.specs.Systems.{System}
@@ -73,7 +73,7 @@ module _ {Mc : Type 0} (S : System Mc) (g : is_joint S.protocol ≡ true) (free 
     seconds = log_same f.log
 
     thirds : (q : ℕ) → HasNumbers j j (third f rep x v p c.procs q)
-    thirds q = cond_numbered j j (p == q) (passed rep (sets_unlogged f.log rep x.answer) (second f x v p c.procs p)) (second f x v p c.procs q) (seconds p) (seconds q)
+    thirds q = cond_numbered j j (p == q) (event_later rep (sets_unlogged f.log rep x.answer) (second f x v p c.procs p)) (second f x v p c.procs q) (seconds p) (seconds q)
 
     last_at : (b : Bool) → ShareNumbers (commit_if b v.after v.numbers_after (third f rep x v p c.procs))
     last_at true = (suc j, suc j, commits_same v.after v.numbers_after (third f rep x v p c.procs) (suc j) after_all two_is)

@@ -29,7 +29,7 @@ use Rattle.dc_recovery.specs.Causes.{AreSaved, Before, Caused, IsTold, IsTracked
 use Rattle.dc_recovery.specs.Core.{Core, Status, Ties, Which, numbers_of, opened_core, opening, save_of, stands, untied}
 use Rattle.dc_recovery.specs.Core.Which.{Newer, Older}
 use Rattle.dc_recovery.specs.Invariant.{Holds}
-use Rattle.dc_recovery.specs.Parts.{Place, at_one, commit_if, commits_in, committed_as, each, fallen, is_with, left, may_stop, passed, risen, sets_unlogged, torn_as, torn_in}
+use Rattle.dc_recovery.specs.Parts.{Place, at_one, commit_if, commits_in, committed_as, each, fallen, is_with, left, may_stop, event_later, risen, sets_unlogged, torn_as, torn_in}
 use Rattle.dc_recovery.specs.Parts.Place.{InAfter, InBefore, InEvent, InLog, Nowhere}
 use Rattle.dc_recovery.specs.Saves.{Logged, answer_at, logged_at, span}
 use Rattle.dc_recovery.specs.Systems.{IsSound, System, kind_at}
@@ -88,7 +88,7 @@ module _ {Mc : Type 0} (S : System Mc) (sound : IsSound S) (schedule : List Entr
   firsts = commit_if f.before (members S c.ties (numbers_of c.procs) p) (next_numbers S (numbers_of c.procs)) c.procs
 
   abbrev thirds : ℕ → Status
-  thirds = at_one p (passed rep sets) (commit_if f.before (members S c.ties (numbers_of c.procs) p) (next_numbers S (numbers_of c.procs)) c.procs)
+  thirds = at_one p (event_later rep sets) (commit_if f.before (members S c.ties (numbers_of c.procs) p) (next_numbers S (numbers_of c.procs)) c.procs)
 
   firsts_now : JointNow false S c.acts firsts (tied_first S c p a)
   firsts_now = first_now S sound schedule t c now p a told up inside g false (λ on. absurd (true≢false (sym on))) off quiet (λ on. absurd (true≢false (sym on)))
@@ -195,7 +195,7 @@ module _ {Mc : Type 0} (S : System Mc) (sound : IsSound S) (schedule : List Entr
   event_saved = saved_event false S c.acts (with_act t c p a) firsts (tied_first S c p a) p a rep sets firsts_now grown quiet sure_send seen there less sends_old told_old seen_old first_tracked first_saved
 
   older_same : (q : ℕ) → (thirds q).older ≡ (firsts q).older
-  older_same = each_put (λ (q : ℕ) (st : Status). st.older ≡ (firsts q).older) p (passed rep sets (firsts p)) firsts refl (λ q ne. refl)
+  older_same = each_put (λ (q : ℕ) (st : Status). st.older ≡ (firsts q).older) p (event_later rep sets (firsts p)) firsts refl (λ q ne. refl)
 
   third_saved : AreSaved S.guests (with_act t c p a) (λ q. (thirds q).older)
   third_saved = subst (AreSaved S.guests (with_act t c p a)) (λ i q. sym (older_same q) i) event_saved

@@ -16,7 +16,7 @@ use Rattle.dc_recovery.specs.Core.{Core, Status, Which, numbers_of, save_of, sta
 use Rattle.dc_recovery.specs.Core.Which.{Newer, Older}
 use Rattle.dc_recovery.specs.Invariant.{Holds}
 use Rattle.dc_recovery.specs.Numbers.{IsSinceCommit}
-use Rattle.dc_recovery.specs.Parts.{Company, Place, at_one, commit_if, committed_as, commits_in, each, fallen, first, is_with, left, log_if, logged, passed, risen, second, sets_unlogged, third, torn_as, torn_in, torn_log}
+use Rattle.dc_recovery.specs.Parts.{Company, Place, at_one, commit_if, committed_as, commits_in, each, fallen, first, is_with, left, log_if, logged, event_later, risen, second, sets_unlogged, third, torn_as, torn_in, torn_log}
 use Rattle.dc_recovery.specs.Parts.Place.{InAfter, InBefore, InEvent, InLog, Nowhere}
 use Rattle.dc_recovery.specs.Saves.{Logged}
 use Rattle.dc_recovery.specs.Systems.{System}
@@ -71,9 +71,9 @@ module _ {Mc : Type 0} (S : System Mc) (c : Core) (p : ℕ) (a : Answer) (q : �
     seconds : IsSinceCommit n i (second f x v p c.procs q) × ((second f x v p c.procs q).older.number ≡ (first f v c.procs q).older.number)
     seconds = same_number f.log
 
-    passes : (procs : ℕ → Status) → IsSinceCommit n i (procs q) → IsSinceCommit n i (at_one p (passed rep (sets_unlogged f.log rep x.answer)) procs q) × ((at_one p (passed rep (sets_unlogged f.log rep x.answer)) procs q).older.number ≡ (procs q).older.number)
+    passes : (procs : ℕ → Status) → IsSinceCommit n i (procs q) → IsSinceCommit n i (at_one p (event_later rep (sets_unlogged f.log rep x.answer)) procs q) × ((at_one p (event_later rep (sets_unlogged f.log rep x.answer)) procs q).older.number ≡ (procs q).older.number)
     passes procs is = ⊎_elim
-        (λ (e : p ≡ q). subst (λ y. IsSinceCommit n i (at_one y (passed rep (sets_unlogged f.log rep x.answer)) procs q) × ((at_one y (passed rep (sets_unlogged f.log rep x.answer)) procs q).older.number ≡ (procs q).older.number)) (sym e) (rw (eq-eqb q q refl) (is, refl)))
+        (λ (e : p ≡ q). subst (λ y. IsSinceCommit n i (at_one y (event_later rep (sets_unlogged f.log rep x.answer)) procs q) × ((at_one y (event_later rep (sets_unlogged f.log rep x.answer)) procs q).older.number ≡ (procs q).older.number)) (sym e) (rw (eq-eqb q q refl) (is, refl)))
         (λ (ne : p ≢ q). rw (ne_eqb p q ne) (is, refl))
         (cases_eq p q)
 

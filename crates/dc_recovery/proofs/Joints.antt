@@ -22,7 +22,7 @@ use Rattle.dc_recovery.specs.Answers.{any_unlogged}
 use Rattle.dc_recovery.specs.Core.{Core, Status, Ties}
 use Rattle.dc_recovery.specs.Core.Which.{Newer, Older}
 use Rattle.dc_recovery.specs.Invariant.{Joint, Traced, sure_of}
-use Rattle.dc_recovery.specs.Parts.{at_one, commit_if, commits_in, committed_as, passed}
+use Rattle.dc_recovery.specs.Parts.{at_one, commit_if, commits_in, committed_as, event_later}
 use Rattle.dc_recovery.specs.Recoveries.{SavedBeforeShown, until_shown}
 use Rattle.dc_recovery.specs.Saves.{IsCovered, Logged, Save, is_empty_log, logged_at, reach, span}
 use Rattle.dc_recovery.specs.Systems.{IsSound, System}
@@ -272,7 +272,7 @@ pub record Grown (strict : Bool) {Mc : Type 0} (S : System Mc) (acts more : List
 module _ (strict : Bool) {Mc : Type 0} (S : System Mc) (sound : IsSound S) (acts more : List Given) (procs : ℕ → Status) (ties : Ties) (p : ℕ) (a : Answer) (rep sets : Bool) (inside : p < S.guests.count)
     (now : JointNow strict S acts procs ties) (grown : Grown strict S acts more p a sets procs) where
   abbrev moves : ℕ → Status
-  moves = at_one p (passed rep sets) procs
+  moves = at_one p (event_later rep sets) procs
 
   abbrev was : Local Mc
   was = at_position S.guests p (procs p).position (own p acts)
@@ -298,11 +298,11 @@ module _ (strict : Bool) {Mc : Type 0} (S : System Mc) (sound : IsSound S) (acts
   sent_more s i j q h k = let m = sent_longer S.guests s i j q (own s more) k in let e : length ((at_position S.guests s i (own s more)).sent q) ≡ length ((at_position S.guests s i (own s acts)).sent q) = ap (λ (l : Local Mc). length (l.sent q)) (image s i h) in omega arith
 
   older_at : (q : ℕ) → (moves q).older ≡ (procs q).older
-  older_at = each_put (λ (q : ℕ) (st : Status). st.older ≡ (procs q).older) p (passed rep sets (procs p)) procs refl (λ q ne. refl)
+  older_at = each_put (λ (q : ℕ) (st : Status). st.older ≡ (procs q).older) p (event_later rep sets (procs p)) procs refl (λ q ne. refl)
 
   -- what a process received a step later
   received_next : (q s : ℕ) → (at_position S.guests q (moves q).position (own q more)).received s ≡ (at_position S.guests q (procs q).position (own q acts)).received s + (if p == q then took_from a s else 0)
-  received_next q s = each_put (λ (q : ℕ) (st : Status). (at_position S.guests q st.position (own q more)).received s ≡ (at_position S.guests q (procs q).position (own q acts)).received s + (if p == q then took_from a s else 0)) p (passed rep sets (procs p)) procs
+  received_next q s = each_put (λ (q : ℕ) (st : Status). (at_position S.guests q st.position (own q more)).received s ≡ (at_position S.guests q (procs q).position (own q acts)).received s + (if p == q then took_from a s else 0)) p (event_later rep sets (procs p)) procs
       (rw (grown.next, eq-eqb p p refl) refl)
       (λ r ne. rw (image r (procs r).position (now.at_within r), ne_eqb p r ne) (omega arith))
       q
@@ -321,7 +321,7 @@ module _ (strict : Bool) {Mc : Type 0} (S : System Mc) (sound : IsSound S) (acts
   max_in s = let a = now.at_within s in let b = reach_in s in omega arith
 
   max_more : (s : ℕ) → max (procs s).position (reach S s (own s acts) (procs s).older) ≤ max (moves s).position (reach S s (own s more) (moves s).older)
-  max_more s = rw (older_at s) (let r = reach_more s in let k : (procs s).position ≤ (moves s).position = each_put (λ (q : ℕ) (st : Status). (procs q).position ≤ st.position) p (passed rep sets (procs p)) procs (omega arith) (λ q ne. omega arith) s in omega arith)
+  max_more s = rw (older_at s) (let r = reach_more s in let k : (procs s).position ≤ (moves s).position = each_put (λ (q : ℕ) (st : Status). (procs q).position ≤ st.position) p (event_later rep sets (procs p)) procs (omega arith) (λ q ne. omega arith) s in omega arith)
 
   ahead_next : IsCovered S.guests (λ q. (moves q).position) (λ q. max (moves q).position (reach S q (own q more) (moves q).older)) more
   ahead_next q s = rw (received_next q s) (let k = room q s in let m = sent_more s (max (procs s).position (reach S s (own s acts) (procs s).older)) (max (moves s).position (reach S s (own s more) (moves s).older)) q (max_in s) (max_more s) in omega arith)
@@ -360,7 +360,7 @@ module _ (strict : Bool) {Mc : Type 0} (S : System Mc) (sound : IsSound S) (acts
     later = tied_event S.guests p was a sets ties
 
     self_next : (q : ℕ) → (moves q).unlogged ≡ true → later.on q q ≡ true
-    self_next = each_put (λ (q : ℕ) (st : Status). st.unlogged ≡ true → later.on q q ≡ true) p (passed rep sets (procs p)) procs
+    self_next = each_put (λ (q : ℕ) (st : Status). st.unlogged ≡ true → later.on q q ≡ true) p (event_later rep sets (procs p)) procs
         (λ e. ⊎_elim
         (λ own. or_left (ties.on p p) _ (tr.self p own))
         (λ (on : sets ≡ true). let k : (p == p && ((sets && p == p) || hears ties.carried p was.received a p)) ≡ true = rw (eq-eqb p p refl, on) refl in or_right (ties.on p p) _ k)
@@ -408,9 +408,9 @@ module _ (strict : Bool) {Mc : Type 0} (S : System Mc) (sound : IsSound S) (acts
     mail_next : (s r k : ℕ) → length ((at_position S.guests s (reach S s (own s more) (moves s).older) (own s more)).sent r) ≤ k → k < length ((at_position S.guests s (moves s).position (own s more)).sent r) → later.carried s r k s ≡ true
     mail_next s r k low high = ⊎_elim
         (λ (same : p ≡ s). subst (λ (y : ℕ). length ((at_position S.guests y (reach S y (own y more) (moves y).older) (own y more)).sent r) ≤ k → k < length ((at_position S.guests y (moves y).position (own y more)).sent r) → later.carried y r k y ≡ true) same
-        (λ l h. mail_self r k (rw (put_self p (passed rep sets (procs p)) procs) at l) (rw (put_self p (passed rep sets (procs p)) procs) at h)) low high)
-        (λ (ne : p ≢ s). let l : length ((at_position S.guests s (reach S s (own s more) (procs s).older) (own s more)).sent r) ≤ k = rw (put_other p s (passed rep sets (procs p)) procs ne) at low in
-        let h : k < length ((at_position S.guests s (procs s).position (own s more)).sent r) = rw (put_other p s (passed rep sets (procs p)) procs ne) at high in
+        (λ l h. mail_self r k (rw (put_self p (event_later rep sets (procs p)) procs) at l) (rw (put_self p (event_later rep sets (procs p)) procs) at h)) low high)
+        (λ (ne : p ≢ s). let l : length ((at_position S.guests s (reach S s (own s more) (procs s).older) (own s more)).sent r) ≤ k = rw (put_other p s (event_later rep sets (procs p)) procs ne) at low in
+        let h : k < length ((at_position S.guests s (procs s).position (own s more)).sent r) = rw (put_other p s (event_later rep sets (procs p)) procs ne) at high in
         let m = sent_by s r in
         let is : length ((at_position S.guests s (procs s).position (own s more)).sent r) ≡ length ((at_position S.guests s (procs s).position (own s acts)).sent r) = ap (λ (ds : List Answer). length ((at_position S.guests s (procs s).position ds).sent r)) (grown.others s ne) in
         rw (ne_eqb s p (λ e. ne (sym e))) (tr.mail s r k (omega arith) (omega arith)))
@@ -432,13 +432,13 @@ module _ (strict : Bool) {Mc : Type 0} (S : System Mc) (sound : IsSound S) (acts
         ))
         (or_cases (ties.on r q) _ e)
 
-    traced_next : Traced S (core_of more (at_one p (passed rep sets) procs) (tied_event S.guests p was a sets ties))
+    traced_next : Traced S (core_of more (at_one p (event_later rep sets) procs) (tied_event S.guests p was a sets ties))
     traced_next = record {
       self = self_next;
-      told = each_put (λ (q : ℕ) (st : Status). st.unlogged ≡ true → is_empty_log (span (logged_at (own q more)) st.older.position (length (own q more))) ≡ false) p (passed rep sets (procs p)) procs
+      told = each_put (λ (q : ℕ) (st : Status). st.unlogged ≡ true → is_empty_log (span (logged_at (own q more)) st.older.position (length (own q more))) ≡ false) p (event_later rep sets (procs p)) procs
           (λ e. grown.told e (tr.told p))
           (λ q ne e. rw (grown.others q ne) (tr.told q e));
-      last = each_put (λ (q : ℕ) (st : Status). st.unlogged ≡ true → st.position ≡ length (own q more)) p (passed rep sets (procs p)) procs
+      last = each_put (λ (q : ℕ) (st : Status). st.unlogged ≡ true → st.position ≡ length (own q more)) p (event_later rep sets (procs p)) procs
           (λ e. grown.last e (tr.last p))
           (λ q ne e. rw (grown.others q ne) (tr.last q e));
       got = got_next;
@@ -449,22 +449,22 @@ module _ (strict : Bool) {Mc : Type 0} (S : System Mc) (sound : IsSound S) (acts
           (λ _ e. or_left (ties.on s q) _ (tr.kept s r k q e));
     }
 
-  pub now_event : JointNow strict S more (at_one p (passed rep sets) procs) (tied_event S.guests p (at_position S.guests p (procs p).position (own p acts)) a sets ties)
+  pub now_event : JointNow strict S more (at_one p (event_later rep sets) procs) (tied_event S.guests p (at_position S.guests p (procs p).position (own p acts)) a sets ties)
   now_event = record {
-    up = each_put (λ (q : ℕ) (st : Status). st.up ≡ true) p (passed rep sets (procs p)) procs (now.up p) (λ q ne. now.up q);
-    one = each_put (λ (q : ℕ) (st : Status). st.newer ≡ st.older) p (passed rep sets (procs p)) procs (now.one p) (λ q ne. now.one q);
+    up = each_put (λ (q : ℕ) (st : Status). st.up ≡ true) p (event_later rep sets (procs p)) procs (now.up p) (λ q ne. now.up q);
+    one = each_put (λ (q : ℕ) (st : Status). st.newer ≡ st.older) p (event_later rep sets (procs p)) procs (now.one p) (λ q ne. now.one q);
     older = subst (JointOk strict S more) (λ i q. sym (older_at q) i) older_next;
     within = λ q. rw (older_at q) (⊎_elim
         (λ (e : p ≡ q). subst (λ (y : ℕ). (procs y).older.position ≤ length (own y more)) e (let k = now.within p in let l = grown.longer in omega arith))
         (λ (ne : p ≢ q). rw (grown.others q ne) (now.within q))
         (cases_eq p q));
-    order = each_put (λ (q : ℕ) (st : Status). st.older.position ≤ st.position) p (passed rep sets (procs p)) procs (let k = now.order p in omega arith) (λ q ne. now.order q);
-    no_log = each_put (λ (q : ℕ) (st : Status). st.older.log ≡ []) p (passed rep sets (procs p)) procs (now.no_log p) (λ q ne. now.no_log q);
+    order = each_put (λ (q : ℕ) (st : Status). st.older.position ≤ st.position) p (event_later rep sets (procs p)) procs (let k = now.order p in omega arith) (λ q ne. now.order q);
+    no_log = each_put (λ (q : ℕ) (st : Status). st.older.log ≡ []) p (event_later rep sets (procs p)) procs (now.no_log p) (λ q ne. now.no_log q);
     ahead = ahead_next;
-    at_within = each_put (λ (q : ℕ) (st : Status). st.position ≤ length (own q more)) p (passed rep sets (procs p)) procs grown.at_within (λ q ne. rw (grown.others q ne) (now.at_within q));
-    rest = each_put (λ (q : ℕ) (st : Status). span (logged_at (own q more)) st.position (length (own q more)) ≡ []) p (passed rep sets (procs p)) procs grown.rest (λ q ne. rw (grown.others q ne) (now.rest q));
-    clear = each_put (λ (q : ℕ) (st : Status). st.unlogged ≡ false → span (logged_at (own q more)) st.older.position (length (own q more)) ≡ []) p (passed rep sets (procs p)) procs grown.clear (λ q ne. rw (grown.others q ne) (now.clear q));
-    beyond = each_put (λ (q : ℕ) (st : Status). S.guests.count ≤ q → st.unlogged ≡ false) p (passed rep sets (procs p)) procs (λ h. absurd (omega arith)) (λ q ne. now.beyond q);
+    at_within = each_put (λ (q : ℕ) (st : Status). st.position ≤ length (own q more)) p (event_later rep sets (procs p)) procs grown.at_within (λ q ne. rw (grown.others q ne) (now.at_within q));
+    rest = each_put (λ (q : ℕ) (st : Status). span (logged_at (own q more)) st.position (length (own q more)) ≡ []) p (event_later rep sets (procs p)) procs grown.rest (λ q ne. rw (grown.others q ne) (now.rest q));
+    clear = each_put (λ (q : ℕ) (st : Status). st.unlogged ≡ false → span (logged_at (own q more)) st.older.position (length (own q more)) ≡ []) p (event_later rep sets (procs p)) procs grown.clear (λ q ne. rw (grown.others q ne) (now.clear q));
+    beyond = each_put (λ (q : ℕ) (st : Status). S.guests.count ≤ q → st.unlogged ≡ false) p (event_later rep sets (procs p)) procs (λ h. absurd (omega arith)) (λ q ne. now.beyond q);
     traced = λ causal. traced_next causal;
   }
 

@@ -14,7 +14,7 @@ use Rattle.dc_recovery.specs.Answers.{answer, is_blocked, replays, rule_at}
 use Rattle.dc_recovery.specs.Core.{Core, Status, Which, numbers_of, save_of, stands}
 use Rattle.dc_recovery.specs.Core.Which.{Newer, Older}
 use Rattle.dc_recovery.specs.Numbers.{AreUpTo, IsUpTo}
-use Rattle.dc_recovery.specs.Parts.{Company, Place, at_one, commit_if, committed_as, commits_in, each, fallen, first, is_with, left, log_if, logged, passed, risen, second, sets_unlogged, third, torn_as, torn_in, torn_log}
+use Rattle.dc_recovery.specs.Parts.{Company, Place, at_one, commit_if, committed_as, commits_in, each, fallen, first, is_with, left, log_if, logged, event_later, risen, second, sets_unlogged, third, torn_as, torn_in, torn_log}
 use Rattle.dc_recovery.specs.Parts.Place.{InAfter, InBefore, InEvent, InLog, Nowhere}
 use Rattle.dc_recovery.specs.Saves.{Logged}
 use Rattle.dc_recovery.specs.Systems.{System}
@@ -83,7 +83,7 @@ module _ {Mc : Type 0} (S : System Mc) (c : Core) (p : ℕ) (a : Answer) (k : �
     seconds = log_below (suc k) (first f v c.procs) firsts f.log x p
 
     thirds : AreUpTo (suc k) (third f rep x v p c.procs)
-    thirds = one_below (suc k) (second f x v p c.procs) seconds p (passed rep (sets_unlogged f.log rep x.answer)) (λ st is. is)
+    thirds = one_below (suc k) (second f x v p c.procs) seconds p (event_later rep (sets_unlogged f.log rep x.answer)) (λ st is. is)
 
     more : (procs : ℕ → Status) → AreUpTo (suc k) procs → AreUpTo (suc (suc k)) procs
     more procs is q = below_more (suc k) (suc (suc k)) (procs q) (omega arith) (is q)

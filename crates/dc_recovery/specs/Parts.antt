@@ -55,8 +55,8 @@ abbrev pub torn_log : Logged → Status → Status
 torn_log x st = record { up = false; position = 0; unread = []; unlogged = false; older = st.older; newer = with_record x st.newer }
 
 -- an event later
-abbrev pub passed : Bool → Bool → Status → Status
-passed replay sets_unlogged st = record { up = st.up; position = suc st.position; unread = if replay then drop 1 st.unread else st.unread; unlogged = st.unlogged || sets_unlogged; older = st.older; newer = st.newer }
+abbrev pub event_later : Bool → Bool → Status → Status
+event_later replay sets_unlogged st = record { up = st.up; position = suc st.position; unread = if replay then drop 1 st.unread else st.unread; unlogged = st.unlogged || sets_unlogged; older = st.older; newer = st.newer }
 
 -- back at a save
 abbrev pub risen : Save → Status
@@ -99,7 +99,7 @@ second_of log x st = if log then logged x st else st
 
 -- after commit, log record and event
 abbrev pub third_as : Rule → Bool → Logged → ℕ → Status → Status
-third_as rule replay x number st = passed replay (sets_unlogged rule.log replay x.answer) (second_of rule.log x (first_as rule.before number st))
+third_as rule replay x number st = event_later replay (sets_unlogged rule.log replay x.answer) (second_of rule.log x (first_as rule.before number st))
 
 -- what a turn leaves of its process, by where it was stopped, where its commits take these numbers
 abbrev pub left_as : Rule → Bool → Logged → ℕ → ℕ → Status → Place → Status
@@ -169,7 +169,7 @@ second rule x company p procs = log_if rule.log x p (first rule company procs)
 
 -- after the event
 abbrev pub third : Rule → Bool → Logged → Company → ℕ → (ℕ → Status) → (ℕ → Status)
-third rule replay x company p procs = at_one p (passed replay (sets_unlogged rule.log replay x.answer)) (second rule x company p procs)
+third rule replay x company p procs = at_one p (event_later replay (sets_unlogged rule.log replay x.answer)) (second rule x company p procs)
 
 -- what a turn of p leaves of the processes, by where it was stopped
 abbrev pub left : Rule → Bool → Logged → Company → ℕ → (ℕ → Status) → Place → (ℕ → Status)

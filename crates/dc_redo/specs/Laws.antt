@@ -71,9 +71,9 @@ same_image disk image clear is = ext_get_or 0 image disk.content is.length_same 
     is.outside i (ap (λ (l : List Bool). slice_get l i) clear ∙ off))
 
 -- a ready handle's disk stands for the same under each number from its floor on
-pub settled_reading : (sh : Shape) (k : Known) (told : Option Disk) → IsReady sh k told → (d e : ℕ) (r : Reading) → k.floor ≤ d → k.floor ≤ e → StandsFor sh told d r → StandsFor sh told e r
-settled_reading sh k None ready d e r low high left = absurd left
-settled_reading sh k (Some disk) ready d e r low high left =
+pub unwaited_reading : (sh : Shape) (k : Known) (told : Option Disk) → IsReady sh k told → (d e : ℕ) (r : Reading) → k.floor ≤ d → k.floor ≤ e → StandsFor sh told d r → StandsFor sh told e r
+unwaited_reading sh k None ready d e r low high left = absurd left
+unwaited_reading sh k (Some disk) ready d e r low high left =
     let same = same_image disk left.0 ready.0 left.1 in
     (left.0, left.1, left.2 ∙ ap (reading sh d) same ∙ ready.1.stands d low ∙ sym (ready.1.stands e high) ∙ sym (ap (reading sh e) same))
 

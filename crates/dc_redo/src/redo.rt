@@ -11,7 +11,7 @@ ghost use Rattle.dc_redo.specs.Entries.{body_of};
 ghost use Rattle.dc_redo.specs.Images.{EachImage};
 ghost use Rattle.dc_redo.specs.Likes.{IsFresh};
 ghost use Rattle.dc_redo.specs.Handles.{IsLarge, IsSteadyFrom, known_of, memory_of, shape_of};
-ghost use Rattle.dc_redo.specs.Laws.{memory_long, memory_still, memory_told, fits_in, large_still, leaves_alike, numbers_alike, same_back, same_on, same_self, settled_reading, some_number, some_reading, still, told_memory};
+ghost use Rattle.dc_redo.specs.Laws.{memory_long, memory_still, memory_told, fits_in, large_still, leaves_alike, numbers_alike, same_back, same_on, same_self, unwaited_reading, some_number, some_reading, still, told_memory};
 ghost use Rattle.dc_redo.specs.Shapes.{half_bytes, lines_of, whole_bytes};
 ghost use Rattle.dc_redo.specs.Standing.{Numbers, StandsFor};
 ghost use Rattle.dc_redo.specs.Whole.{HasRoom, IsAtRest, IsPrepared, IsReady, known_state};
@@ -242,7 +242,7 @@ impl<D: Disks> Checkpoint for Redo<D> {
 
     ghost from_outlasts = { λ s dev g from. from };
 
-    ghost settled = { λ s dev ready d e r low high. settled_reading (shape_of s.frame) (known_of s.marks) _ ready.2 d e r low high };
+    ghost none_waits = { λ s dev ready d e r low high. unwaited_reading (shape_of s.frame) (known_of s.marks) _ ready.2 d e r low high };
 
     ghost some_reading = { λ s dev told. some_reading (shape_of s.frame) (D.told dev s.frame.index) told };
 

@@ -1,5 +1,5 @@
 -- What a run leaves on recoverable memory, by the segments of its processes.
-use Rattle.std.proofs.Common.{◌≡◌, ◌∙◌, ◌≤◌, ◌<◌, ◌+◌, ◌⊎◌, inl, inr, arith, ℕ, Bool, true, false, List, [], Option, None, Some, IsSomeAnd, ap, length, slice_get, subst, sym}
+use Rattle.std.proofs.Common.{◌≡◌, ◌∙◌, ◌<◌, ℕ, Bool, true, false, List, [], Option, None, Some, IsSomeAnd, ap, length, slice_get, subst, sym}
 use Rattle.dc_checkpoint.specs.States.{Reading, unlogged}
 use Rattle.dc_checkpoint.specs.declared.checkpoint.Checkpoint as checkpoint
 use Rattle.dc_media.specs.declared.keeps.Keeps as keeps
@@ -14,7 +14,7 @@ use Rattle.std.proofs.lemmas.List.{length-map}
 use Rattle.dc_media.specs.declared.planned.PlannedStop.{PlannedStop}
 use Rattle.dc_model.specs.declared.entry.Entry.{Entry}
 use Rattle.dc_elf.specs.Loaded.{seen_image}
-use Rattle.dc_world.specs.declared.opening.Setup.{Setup}
+use Rattle.dc_world.specs.declared.setup.Setup.{Setup}
 use Rattle.dc_course.specs.Courses.{IsCourse, StoresLeft, counts_of, setting_of}
 use Rattle.dc_course.specs.Headline.{Account, Setting}
 use Rattle.dc_course.specs.Running.{Output}

@@ -10,7 +10,7 @@ ghost use Rattle.dc_media.specs.Causes.{Rose};
 ghost use Rattle.dc_media.specs.Devices.{of_words};
 ghost use Rattle.dc_media.specs.Told.{IsSameStore, TellsOn};
 ghost use Rattle.dc_protocols.specs.Rules.{is_causal};
-ghost use Rattle.dc_world.specs.Opened.{CanOpen, IsCalmUnlessStopped};
+ghost use Rattle.dc_world.specs.Opened.{IsCalmUnlessStopped};
 ghost use Rattle.dc_world.specs.Worlds.{IsOfProcesses};
 ghost use Rattle.dc_rio.specs.Segments.{SegmentsLeft};
 ghost use Rattle.dc_world.specs.declared.faults.OpenFault.TheVariants as opening;
@@ -36,10 +36,6 @@ pub fn run_on_memory<K: Keeps, O: Sink>(
     keeps: &mut K,
     out: &mut O,
 ) -> Result<Course, OpenFault>
-    requires some { 0 < length setup.images.items }
-    requires few { length setup.images.items ≤ PROCESSES }
-    requires inputs { length setup.inputs.items ≡ length setup.images.items }
-    requires good { All CanOpen setup.images.items }
     requires seven { is_causal setup.protocol ≡ false }
     requires entries { length schedule.now ≤ ENTRIES }
     requires processes { All (IsOfProcesses (length setup.images.items)) schedule.now }

@@ -16,7 +16,7 @@ use Rattle.dc_course.specs.Headline.{Setting}
 use Rattle.dc_run.specs.Opening.{AsksToRun, Files, file_in, opening_of, plan_for, to_report}
 use Rattle.dc_run.specs.Refusals.{as_verdict}
 use Rattle.dc_run.specs.Settings.{is_refusal, setting_of}
-use Rattle.dc_run.specs.declared.setting.Setting as code
+use Rattle.dc_run.specs.declared.setting.OpenedRun as code
 use Rattle.dc_run.specs.declared.outcome.Outcome.{Outcome}
 use Rattle.dc_run.specs.declared.refusal.Refusal.{Refusal}
 use Rattle.dc_run.specs.declared.verdict.Verdict.{Verdict}
@@ -57,7 +57,7 @@ pub asked_output : (files : Files) (names : Names) (setting : Setting) (report :
 asked_output files names setting report w opens reads is there = subst (AsksToCheck files names) (sym is) (rw (opens, reads) there)
 
 -- the report for the guests of a setting
-pub read_for : (files : Files) (setting : code.Setting) (n : ℕ) (name : List ℕ) (told : Result Report Refusal) → n ≡ length setting.images.items → report_in files n name ≡ told
+pub read_for : (files : Files) (setting : code.OpenedRun) (n : ℕ) (name : List ℕ) (told : Result Report Refusal) → n ≡ length setting.images.items → report_in files n name ≡ told
     → report_for files (setting_of setting) name ≡ told
 read_for files setting n name told same e = subst (λ k. report_in files k name ≡ told) (same ∙ sym (length-map setting.images.items seen_image)) e
 

@@ -10,6 +10,8 @@ mod Headlines
 mod Goings
 mod Ends
 mod Given
+mod Written
 mod Passed
+mod PassedOn
 mod Leaving
 mod OnMedia

@@ -12,7 +12,7 @@ use Rattle.dc_elf.specs.declared.faults.ElfFault.{ElfFault}
 use Rattle.dc_elf.specs.declared.faults.LoadFault.{LoadFault}
 use Rattle.dc_elf.specs.declared.faults.LoadFault.TheVariants.{Refused}
 use Rattle.dc_elf.specs.declared.image.Image as loaded
-use Rattle.dc_world.specs.Opened.{CanOpen}
+use Rattle.dc_world.specs.Openable.{CanOpen}
 use Rattle.dc_command.specs.Command.{Order}
 use Rattle.dc_model.specs.declared.entry.Entry.{Entry}
 use Rattle.dc_model.specs.declared.entry.Entry.TheVariants.{Turn, Stop, Power}

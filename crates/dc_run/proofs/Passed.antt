@@ -1,20 +1,14 @@
 -- What a run wrote passes the check.
-use Rattle.std.proofs.Common.{◌≡◌, ◌∙◌, ◌+◌, ◌<◌, ◌≤◌, inl, inr, ℕ, suc, All, Bool, true, false, List, [], ◌∷◌, ◌++◌, Option, None, Some, IfSome, Ok, ap, arith, if◌then◌else◌, is_some, length, nat_lt, refl, reverse, slice_get, subst, sym}
-use Rattle.dc_check.proofs.Drawing.{played_when_drawn}
-use Rattle.std.proofs.lemmas.Bool.{lt-ltb, true≢false}
+use Rattle.std.proofs.Common.{◌≡◌, ◌∙◌, ◌+◌, ◌<◌, ◌≤◌, inl, inr, ℕ, suc, All, Bool, true, false, List, [], ◌∷◌, ◌++◌, Option, None, Some, IfSome, ap, arith, if◌then◌else◌, is_some, length, refl, reverse, subst, sym}
+use Rattle.std.proofs.lemmas.Bool.{true≢false}
 use Rattle.std.proofs.lemmas.List.{append-nil, length-map, length-reverse}
-use Rattle.std.proofs.lemmas.Option.{slice_get_within}
-use Rattle.dc_acts.specs.Lines.{text_of}
-use Rattle.dc_report.specs.Reading.{is_status, report_of}
 use Rattle.dc_report.specs.Reports.{report_text}
-use Rattle.dc_check.specs.Findings.{finding_of}
-use Rattle.dc_check.specs.Findings.Finding.{Passes}
 use Rattle.dc_audit.specs.Journals.{HasSaveWork}
 use Rattle.dc_audit.specs.Keeping.{HasMembers, IsJournal}
 use Rattle.dc_audit.specs.Reading.{journal_of}
 use Rattle.dc_course.proofs.Journaling.{front_whole, unstopped_round}
 use Rattle.dc_course.specs.Courses.{IsCourse, counts_of}
-use Rattle.dc_course.specs.Headline.{Account, IsEnding, IsHeadline, Last, Setting, Shows, marks_at, system_in, takes_part, torn_at, turn_after}
+use Rattle.dc_course.specs.Headline.{Account, IsEnding, IsHeadline, Last, Setting, marks_at, system_in, torn_at, turn_after}
 use Rattle.dc_course.specs.Journals.{EndsAtFirstStop, IsJournalOf}
 use Rattle.dc_course.specs.Running.{output}
 use Rattle.dc_journal.proofs.JournalTexts.{text_again}
@@ -31,69 +25,34 @@ use Rattle.dc_savework.proofs.Few.{journal_short}
 use Rattle.dc_savework.proofs.Growing.{plain_all}
 use Rattle.dc_savework.proofs.Leading.{led_work}
 use Rattle.dc_savework.proofs.Wrote.{led_journal}
-use Rattle.dc_course.specs.Headline.Last.{Whole, Broken}
 use Rattle.dc_course.specs.declared.ending.Ending.{Ending}
 use Rattle.dc_course.specs.declared.ending.Ending.TheVariants as ending
 use Rattle.dc_media.specs.Causes.{Rose}
-use Rattle.dc_media.specs.Told.{Becomes}
 use Rattle.dc_run.specs.Media.{Devices}
-use Rattle.dc_model.specs.Repeats.{Note, RepeatsAgree, noted, notes, numbers}
+use Rattle.dc_model.specs.Repeats.{RepeatsAgree, notes, numbers}
 use Rattle.dc_model.specs.World.{thin}
-use Rattle.dc_model.specs.declared.entry.Entry.{Entry}
-use Rattle.dc_model.specs.declared.entry.Entry.TheVariants as entry
 use Rattle.dc_model.specs.declared.mark.Mark.{Mark}
-use Rattle.dc_model.specs.declared.mark.Mark.TheVariants as mark
 use Rattle.dc_model.specs.declared.visible.Visible.{Visible}
-use Rattle.dc_protocols.specs.declared.protocol.Protocol.{Protocol}
 use Rattle.dc_recovery.specs.Core.{Core, opening}
-use Rattle.dc_limits.specs.declared.bounds.TheConstants.{ENTRIES}
 use Rattle.dc_shows.specs.Typed.{IsGivenRun}
-use Rattle.dc_shows.proofs.Passes.{listed, shown}
 use Rattle.dc_audit.specs.declared.journal.Line.{Line}
 use Rattle.dc_command.specs.declared.command.Ledger.TheVariants as ledger
-use Rattle.dc_run.specs.Headline.{IsReported, Loan, Reports, SinkCourse, account_of, is_used_up, journal_or_report, keeps_journal, ledger_text, unreported, used_up_at, verdict_at}
-use Rattle.dc_run.specs.Opening.{Task, guests, halt_at, is_halted, part_of}
+use Rattle.dc_run.specs.Headline.{IsReported, Loan, Reports, SinkCourse, account_of, is_used_up, journal_or_report, keeps_journal, ledger_text, unreported, verdict_at}
+use Rattle.dc_run.specs.Opening.{Task, is_halted, part_of}
 use Rattle.dc_run.proofs.Halts.{drawn_more, drawn_within, entries_few, entries_fewer, halted_said, turns_run}
 use Rattle.dc_run.proofs.Headlines.{not_used, used_said}
 use Rattle.dc_model.specs.Drawn.{Drawn}
 use Rattle.dc_model.specs.declared.act.Taken.{Taken}
 use Rattle.dc_recovery.specs.Unstopped.{AreTurns}
 use Rattle.dc_run.specs.Outcomes.{status_of}
-use Rattle.dc_run.specs.Passing.{IsGoneOnWith, PassesFor, WritesSaved}
-use Rattle.dc_run.specs.Resuming.{halt_behind}
+use Rattle.dc_run.specs.Passing.{AreShown, PartPasses, WritesSaved}
 use Rattle.dc_run.specs.Settings.{IsCalm}
 use Rattle.dc_run.specs.declared.outcome.Outcome.{Outcome}
 use Rattle.dc_run.specs.declared.verdict.Outlet.TheVariants as outlet
 use Rattle.dc_run.specs.declared.verdict.Verdict.{Verdict}
 use Rattle.dc_run.specs.declared.verdict.Verdict.TheVariants.{Done, Unfinished, Halted, DeviceFault, DeviceStopped, SinkFault, StoreRefused}
 use Rattle.dc_run.proofs.Ends.{no_rise}
-
--- how many notes there are of records
-one_note : (o : Option Entry) (m : Mark) (rest : List Note) → length (numbers (noted o m ++ rest)) ≤ suc (length (numbers rest))
-one_note None m rest = omega arith
-one_note (Some (entry.Stop p)) m rest = omega arith
-one_note (Some entry.Power) m rest = omega arith
-one_note (Some (entry.Turn turn)) (mark.Idle why) rest = omega arith
-one_note (Some (entry.Turn turn)) mark.Stopped rest = omega arith
-one_note (Some (entry.Turn turn)) (mark.Showed k) rest = omega arith
-one_note (Some (entry.Turn turn)) (mark.Recovered x) rest = omega arith
-one_note (Some (entry.Turn turn)) mark.Stepped rest = omega arith
-one_note (Some (entry.Turn turn)) mark.Marked rest = omega arith
-
-no_note : (o : Option Entry) (rest : List Note) → noted o mark.Stopped ++ rest ≡ rest
-no_note None rest = refl
-no_note (Some (entry.Stop p)) rest = refl
-no_note (Some entry.Power) rest = refl
-no_note (Some (entry.Turn turn)) rest = refl
-
-few_notes : (schedule : List Entry) (marks : List Mark) → length (numbers (notes schedule marks)) ≤ length marks
-few_notes schedule [] = omega arith
-few_notes schedule (m ∷ marks) = let one = one_note (slice_get schedule (length marks)) m (notes schedule marks) in let more = few_notes schedule marks in omega (arith, one, more)
-
--- an entry in which a process takes part is there
-there : (protocol : Protocol) (p k : ℕ) (schedule : List Entry) (o : Option Entry) → slice_get schedule k ≡ o → takes_part protocol p o ≡ true → k < length schedule
-there protocol p k schedule None at part = absurd (let never : ⊥ = cc in never)
-there protocol p k schedule (Some e) at part = slice_get_within schedule k e at
+use Rattle.dc_run.proofs.Written.{ends_whole, passing, reported_verdict, reported_whole, shows_on, sink_said, stands_on, stopped_said}
 
 -- a run of which no line was cut off
 module _ (task : Task) (given : IsGivenRun task.setting.images task.setting.inputs task.setting.schedule) (run : Account) (last : Last) (up : ℕ → Bool) (core : Core) (before after : Option (List ℕ))
@@ -107,16 +66,13 @@ module _ (task : Task) (given : IsGivenRun task.setting.images task.setting.inpu
   agree : RepeatsAgree (reverse headline.whole)
   agree = subst (λ (l : List Visible). RepeatsAgree (reverse l)) (append-nil headline.whole) (subst (λ torn. RepeatsAgree (reverse (headline.whole ++ torn))) whole headline.repeats_equal.agree)
 
-  pub output_passes : finding_of (guests task.setting) task.setting.schedule run.acts (text_of headline.whole) ≡ Passes (length headline.world.visibles)
-  output_passes = shown task.setting.images task.setting.inputs task.setting.schedule given run.acts headline.world headline.whole drawn headline.acts_run thinned agree
+  -- its lines are shown by its acts
+  pub shown_whole : AreShown task.setting run.acts run.lines headline.whole
+  shown_whole = record { world = headline.world; acts_run = headline.acts_run; count_is = headline.lines_shown.count; thinned = thinned; agree = agree }
 
   -- where its entries are used up, its marks reach all its acts
   reached : turn_after (part_of task) run.marks ≡ length (part_of task).schedule → All (λ x. x.t < length run.marks) run.acts
   reached used = subst (λ (n : ℕ). All (λ (x : Taken). x.t < n) run.acts) (let zero = headline.from_is in omega (arith, used, zero)) (drawn_within (length task.setting.images) (part_of task).schedule 0 run.acts headline.acts_drawn)
-
-  pub report_passes : (status : ℕ) → is_status status ≡ true → length run.marks ≤ ENTRIES → run.lines ≤ length run.marks → (status ≡ 15 → turn_after (part_of task) run.marks ≡ length (part_of task).schedule)
-      → report_of (length task.setting.images) (report_text status (length run.marks) run.acts run.lines) ≡ Ok (record { status = status; entries = length run.marks; acts = run.acts; lines = run.lines })
-  report_passes status is few lines halted = listed task.setting.images task.setting.inputs task.setting.schedule given (record { status = status; entries = length run.marks; acts = run.acts; lines = run.lines }) headline.world drawn headline.acts_run is few lines (λ e. reached (halted e))
 
   -- no more lines than notes
   lines_noted : run.lines ≤ length (numbers (notes (part_of task).schedule (marks_at last run.marks)))
@@ -127,88 +83,21 @@ module _ (task : Task) (given : IsGivenRun task.setting.images task.setting.inpu
       let count = headline.lines_shown.count in
       omega (arith, numbered, long, back, none, count)
 
--- by how it ended
-record EndsWhole (setting : Setting) (run : Account) (last : Last) (halted : Bool) (e : Ending) : Type 0 where
-  whole : torn_at last ≡ []
-  status : is_status (status_of (verdict_at halted e)) ≡ true
-  used : status_of (verdict_at halted e) ≡ 15 → turn_after setting run.marks ≡ length setting.schedule
-  few : length run.marks ≤ length setting.schedule
-  notes_few : length (numbers (notes setting.schedule (marks_at last run.marks))) ≤ length run.marks
-
-notes_whole : (schedule : List Entry) (marks : List Mark) → length (numbers (notes schedule (marks_at Whole marks))) ≤ length marks
-notes_whole schedule marks = let h = few_notes schedule (reverse marks) in let l = length-reverse marks in omega (arith, h, l)
-
-notes_broken : (schedule : List Entry) (marks : List Mark) → length (numbers (notes schedule (marks_at Broken marks))) ≤ length marks
-notes_broken schedule marks = let h = few_notes schedule (reverse marks) in let l = length-reverse marks in
-    let same = ap (λ ns. length (numbers ns)) (no_note (slice_get schedule (length (reverse marks))) (notes schedule (reverse marks))) in omega (arith, h, l, same)
-
--- the statuses of entries that are used up
-used_status : (halted : Bool) (stood : Verdict) → is_status (status_of stood) ≡ true → is_status (status_of (used_up_at halted stood)) ≡ true
-used_status true stood is = refl
-used_status false stood is = is
-
--- one whose entries are used up
-ends_used_up : (setting : Setting) (run : Account) (last : Last) (halted : Bool) (e : Ending) → is_status (status_of (verdict_at halted e)) ≡ true → (turn_after setting run.marks ≡ length setting.schedule) × (last ≡ Whole) → EndsWhole setting run last halted e
-ends_used_up setting run last halted e is used = record {
-  whole = ap torn_at used.1;
-  status = is;
-  used = λ same. used.0;
-  few = (let h = used.0 in omega (arith, h));
-  notes_few = subst (λ l. length (numbers (notes setting.schedule (marks_at l run.marks))) ≤ length run.marks) (sym used.1) (notes_whole setting.schedule run.marks);
-}
-
-ends_whole : (setting : Setting) (run : Account) (last : Last) (core : Core) (halted : Bool) (e : Ending) → IsEnding setting e run.marks last core → (e ≡ ending.Sink → ⊥) → ((p : ℕ) → e ≡ ending.Stopped p → ⊥) → EndsWhole setting run last halted e
-ends_whole setting run last core halted ending.Done is not_sink not_stopped = ends_used_up setting run last halted ending.Done (used_status halted Done refl) is.0
-ends_whole setting run last core halted ending.Unfinished is not_sink not_stopped = ends_used_up setting run last halted ending.Unfinished (used_status halted Unfinished refl) is.0
-ends_whole setting run last core halted (ending.Device p) is not_sink not_stopped = record {
-  whole = ap torn_at is.0;
-  status = refl;
-  used = λ same. absurd (omega (arith, same));
-  few = (let h = there setting.protocol p (turn_after setting run.marks) setting.schedule (slice_get setting.schedule (turn_after setting run.marks)) refl is.1 in omega (arith, h));
-  notes_few = subst (λ l. length (numbers (notes setting.schedule (marks_at l run.marks))) ≤ length run.marks) (sym is.0) (notes_broken setting.schedule run.marks);
-}
-ends_whole setting run last core halted (ending.Store p why) is not_sink not_stopped = absurd is
-ends_whole setting run last core halted ending.Sink is not_sink not_stopped = absurd (not_sink refl)
-ends_whole setting run last core halted (ending.Stopped p) is not_sink not_stopped = absurd (not_stopped p refl)
-
--- what stands on a sink that held nothing
-stands_on : (before after : Option (List ℕ)) (text now : List ℕ) → before ≡ Some [] → after ≡ Some now → Becomes before after (λ x y. y ≡ x ++ text) → now ≡ text
-stands_on before after text now e f b = rw (e, f) at b
-
-shows_on : (records : List Visible) (torn : List Visible) (before after : Option (List ℕ)) (now : List ℕ) → torn ≡ [] → before ≡ Some [] → after ≡ Some now → Becomes before after (Shows records torn) → now ≡ text_of records
-shows_on records torn before after now none e f b = rw (none, e, f) at b
-
-stopped_said : (p : ℕ) (v : Verdict) (text : List ℕ) (sink : SinkCourse) → Reports (DeviceStopped p) v text sink → v ≡ DeviceStopped p
-stopped_said p v text sink (inl whole) = whole.0
-stopped_said p v text sink (inr cut) = cut.0
-
 -- no journal was kept
 none_is : (journal : Option (List Line)) → is_some journal ≡ false → journal ≡ None
 none_is None is = refl
 none_is (Some lines) is = absurd (true≢false is)
 
-sink_said : (v : Verdict) (text : List ℕ) (sink : SinkCourse) → Reports (SinkFault outlet.Out) v text sink → v ≡ SinkFault outlet.Out
-sink_said v text sink (inl whole) = whole.0
-sink_said v text sink (inr cut) = cut.0
-
-reported_whole : (stood v : Verdict) (text : List ℕ) (sink : SinkCourse) → IsCalm sink.faults_before sink.faults_after → Reports stood v text sink → Becomes sink.before sink.after (λ x y. y ≡ x ++ text)
-reported_whole stood v text sink calm (inl whole) = whole.1
-reported_whole stood v text sink calm (inr cut) = absurd (no_rise sink.faults_before sink.faults_after calm cut.1)
-
-reported_verdict : (stood v : Verdict) (text : List ℕ) (sink : SinkCourse) → IsCalm sink.faults_before sink.faults_after → Reports stood v text sink → v ≡ stood
-reported_verdict stood v text sink calm (inl whole) = whole.0
-reported_verdict stood v text sink calm (inr cut) = absurd (no_rise sink.faults_before sink.faults_after calm cut.1)
-
 module _ {S : Type 0} (on : Devices S) (task : Task) (report_it : task.ledger ≡ ledger.Report) (o : Outcome) (lent : Loan S) (out report : SinkCourse) (given : IsGivenRun task.setting.images task.setting.inputs task.setting.schedule)
     (is : IsReported task on o lent out report) (tells : on.tell (length task.setting.images) lent.before lent.after) (calm : IsCalm out.faults_before out.faults_after)
     (calm' : IsCalm report.faults_before report.faults_after) (sink : o.verdict ≡ SinkFault outlet.Out → Rose out.faults_before out.faults_after) (unstopped : (p : ℕ) → o.verdict ≡ DeviceStopped p → ⊥)
     (empty : out.before ≡ Some []) (empty' : report.before ≡ Some []) where
-  abbrev halted : Bool
-  halted = is_halted task
+  abbrev halts : Bool
+  halts = is_halted task
 
   -- what was written at its end, where it ended so
-  told_at : (e : Ending) → is.ending ≡ e → Reports (verdict_at halted e) o.verdict (ledger_text (length task.setting.images) (verdict_at halted e) (account_of o is.journal)) report
-  told_at e same = subst (λ x. Reports (verdict_at halted x) o.verdict (ledger_text (length task.setting.images) (verdict_at halted x) (account_of o is.journal)) report) same is.report_told
+  told_at : (e : Ending) → is.ending ≡ e → Reports (verdict_at halts e) o.verdict (ledger_text (length task.setting.images) (verdict_at halts e) (account_of o is.journal)) report
+  told_at e same = subst (λ x. Reports (verdict_at halts x) o.verdict (ledger_text (length task.setting.images) (verdict_at halts x) (account_of o is.journal)) report) same is.report_told
 
   not_sink : is.ending ≡ ending.Sink → ⊥
   not_sink e = no_rise out.faults_before out.faults_after calm (sink (sink_said o.verdict _ report (told_at ending.Sink e)))
@@ -217,39 +106,28 @@ module _ {S : Type 0} (on : Devices S) (task : Task) (report_it : task.ledger �
   not_stopped p e = unstopped p (stopped_said p o.verdict _ report (told_at (ending.Stopped p) e))
 
   -- it is the report
-  report_is : ledger_text (length task.setting.images) (verdict_at halted is.ending) (account_of o is.journal) ≡ report_text (status_of (verdict_at halted is.ending)) (length o.marks.items) o.acts.items o.lines
-  report_is = ap (λ j. journal_or_report j (length task.setting.images) (verdict_at halted is.ending) (account_of o is.journal)) (none_is is.journal (is.journal_is ∙ ap keeps_journal report_it))
+  report_is : ledger_text (length task.setting.images) (verdict_at halts is.ending) (account_of o is.journal) ≡ report_text (status_of (verdict_at halts is.ending)) (length o.marks.items) o.acts.items o.lines
+  report_is = ap (λ j. journal_or_report j (length task.setting.images) (verdict_at halts is.ending) (account_of o is.journal)) (none_is is.journal (is.journal_is ∙ ap keeps_journal report_it))
 
-  -- it was halted, where its verdict is that
-  halted_at : o.verdict ≡ Halted → (verdict_at halted is.ending ≡ Halted) × (halted ≡ true)
-  halted_at said = let stood = sym (reported_verdict (verdict_at halted is.ending) o.verdict _ report calm' is.report_told) ∙ said in (stood, halted_said halted is.ending stood)
+  -- where its verdict is that it was halts, entries are left over
+  halted_at : o.verdict ≡ Halted → (status_of (verdict_at halts is.ending) ≡ 15) × (halts ≡ true)
+  halted_at said = let stood = sym (reported_verdict (verdict_at halts is.ending) o.verdict _ report calm' is.report_told) ∙ said in (ap status_of stood, halted_said halts is.ending stood)
 
-  pub run_passes : (shown' listed' : List ℕ) → out.after ≡ Some shown' → report.after ≡ Some listed'
-      → PassesFor task.setting listed' shown' o.acts.items × (o.verdict ≡ Halted → IsGoneOnWith task.setting listed' o)
+  pub run_passes : (shown' listed' : List ℕ) → out.after ≡ Some shown' → report.after ≡ Some listed' → PartPasses task.setting 0 [] listed' shown' o
   run_passes shown' listed' at at' =
       let kept = is.kept tells in
       let h = kept.headline in
-      let ends = ends_whole (part_of task) (account_of o is.journal) kept.last kept.core halted is.ending kept.ending_is not_sink not_stopped in
-      let few = ends.few in let most = given.schedule_is.0 in let part = entries_few task.halt task.setting.schedule in
-      let lines = lines_noted task given (account_of o is.journal) kept.last kept.up kept.core out.before out.after h ends.whole in let noted = ends.notes_few in
+      let ends = ends_whole (part_of task) (account_of o is.journal) kept.last kept.core halts is.ending kept.ending_is not_sink not_stopped in
+      let few = ends.few in let most = given.schedule_is.0 in let part = entries_few task.halt task.setting.schedule in let zero = h.from_is in
+      let lines = lines_noted task given (account_of o is.journal) kept.last kept.up kept.core out.before out.after h ends.whole in let noted = ends.notes_few (part_of task).schedule in
       let text = shows_on h.whole (torn_at kept.last) out.before out.after shown' ends.whole empty at h.lines_shown.written in
-      let list = stands_on report.before report.after _ listed' empty' at' (reported_whole (verdict_at halted is.ending) o.verdict _ report calm' is.report_told) ∙ report_is in
-      let reads = report_passes task given (account_of o is.journal) kept.last kept.up kept.core out.before out.after h ends.whole (status_of (verdict_at halted is.ending)) ends.status (omega (arith, few, most, part)) (omega (arith, lines, noted)) ends.used in
-      let passes = output_passes task given (account_of o is.journal) kept.last kept.up kept.core out.before out.after h ends.whole in
-      let played_is = played_when_drawn (guests task.setting) task.setting.schedule o.acts.items h.world (drawn task given (account_of o is.journal) kept.last kept.up kept.core out.before out.after h ends.whole) h.acts_run in (
-        λ files names opens here here'. (length h.world.visibles, rw (opens, here, here', list, reads, text, passes) refl),
-        λ said files names opens here.
-            let at_halt = halted_at said in
-            let used = ends.used (ap status_of at_halt.0) in
-            let fewer = entries_fewer task.halt task.setting.schedule at_halt.1 in
-            let zero = h.from_is in
-            let over : nat_lt (length o.marks.items) (length task.setting.schedule) ≡ true = lt-ltb (length o.marks.items) (length task.setting.schedule) (omega (arith, used, fewer, zero)) in
-            let status : status_of (verdict_at halted is.ending) ≡ 15 = ap status_of at_halt.0 in (
-              record { setting = task.setting; report = record { status = 15; entries = length o.marks.items; acts = o.acts.items; lines = o.lines }; halt = halt_behind (length o.marks.items) (halt_at files names.plan) },
-              rw (opens, here, list, reads, status, over, played_is) refl,
-              record { setting_is = refl; entries_are = refl; lines_are = refl; acts_are = refl },
-            ),
-      )
+      let list = stands_on report.before report.after _ listed' empty' at' (reported_whole (verdict_at halts is.ending) o.verdict _ report calm' is.report_told) ∙ report_is in
+      let begun : 0 + length o.marks.items ≡ length o.marks.items = omega arith in
+      passing task.setting given 0 [] h.whole o (shown_whole task given (account_of o is.journal) kept.last kept.up kept.core out.before out.after h ends.whole)
+      (drawn task given (account_of o is.journal) kept.last kept.up kept.core out.before out.after h ends.whole) (verdict_at halts is.ending) ends.status (omega (arith, few, most, part, zero)) (omega (arith, lines, noted))
+      (λ e. subst (λ n. All (λ (x : Taken). x.t < n) o.acts.items) (sym begun) (reached task given (account_of o is.journal) kept.last kept.up kept.core out.before out.after h ends.whole (ends.used e)))
+      (λ said. let over = halted_at said in let used = ends.used over.0 in let fewer = entries_fewer task.halt task.setting.schedule over.1 in (over.0, omega (arith, used, fewer, zero)))
+      listed' shown' (subst (λ n. listed' ≡ report_text (status_of (verdict_at halts is.ending)) n o.acts.items o.lines) (sym begun) list) text
 
 abbrev is_of_output : Verdict → Bool
 is_of_output (SinkFault outlet.Out) = true

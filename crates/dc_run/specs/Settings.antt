@@ -7,7 +7,7 @@ use Rattle.dc_course.specs.Headline.{Setting}
 use Rattle.dc_run.specs.Opening.{Files, Task}
 use Rattle.dc_run.specs.Refusals.{verdict_of}
 use Rattle.dc_run.specs.declared.refusal.Refusal.{Refusal}
-use Rattle.dc_run.specs.declared.setting.Setting as code
+use Rattle.dc_run.specs.declared.setting.OpenedRun as code
 use Rattle.dc_run.specs.declared.verdict.Outlet.TheVariants.{Report}
 use Rattle.dc_run.specs.declared.verdict.Verdict.{Verdict}
 use Rattle.dc_run.specs.declared.verdict.Verdict.TheVariants.{Done, Unfinished, Halted, NotHalted, LibraryFault, DeviceFault, DeviceStopped, SinkFault, Differs, NotSaved, WantOfMemory, StoreRefused, StoreUnsuited}
@@ -117,9 +117,9 @@ Answers view (Ok x) told = told ≡ Ok (view x)
 Answers view (Err verdict) told = (stands_in verdict ≡ true) ⊎ (told ≡ Err verdict)
 
 -- a setting by the fields that the code has of it
-abbrev pub setting_of : code.Setting → Setting
+abbrev pub setting_of : code.OpenedRun → Setting
 setting_of s = record { protocol = s.protocol; images = map seen_image s.images.items; inputs = lists_of s.inputs.items; schedule = s.schedule.items; stops = s.stops.items; from = 0 }
 
 -- what is to be run of it
-abbrev pub task_of : code.Setting → Task
+abbrev pub task_of : code.OpenedRun → Task
 task_of s = record { ledger = s.ledger; setting = setting_of s; halt = s.halt }

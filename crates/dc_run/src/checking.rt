@@ -14,7 +14,7 @@ ghost use Rattle.dc_run.specs.declared.verdict.Which.{Which as Whose};
 
 use crate::opening::{fetch, open};
 use crate::refusal::{Refusal, verdict_of};
-use crate::setting::Setting;
+use crate::setting::OpenedRun;
 use crate::{Did, Outcome, Outlet, Verdict, Which};
 use dc_acts::{Acts, Line};
 use dc_check::{Finding, check};
@@ -59,7 +59,7 @@ pub fn report_at<L: Library>(
 }
 
 /// What comes of checking an output, where the setting and the report are there.
-fn find(alloc: Global, setting: &Setting, report: Report, out: &[u8]) -> Result<Found, AllocError>
+fn find(alloc: Global, setting: &OpenedRun, report: Report, out: &[u8]) -> Result<Found, AllocError>
     requires processes { All (λ x. x.p < length setting.now.images.items) report.acts.items }
     requires few { length report.acts.items ≤ ENTRIES }
     ensures { IfOk result (λ found. Ok (found_view found) ≡ found_at_end (setting_of setting.now) (seen report) out.now) }

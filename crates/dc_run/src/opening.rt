@@ -9,7 +9,7 @@ ghost use Rattle.dc_schedule.specs.Entries.{IsSchedule};
 ghost use Rattle.dc_shows.specs.Typed.{IsGivenRun, IsImage};
 ghost use Rattle.dc_words.specs.Lists.{lists_of};
 ghost use Rattle.dc_words.specs.Words.{AllBelow};
-ghost use Rattle.dc_world.specs.Opened.{CanOpen};
+ghost use Rattle.dc_world.specs.Openable.{CanOpen};
 ghost use Rattle.dc_command.specs.Command.{order_view};
 ghost use Rattle.dc_recovery.specs.Unstopped.{AreTurns};
 ghost use Rattle.dc_schedule.specs.Schedules.{Reads};
@@ -19,7 +19,7 @@ ghost use Rattle.dc_run.specs.declared.verdict.Which.{Which as Whose};
 
 use crate::Which;
 use crate::refusal::Refusal;
-use crate::setting::Setting;
+use crate::setting::OpenedRun;
 use dc_command::{Ledger, Order};
 use dc_elf::{Image, LoadFault, load};
 use dc_limits::PROCESSES;
@@ -260,7 +260,7 @@ fn open_plan<L: Library>(
     lib: &mut L,
     ledger: Ledger,
     plan: Plan,
-) -> Result<Setting, Refusal>
+) -> Result<OpenedRun, Refusal>
     requires { IsAllowed (plan_view plan) }
     ensures told { (files : Files) → L.files lib.old ≡ Some files → Agrees setting_of result (opening_at_plan files ledger (plan_view plan)) }
     ensures ledger { IfOk result (λ s. (s.ledger ≡ ledger) × (s.stops ≡ plan.stops)) }
@@ -276,7 +276,7 @@ fn open_plan<L: Library>(
     let images = load_guests(alloc, lib, plan.memory, &plan.guests)?;
     let n = images.len() as u32;
     let schedule = schedule_from(alloc, lib, ledger, n, &plan.schedule)?;
-    Ok(Setting {
+    Ok(OpenedRun {
         ledger,
         protocol: plan.protocol,
         medium: plan.medium,
@@ -289,7 +289,7 @@ fn open_plan<L: Library>(
 }
 
 /// What the files open the run of an order with, or the first refusal.
-pub fn open<L: Library>(alloc: Global, order: &Order, lib: &mut L) -> Result<Setting, Refusal>
+pub fn open<L: Library>(alloc: Global, order: &Order, lib: &mut L) -> Result<OpenedRun, Refusal>
     ensures told { (files : Files) → L.files lib.old ≡ Some files → Agrees setting_of result (opening_of files (order_view order.now)) }
     ensures medium { (files : Files) → L.files lib.old ≡ Some files → IfOk result (λ s. medium_at files order.now.plan.now ≡ s.medium) }
     ensures halt { (files : Files) → L.files lib.old ≡ Some files → IfOk result (λ s. halt_at files order.now.plan.now ≡ s.halt) }

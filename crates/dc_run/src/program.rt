@@ -7,7 +7,7 @@ ghost use Rattle.dc_audit.specs.declared.verdict.Verdict.TheVariants as found;
 ghost use Rattle.dc_course.specs.Courses.{account_of, journal_in};
 ghost use Rattle.dc_checkpoint.specs.declared.faults.StoreFault.{StoreFault as StoreFaults};
 ghost use Rattle.dc_course.specs.Running.{output};
-ghost use Rattle.dc_course.specs.Lent.{AreLeftFrom, KeepsTold};
+ghost use Rattle.dc_course.specs.Lent.{AreLeftFrom, KeepsTold, TellsStores};
 ghost use Rattle.dc_course.specs.declared.ending.Ending.TheVariants as endings;
 ghost use Rattle.dc_world.specs.Opened.{IsCalmUnlessStopped};
 ghost use Rattle.dc_world.specs.declared.faults.OpenFault.TheVariants as opening;
@@ -30,7 +30,7 @@ ghost use Rattle.dc_run.specs.Opening.{AsksToRun, Task, medium_at, opening_of, p
 ghost use Rattle.dc_run.specs.Resumed.{HaveStood, IsRefusedStore, IsResumed, IsUnsuited};
 ghost use Rattle.dc_run.specs.Resuming.{Going as Goings, IsRunOf};
 ghost use Rattle.dc_run.specs.Outcomes.{IsNothing, status_of};
-ghost use Rattle.dc_run.specs.Passing.{WritesPassing, WritesSaved};
+ghost use Rattle.dc_run.specs.Passing.{WritesPassing, WritesPassingOn, WritesSaved};
 ghost use Rattle.dc_run.specs.Refusals.{as_verdict};
 ghost use Rattle.dc_run.specs.Settings.{LibraryKept, has_ended, has_run, is_of_going_on, is_of_run, is_refusal, may_have_run, setting_of, task_of, was_opened};
 ghost use Rattle.dc_plan.specs.declared.plan.Medium.{Medium as Media};
@@ -45,7 +45,7 @@ use crate::opening::open;
 use crate::outcome::Outcome;
 use crate::refusal::verdict_of;
 use crate::resuming::resume_run;
-use crate::setting::Setting;
+use crate::setting::OpenedRun;
 use crate::{Did, Outlet, Verdict};
 use dc_command::{Asked, CommandFault, Ledger, Order, command_in};
 use dc_course::{Course, Ending, Journal};
@@ -110,9 +110,14 @@ pub fn dc<L: Library, K: Keeps, D: Disks, O: Sink, R: Sink>(
         (course (R.held report.old) (R.held report.new) (R.faults report.old) (R.faults report.new))))) }
 
     // What a run wrote on sinks that held nothing and did not fail passes the check of it, wherever files hold it, and where it was halted its report is gone on with.
+    // So does what a run wrote that went on, behind what the parts before it wrote, whatever lines they may have shown.
     // The journal that it wrote in place of its report, where its schedule was used up, has Save-work: an audit of it answers so.
     ensures passes { result.did ≡ Did.Run → IfSome (L.files lib.old) (λ files. IsOkAnd (work_of files words.now) (λ work. IfRun work (λ task.
-        task.ledger ≡ Ledger.Report → (devices_of K.Keeps D.Disks (medium_of files words.now)).tell (length task.setting.images) (lent keeps.old disks.old) (lent keeps.new disks.new) → WritesPassing task.setting (course (O.held out.old) (O.held out.new) (O.faults out.old) (O.faults out.new))
+        task.ledger ≡ Ledger.Report → (devices_of K.Keeps D.Disks (medium_of files words.now)).tell (length task.setting.images) (lent keeps.old disks.old) (lent keeps.new disks.new) → WritesPassing task.setting 0 [] (course (O.held out.old) (O.held out.new) (O.faults out.old) (O.faults out.new))
+        (course (R.held report.old) (R.held report.new) (R.faults report.old) (R.faults report.new)) result))) }
+
+    ensures passes_on { result.did ≡ Did.Resumed → IfSome (L.files lib.old) (λ files. IsOkAnd (work_of files words.now) (λ work. IfResume work (λ going.
+        TellsStores (of_disks D.Disks) (length going.setting.images) disks.old disks.new → WritesPassingOn going (course (O.held out.old) (O.held out.new) (O.faults out.old) (O.faults out.new))
         (course (R.held report.old) (R.held report.new) (R.faults report.old) (R.faults report.new)) result))) }
 
     ensures saves { result.did ≡ Did.Run → IfSome (L.files lib.old) (λ files. IsOkAnd (work_of files words.now) (λ work. IfRun work (λ task.
@@ -282,7 +287,7 @@ fn keeps_journal(ledger: Ledger) -> bool
 /// Runs an opened plan on its medium.
 fn run_setting<K: Keeps, D: Disks, O: Sink>(
     alloc: Global,
-    setting: Setting,
+    setting: OpenedRun,
     keeps: &mut K,
     disks: &mut D,
     out: &mut O,
@@ -310,7 +315,7 @@ fn run_setting<K: Keeps, D: Disks, O: Sink>(
     ensures disks_beyond { AreLeftFrom PROCESSES (of_disks D.Disks) disks.old disks.new }
     ensures other { IsOtherSame setting.medium (lent keeps.old disks.old) (lent keeps.new disks.new) }
 {
-    let Setting {
+    let OpenedRun {
         ledger,
         protocol,
         medium,
@@ -365,7 +370,7 @@ fn run_plan<L: Library, K: Keeps, D: Disks, O: Sink, R: Sink>(
     ensures stopped_alone { (p : ℕ) → result.verdict ≡ Verdict.DeviceStopped p → order.now.ledger ≡ Ledger.Journal }
     ensures begun { is_of_going_on result.verdict ≡ false }
     ensures passes { result.did ≡ Did.Run → IfSome (L.files lib.old) (λ files. IsOkAnd (as_verdict (opening_of files (order_view order.now))) (λ setting.
-        order.now.ledger ≡ Ledger.Report → (devices_of K.Keeps D.Disks (medium_at files order.now.plan.now)).tell (length setting.images) (lent keeps.old disks.old) (lent keeps.new disks.new) → WritesPassing setting (course (O.held out.old) (O.held out.new) (O.faults out.old) (O.faults out.new))
+        order.now.ledger ≡ Ledger.Report → (devices_of K.Keeps D.Disks (medium_at files order.now.plan.now)).tell (length setting.images) (lent keeps.old disks.old) (lent keeps.new disks.new) → WritesPassing setting 0 [] (course (O.held out.old) (O.held out.new) (O.faults out.old) (O.faults out.new))
         (course (R.held report.old) (R.held report.new) (R.faults report.old) (R.faults report.new)) result)) }
     ensures ran { result.did ≡ Did.Run → (medium : Media) × (task : Task) × (task.ledger ≡ order.now.ledger) ×
         IsReported task (devices_of K.Keeps D.Disks medium) result (loan (lent keeps.old disks.old) (lent keeps.new disks.new)) (course (O.held out.old) (O.held out.new) (O.faults out.old) (O.faults out.new))

@@ -1,13 +1,14 @@
 //! Going on with a run that was halted.
 
-ghost use Rattle.std.specs.Prelude.{◌≡◌, ◌⊎◌, ◌≤◌, ◌<◌, ◌+◌, ◌^◌, ℕ, All, IfErr, IfOk, IfSome, IsErrOf, IsOkAnd, None, Ok, OnErr, Some, false, true, length};
+ghost use Rattle.std.specs.Prelude.{◌≡◌, ◌⊎◌, ◌≤◌, ◌<◌, ◌+◌, ◌^◌, ℕ, All, IfErr, IfOk, IfSome, IsErrOf, IsOkAnd, None, Ok, OnErr, Some, false, true, length, map};
 ghost use Rattle.dc_checkpoint.specs.declared.faults.StoreFault.{StoreFault as StoreFaults};
 ghost use Rattle.dc_command.specs.Command.{halted_view};
 ghost use Rattle.dc_course.specs.Courses.{account_of};
-ghost use Rattle.dc_course.specs.Lent.{AreLeftFrom, KeepsTold};
+ghost use Rattle.dc_course.specs.Lent.{AreLeftFrom, KeepsTold, TellsStores};
 ghost use Rattle.dc_course.specs.Running.{output};
 ghost use Rattle.dc_course.specs.declared.ending.Ending.TheVariants as endings;
 ghost use Rattle.dc_disk.specs.Logs.{comes_of_content};
+ghost use Rattle.dc_elf.specs.Loaded.{seen_image};
 ghost use Rattle.dc_limits.specs.declared.bounds.TheConstants.{ENTRIES};
 ghost use Rattle.dc_limits.specs.declared.sizes.TheConstants.{PROCESSES};
 ghost use Rattle.dc_media.specs.Causes.{Rose};
@@ -15,12 +16,14 @@ ghost use Rattle.dc_media.specs.Devices.{of_disks};
 ghost use Rattle.dc_media.specs.Told.{TellsOn};
 ghost use Rattle.dc_model.proofs.Rising.{TurnsBelow};
 ghost use Rattle.dc_reread.specs.declared.faults.RereadFault.TheVariants as faults;
+ghost use Rattle.dc_shows.specs.Typed.{IsGivenRun};
 ghost use Rattle.dc_run.specs.Checking.{TellsLine};
 ghost use Rattle.dc_command.specs.Command.Asked.{ToResume};
 ghost use Rattle.dc_run.specs.Commands.{IsExact, IsOpenedFor, stores_used, work_by};
 ghost use Rattle.dc_run.specs.Headline.{Reports, course, loan, verdict_at};
 ghost use Rattle.dc_run.specs.Opening.{Files};
 ghost use Rattle.dc_run.specs.Outcomes.{IsNothing, status_of};
+ghost use Rattle.dc_run.specs.Passing.{WritesPassingOn};
 ghost use Rattle.dc_run.specs.Resumed.{GoesOnKept, HaveStood, IsFoundUnsuited, IsRefusedStore, IsResumed, IsUnsteady, IsUnsuited, WereLeft, unresumed_by};
 ghost use Rattle.dc_run.specs.Resuming.{AsksToResume, Going as Goings, IsBehind, IsRunOf, comes_before, going_in, going_with, was_halted};
 ghost use Rattle.dc_run.specs.Again.{going_of};
@@ -30,6 +33,7 @@ ghost use Rattle.dc_report.specs.Reports.{report_text};
 ghost use Rattle.dc_run.specs.declared.verdict.Outlet.TheVariants as Outlets;
 ghost use Rattle.dc_run.specs.declared.verdict.Verdict.{Verdict as Verdicts};
 ghost use Rattle.dc_run.specs.declared.verdict.Which.{Which as Whose};
+ghost use Rattle.dc_words.specs.Lists.{lists_of};
 ghost use Rattle.dc_world.specs.Opened.{IsCalmUnlessStopped};
 
 use crate::checking::report_at;
@@ -37,7 +41,7 @@ use crate::halting::{entries_run, halt_behind, leaves_over};
 use crate::opening::open;
 use crate::program::{unreported, verdict_at};
 use crate::refusal::verdict_of;
-use crate::setting::Setting;
+use crate::setting::OpenedRun;
 use crate::{Did, Outcome, Verdict};
 use dc_check::first_stray;
 use dc_command::{Halted, Ledger, Order};
@@ -54,7 +58,7 @@ use std::alloc::{AllocError, Global};
 /// again.
 #[derive(Drop)]
 pub struct Going {
-    pub setting: Setting,
+    pub setting: OpenedRun,
     pub report: Report,
     pub halt: Option<u32>,
 }
@@ -70,7 +74,7 @@ fn was_halted(schedule: &[Entry], report: &Report) -> bool
 }
 
 /// With the setting and the report.
-fn going_with(alloc: Global, setting: Setting, report: Report) -> Result<Going, Verdict>
+fn going_with(alloc: Global, setting: OpenedRun, report: Report) -> Result<Going, Verdict>
     requires takers { All (λ x. x.p < length setting.images.items) report.acts.items }
     requires few { length report.acts.items ≤ ENTRIES }
     ensures told { Answers going_of result (going_with setting.halt (setting_of setting) (seen report)) }
@@ -115,6 +119,7 @@ fn going_at<L: Library>(alloc: Global, names: &Halted, lib: &mut L) -> Result<Go
     ensures taken { IfOk result (λ g. (g.report.entries < length g.setting.schedule.items) × IsBehind g.report.entries g.halt) }
     ensures before { IfOk result (λ g. TurnsBelow g.report.entries g.report.acts.items) }
     ensures ran { IfOk result (λ g. IsRunOf (setting_of g.setting) g.report.acts.items) }
+    ensures given { IfOk result (λ g. IsGivenRun (map seen_image g.setting.images.items) (lists_of g.setting.inputs.items) g.setting.schedule.items) }
     ensures reached { (files : Files) (w : Whose) → L.files lib.old ≡ Some files → IsErrOf result (Verdict.LibraryFault w) → AsksToResume files (halted_view names.now) w }
     ensures fault { (w : Whose) → IsErrOf result (Verdict.LibraryFault w) → Rose (L.faults lib.old) (L.faults lib.new) }
     ensures library { LibraryKept (L.files lib.old) (L.files lib.new) (L.faults lib.old) (L.faults lib.new) }
@@ -175,7 +180,7 @@ fn go_on_with<D: Disks, O: Sink>(
         report,
         halt,
     } = going;
-    let Setting {
+    let OpenedRun {
         ledger: _,
         protocol,
         medium: _,
@@ -290,6 +295,9 @@ pub fn resume_run<L: Library, D: Disks, O: Sink, R: Sink>(
         IsResumed going D.Disks result (loan disks.old disks.new) (course (O.held out.old) (O.held out.new) (O.faults out.old) (O.faults out.new)) (course (R.held report.old) (R.held report.new) (R.faults report.old) (R.faults report.new)))) }
     ensures went { result.did ≡ Did.Resumed → (going : Goings) × IsRunOf going.setting going.report.acts ×
         IsResumed going D.Disks result (loan disks.old disks.new) (course (O.held out.old) (O.held out.new) (O.faults out.old) (O.faults out.new)) (course (R.held report.old) (R.held report.new) (R.faults report.old) (R.faults report.new)) }
+    ensures passes { result.did ≡ Did.Resumed → IfSome (L.files lib.old) (λ files. IsOkAnd (going_in files (halted_view names.now)) (λ going.
+        TellsStores (of_disks D.Disks) (length going.setting.images) disks.old disks.new → WritesPassingOn going (course (O.held out.old) (O.held out.new) (O.faults out.old) (O.faults out.new))
+        (course (R.held report.old) (R.held report.new) (R.faults report.old) (R.faults report.new)) result)) }
     ensures unsuited { (p : ℕ) → result.verdict ≡ Verdict.StoreUnsuited p → IfSome (L.files lib.old) (λ files. IsOkAnd (going_in files (halted_view names.now)) (λ going.
         IsUnsuited D.Disks going (loan disks.old disks.new) p)) }
     ensures store { (p : ℕ) (fault : StoreFaults) → result.verdict ≡ Verdict.StoreRefused p fault → result.did ≡ Did.Nothing → IfSome (L.files lib.old) (λ files. IsOkAnd (going_in files (halted_view names.now)) (λ going.

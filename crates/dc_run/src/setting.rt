@@ -2,8 +2,8 @@ ghost use Rattle.std.specs.Prelude.{◌≡◌, false, ◌≤◌, ◌<◌, All, l
 ghost use Rattle.dc_limits.specs.declared.sizes.TheConstants.{PROCESSES};
 ghost use Rattle.dc_protocols.specs.Rules.{is_causal};
 ghost use Rattle.dc_schedule.specs.Entries.{IsSchedule};
-ghost use Rattle.dc_world.specs.Opened.{CanOpen};
-ghost use Rattle.dc_run.specs.Single.{IsSchedule-prop, all_can_open-prop};
+ghost use Rattle.dc_run.specs.Single.{IsSchedule-prop};
+ghost use Rattle.dc_world.specs.Openable.{CanOpen, all_can_open-prop};
 
 use dc_command::Ledger;
 use dc_elf::Image;
@@ -16,7 +16,7 @@ use dc_protocols::Protocol;
 /// What a run is opened with: what it writes at its end, its protocol, the medium of its stores, the image of each guest, the records of each one's input, its schedule, the stops
 /// that are planned, and the first entry that is not run, if it is to be halted.
 #[derive(Drop)]
-pub struct Setting {
+pub struct OpenedRun {
     pub ledger: Ledger,
     pub protocol: Protocol,
     pub medium: Medium,

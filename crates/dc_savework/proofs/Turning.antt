@@ -24,7 +24,7 @@ use Rattle.dc_recovery.proofs.Parts.{commits_no, commits_yes, is_company, member
 use Rattle.dc_recovery.proofs.Rows.{visible_clear, visibles_are}
 use Rattle.dc_recovery.specs.Answers.{any_at, any_unlogged, makes_most, replays, rule_at, since}
 use Rattle.dc_recovery.specs.Core.{Core, Status, numbers_of, stands}
-use Rattle.dc_recovery.specs.Parts.{Company, at_one, commit_if, commits_in, first, is_with, log_if, logged, passed, second, third}
+use Rattle.dc_recovery.specs.Parts.{Company, at_one, commit_if, commits_in, first, is_with, log_if, logged, event_later, second, third}
 use Rattle.dc_recovery.specs.Parts.Place.{Nowhere}
 use Rattle.dc_recovery.specs.Saves.{Logged as Record}
 use Rattle.dc_recovery.specs.Systems.{IsSound, System, kind_at}
@@ -55,14 +55,14 @@ log_own true x p procs q = ⊎_elim
     (λ (ne : p ≢ q). ap (λ (st : Status). st.unlogged) (put_other p q (logged x (procs p)) procs ne)) (cases_eq p q)
 
 -- an event
-event_own : (replay chance : Bool) (p : ℕ) (procs : ℕ → Status) (q : ℕ) → has_unsaved (at_one p (passed replay chance) procs) q ≡ false → has_unsaved procs q ≡ false
+event_own : (replay chance : Bool) (p : ℕ) (procs : ℕ → Status) (q : ℕ) → has_unsaved (at_one p (event_later replay chance) procs) q ≡ false → has_unsaved procs q ≡ false
 event_own replay chance p procs q off = ⊎_elim
     (λ (e : p ≡ q). subst (λ (i : ℕ). has_unsaved procs i ≡ false) e (or_parts (has_unsaved procs p) chance
-    (ap (λ (st : Status). st.unlogged) (sym (put_self p (passed replay chance (procs p)) procs)) ∙ subst (λ (i : ℕ). has_unsaved (at_one p (passed replay chance) procs) i ≡ false) (sym e) off)).0)
-    (λ (ne : p ≢ q). ap (λ (st : Status). st.unlogged) (sym (put_other p q (passed replay chance (procs p)) procs ne)) ∙ off) (cases_eq p q)
+    (ap (λ (st : Status). st.unlogged) (sym (put_self p (event_later replay chance (procs p)) procs)) ∙ subst (λ (i : ℕ). has_unsaved (at_one p (event_later replay chance) procs) i ≡ false) (sym e) off)).0)
+    (λ (ne : p ≢ q). ap (λ (st : Status). st.unlogged) (sym (put_other p q (event_later replay chance (procs p)) procs ne)) ∙ off) (cases_eq p q)
 
-event_sets : (replay chance : Bool) (p : ℕ) (procs : ℕ → Status) → chance ≡ true → has_unsaved (at_one p (passed replay chance) procs) p ≡ true
-event_sets replay chance p procs on = ap (λ (st : Status). st.unlogged) (put_self p (passed replay chance (procs p)) procs) ∙ or_right (has_unsaved procs p) chance on
+event_sets : (replay chance : Bool) (p : ℕ) (procs : ℕ → Status) → chance ≡ true → has_unsaved (at_one p (event_later replay chance) procs) p ≡ true
+event_sets replay chance p procs on = ap (λ (st : Status). st.unlogged) (put_self p (event_later replay chance (procs p)) procs) ∙ or_right (has_unsaved procs p) chance on
 
 -- what an event finds after the commit before it: at a send nothing unsaved of the process, where each commits by itself; at a visible one nothing of any
 pub record Finds (pr : Protocol) (n p : ℕ) (e : Event) (unsaved : ℕ → Bool) : Type 0 where

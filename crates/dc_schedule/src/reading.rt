@@ -78,10 +78,8 @@ fn entry(stops: bool, n: u32, last: u64, line: &[u8]) -> Result<Entry, ScheduleK
             Err(ScheduleKind::Form)
         };
     };
-    match first_field(b' ', third) {
-        Some(_) => Err(ScheduleKind::Form),
-        None => turn(n, last, first, second, third),
-    }
+    // A third field in which a blank stands is no number.
+    turn(n, last, first, second, third)
 }
 
 /// The clock after an entry, where it stood at `last`.

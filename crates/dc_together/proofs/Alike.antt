@@ -23,6 +23,28 @@ use Rattle.dc_together.specs.Joints.{GoesAlike}
 use Rattle.dc_processes.specs.Taking.{MakesCall, ShowsNext}
 use Rattle.dc_processes.specs.declared.slot.Slot.{Slot}
 use Rattle.dc_processes.specs.declared.slot.Slot.TheVariants.{Up}
+use Rattle.dc_elf.specs.Images.{Image}
+use Rattle.dc_model.specs.Guests.{Answer}
+use Rattle.dc_model.specs.Process.{shown}
+use Rattle.dc_model.specs.declared.mark.Mark.{Mark}
+use Rattle.dc_model.specs.declared.visible.Visible.{Visible}
+use Rattle.dc_proc.specs.Carried.{system}
+use Rattle.dc_processes.proofs.Telling.{shown_is}
+use Rattle.dc_processes.specs.Slots.{slot_at}
+use Rattle.dc_processes.specs.Stages.{IsTold, IsWorld, Stage, store_of}
+use Rattle.dc_processes.specs.Turns.{lines_of}
+use Rattle.dc_recovery.specs.Core.{Core, stands}
+use Rattle.dc_together.proofs.Owns.{here_going}
+use Rattle.dc_together.specs.Together.{AllGo, ShowsTold}
+use Rattle.std.proofs.Common.{◌<◌, IsSome, length, refl}
+use Rattle.dc_processes.proofs.Beside.{some_there}
+use Rattle.dc_together.proofs.Fitting.{fit_there}
+use Rattle.dc_together.proofs.Joining.{told_same}
+use Rattle.dc_together.proofs.Leading.{Leads, told_later}
+use Rattle.dc_together.specs.Joints.{AllBelong, AreFit}
+use Rattle.dc_twophase.proofs.Pairs.{known}
+use Rattle.dc_twophase.specs.Commits.{IsSameMemory}
+use Rattle.dc_twophase.specs.Stores.{At, EachPair}
 
 -- a memory that is told now was told so
 pub told_before : (old new : Option (List ℕ)) (words : List ℕ) → Becomes old new (λ b a. a ≡ b) → new ≡ Some words → old ≡ Some words
@@ -81,3 +103,31 @@ module _ {C D : Type 0} (g : checkpoint.Ghosts C D) (c0 c1 : C) (d0 d1 : D) (s0 
       (told_at (λ ws. done ≡ shown_of (effect_of (event_of (next_of (over v.guest ws)) (machine_over v.guest ws))) v.kernel.visible) (g.contents c1 d1) words told1 (shows v there)
       ∙ ap (λ (x : Guest). shown_of (effect_of (event_of (next_of x) x.machine)) v.kernel.visible) (over_same makes.up v makes.fit.whole fit.whole both words)
       ∙ ap (shown_of (effect_of (event_of (next_of (over makes.up.guest words)) (machine_over makes.up.guest words)))) both.visible_same))
+
+-- in a world that stands for a core, where the memory is told, so many lines are shown
+pub lines_told : {C D : Type 0} (g : checkpoint.Ghosts C D) (old : Stage C D) (images : List Image) (c : Core) (a : Answer) {mark : Mark} {lines : Option Visible} (told : IsTold g old) (go : AllGo (system images old.inputs old.protocol) c) (p : ℕ)
+    (inside : p < (system images old.inputs old.protocol).guests.count) (world : IsWorld g (system images old.inputs old.protocol) c old) (x : C) (at : store_of old p ≡ Some x) (call : Option Call) (next : MakesCall g x old.dev (slot_at old.slots p) call)
+    (words : List ℕ) → g.contents x old.dev ≡ Some words → ShowsTold g old p mark lines
+    → length (shown (system images old.inputs old.protocol).guests p (stands (system images old.inputs old.protocol).guests c p) a) ≡ length (lines_of lines)
+lines_told g old images c a told go p inside world x at call next words memory shows =
+    let u = next.up in
+    let here = here_going g (system images old.inputs old.protocol) c old go world p inside x at u next.there words memory in
+    let showed = told_at (λ ws. shows.done ≡ shown_of (effect_of (event_of (next_of (over u.guest ws)) (machine_over u.guest ws))) u.kernel.visible) (g.contents x old.dev) words memory (shows.showed told x at u next.there) in
+    ap (λ vs. length vs) (shown_is images old.inputs old.protocol p _ (c.procs p) words u next.fit.whole here next.runs a (called_by (next_of (over u.guest words))) shows.done refl showed) ∙ ap (λ v. length (lines_of v)) (sym shows.shown_is)
+
+-- what is shown after a commit of all is what was to be shown before it, where the devices are told
+module _ {C D : Type 0} (g : checkpoint.Ghosts C D) (told_contents : (x : C) (dev : D) → g.ready x dev → g.told dev (g.index x) → IsSome (g.contents x dev)) {old mid : Stage C D} (leads : Leads g old mid) (p : ℕ) (inside : p < length old.slots)
+    (stored : length old.stores ≡ length old.slots) (belongs : AllBelong g (length old.slots) old.stores) (call : Option Call) (z : C) (at : store_of old p ≡ Some z) (next : MakesCall g z old.dev (slot_at old.slots p) call) (told : IsTold g old) where
+  pub memory_told : (ws : List ℕ) × (g.contents z old.dev ≡ Some ws)
+  memory_told = some_there (g.contents z old.dev) (told_contents z old.dev next.fit.ready (subst (g.told old.dev) (sym (belongs p z at).index_is) (told.told p inside)))
+
+  pub shows_told : AreFit g mid.stores mid.dev mid.slots → GoesAlike (slot_at old.slots p) (slot_at mid.slots p) → EachPair old.stores mid.stores (λ i. IsSameMemory g old.dev mid.dev) → (done : Option Shown)
+      → At p mid.stores (λ x. ShowsNext g x mid.dev (slot_at mid.slots p) done) → ShowsNext g z old.dev (slot_at old.slots p) done
+  shows_told fit alike memory done shows =
+      let x = known mid.stores p (subst (λ m. p < m) (sym (leads.as_many ∙ stored)) inside) in
+      let f = fit_there g x.0 mid.dev (slot_at mid.slots p) (fit p x.0 x.1) in
+      let index : g.index x.0 ≡ p = (leads.same p z x.0 at x.1).index_same ∙ (belongs p z at).index_is in
+      let device = subst (g.told mid.dev) (sym index) ((told_later leads told).told p (subst (λ m. p < m) (sym leads.long) inside)) in
+      let kept = memory p z x.0 at x.1 in
+      shows_alike g z x.0 old.dev mid.dev (slot_at old.slots p) (slot_at mid.slots p) call next f.up f.there f.fit alike kept done memory_told.0 memory_told.1
+      (told_same (g.contents z old.dev) (g.contents x.0 mid.dev) memory_told.0 kept memory_told.1 (told_contents x.0 mid.dev f.fit.ready device)) (shows x.0 x.1)

@@ -27,7 +27,7 @@ use Rattle.dc_recovery.specs.Alone.{IsAnswerAlone}
 use Rattle.dc_recovery.specs.Answers.{any_at, makes_most, replays, rule_at, since, stores_at}
 use Rattle.dc_recovery.specs.Core.{Core, Status, numbers_of, stands, untied}
 use Rattle.dc_recovery.specs.Invariant.{Holds}
-use Rattle.dc_recovery.specs.Parts.{Company, Place, at_one, commit_if, each, fallen, may_stop, may_store, number_after, passed, sets_unlogged, torn}
+use Rattle.dc_recovery.specs.Parts.{Company, Place, at_one, commit_if, each, fallen, may_stop, may_store, number_after, event_later, sets_unlogged, torn}
 use Rattle.dc_recovery.specs.Parts.Place.{InAfter, InBefore, InEvent, Nowhere}
 use Rattle.dc_recovery.specs.Saves.{Logged, is_empty_log}
 use Rattle.dc_recovery.specs.Systems.{System, kind_at}
@@ -36,8 +36,10 @@ use Rattle.dc_recovery.specs.Turned.{after_turn, with_act}
 use Rattle.dc_processes.proofs.Alls.{commits_all, each_all, event_numbers, members_all, next_free, torn_all}
 use Rattle.dc_together.proofs.Happened.{at_other, at_self}
 use Rattle.dc_processes.specs.Stages.{IsTold, IsWorld, Stage}
-use Rattle.dc_together.specs.Together.{AllGo, Breaks, Happens, Makes, after_broken_event, after_event, all_torn, commit_core, reads_log}
-use Rattle.dc_processes.specs.Turns.{later}
+use Rattle.dc_together.specs.Together.{AllGo, Breaks, Happens, IsAskedAt, Makes, after_broken_event, after_event, all_torn, commit_core, reads_log}
+use Rattle.dc_processes.specs.Slots.{is_up, slot_at}
+use Rattle.dc_together.proofs.Leading.{Leads, told_later}
+use Rattle.dc_processes.specs.Turns.{FellTogether, WentTogether, later}
 
 -- with these lines
 abbrev pub showing : Core → List Visible → Core
@@ -100,10 +102,10 @@ module _ (S : System Guest) (together : is_joint S.protocol ≡ true) (free : is
   firsts_are = commit_all rule.before c v.before v.numbers_before before_all one_is
 
   abbrev thirds : ℕ → Status
-  thirds = at_one p (passed replay (sets_unlogged rule.log replay a)) (commit_if rule.before v.before v.numbers_before c.procs)
+  thirds = at_one p (event_later replay (sets_unlogged rule.log replay a)) (commit_if rule.before v.before v.numbers_before c.procs)
 
   two_is : (q : ℕ) → v.numbers_after q ≡ number_after (thirds q)
-  two_is q = next_free S free (numbers_first S c p a) q ∙ event_numbers p (passed replay (sets_unlogged rule.log replay a)) (commit_if rule.before v.before v.numbers_before c.procs) (λ st. refl) q
+  two_is q = next_free S free (numbers_first S c p a) q ∙ event_numbers p (event_later replay (sets_unlogged rule.log replay a)) (commit_if rule.before v.before v.numbers_before c.procs) (λ st. refl) q
 
   falls_all : (q : ℕ) → v.falls q ≡ true
   falls_all q = with_all S.protocol p q together
@@ -121,8 +123,8 @@ module _ (S : System Guest) (together : is_joint S.protocol ≡ true) (free : is
 
   -- the processes after the event
   event_procs : (after_event S t (commit_core rule.before c) p a).procs ≡ thirds
-  event_procs = ap (λ r. at_one p (passed r (sets_unlogged false r a)) (commit_core rule.before c).procs) (reads_same rule.before) ∙ ap (λ procs. at_one p (passed replay (sets_unlogged false replay a)) procs) firsts_are
-      ∙ ap (λ l. at_one p (passed replay (sets_unlogged l replay a)) (commit_if rule.before v.before v.numbers_before c.procs)) (sym off)
+  event_procs = ap (λ r. at_one p (event_later r (sets_unlogged false r a)) (commit_core rule.before c).procs) (reads_same rule.before) ∙ ap (λ procs. at_one p (event_later replay (sets_unlogged false replay a)) procs) firsts_are
+      ∙ ap (λ l. at_one p (event_later replay (sets_unlogged l replay a)) (commit_if rule.before v.before v.numbers_before c.procs)) (sym off)
 
   abbrev mid : Core
   mid = after_event S t (commit_core rule.before c) p a
@@ -259,9 +261,9 @@ module _ {C D : Type 0} (g : checkpoint.Ghosts C D) (images : List Image) (old :
   given_alone d is = ⊎_elim (λ x. inl x) (λ x. inr (x.0, x.1)) is
 
   -- stopped in the commit before it
-  pub fell_before : (new : Stage C D) → asked.before ≡ true → Makes g all_torn old new
+  before_fell : (new : Stage C D) → asked.before ≡ true → Makes g all_torn old new
       → (may_stop (rule_at S c p a) (stores_at S.guests c p a) (comes S.guests (stands S.guests c p) a) a InBefore ≡ true) × IsWorld g S (after_turn S old.entries c p a InBefore) new
-  fell_before new due torn = (
+  before_fell new due torn = (
     ap (λ (r : Rule). r.before) (sym asked_is) ∙ due,
     subst (λ d. IsWorld g S d new) (before_is S together world.seven.0 old.entries c p a off unread) (torn images c together told go world),
   )
@@ -278,8 +280,8 @@ module _ {C D : Type 0} (g : checkpoint.Ghosts C D) (images : List Image) (old :
     go_mid = go_committed S c b go
 
     -- stopped in the event
-    pub fell_event : (new : Stage C D) → Breaks g p a mid new → (may_stop (rule_at S c p a) (stores_at S.guests c p a) (comes S.guests (stands S.guests c p) a) a InEvent ≡ true) × IsWorld g S (after_turn S old.entries c p a InEvent) new
-    fell_event new breaks = let broke = breaks_under g images old.inputs old.protocol mid new inputs_mid protocol_mid p a breaks (commit_core b c) together told_mid go_mid inside (given_alone (commit_core b c) (given_first b)) world_mid in (
+    event_fell : (new : Stage C D) → Breaks g p a mid new → (may_stop (rule_at S c p a) (stores_at S.guests c p a) (comes S.guests (stands S.guests c p) a) a InEvent ≡ true) × IsWorld g S (after_turn S old.entries c p a InEvent) new
+    event_fell new breaks = let broke = breaks_under g images old.inputs old.protocol mid new inputs_mid protocol_mid p a breaks (commit_core b c) together told_mid go_mid inside (given_alone (commit_core b c) (given_first b)) world_mid in (
       stores_same b broke.0,
       subst (λ d. IsWorld g S d new) (event_is S together world.seven.0 old.entries c p a off unread) (subst (λ t. IsWorld g S (after_broken_event t (commit_core b c) p a) new) entries_mid broke.1),
     )
@@ -301,15 +303,15 @@ module _ {C D : Type 0} (g : checkpoint.Ghosts C D) (images : List Image) (old :
       go_gone = go_event S old.entries (commit_core b c) go_mid p a (given_first b)
 
       -- stopped in the commit after it
-      pub fell_after : (new : Stage C D) → asked.after ≡ true → Makes g all_torn gone new → (may_stop (rule_at S c p a) (stores_at S.guests c p a) (comes S.guests (stands S.guests c p) a) a InAfter ≡ true) × IsWorld g S (after_turn S old.entries c p a InAfter) new
-      fell_after new due torn = (
+      after_fell : (new : Stage C D) → asked.after ≡ true → Makes g all_torn gone new → (may_stop (rule_at S c p a) (stores_at S.guests c p a) (comes S.guests (stands S.guests c p) a) a InAfter ≡ true) × IsWorld g S (after_turn S old.entries c p a InAfter) new
+      after_fell new due torn = (
         ap (λ (r : Rule). r.after) (sym asked_is) ∙ due,
         subst (λ d. IsWorld g S d new) (after_is S together world.seven.0 old.entries c p a off unread) (makes_under g images old.inputs old.protocol gone new inputs_gone protocol_gone all_torn torn after together told_gone go_gone world_gone),
       )
 
       -- it went whole
-      pub went_whole : (last : Stage C D) (n : ℕ) → Makes g (commit_core asked.after) gone last → length (shown S.guests p (stands S.guests c p) a) ≡ n → IsWorld g S (after_turn S old.entries c p a Nowhere) (later n last)
-      went_whole last n second long =
+      whole_went : (last : Stage C D) (n : ℕ) → Makes g (commit_core asked.after) gone last → length (shown S.guests p (stands S.guests c p) a) ≡ n → IsWorld g S (after_turn S old.entries c p a Nowhere) (later n last)
+      whole_went last n second long =
           let world_last : IsWorld g S (commit_core (rule_at S c p a).after after) last = subst (λ (r : Rule). IsWorld g S (commit_core r.after after) last) asked_is
           (makes_under g images old.inputs old.protocol gone last inputs_gone protocol_gone (commit_core asked.after) second after together told_gone go_gone world_gone) in
           subst (λ d. IsWorld g S d (later n last)) (whole_is S together world.seven.0 old.entries c p a off unread)
@@ -318,3 +320,44 @@ module _ {C D : Type 0} (g : checkpoint.Ghosts C D) (images : List Image) (old :
           lines_same : (x : Bool) (d : Core) → length (commit_core x d).lines ≡ length d.lines
           lines_same true d = refl
           lines_same false d = refl
+
+-- the code asks what the theory asks of process p, which is up
+pub record Asks {C D : Type 0} (g : checkpoint.Ghosts C D) (old : Stage C D) (p : ℕ) (a : Answer) (asked : Rule) : Type 0 where
+  pub asked_at : IsAskedAt g p a old asked
+  pub on : is_up (slot_at old.slots p) ≡ true
+
+-- such a turn, whatever core the world stands for
+module _ {C D : Type 0} {g : checkpoint.Ghosts C D} {old : Stage C D} {p : ℕ} {a : Answer} {asked : Rule} (asks : Asks g old p a asked) where
+  pub fell_before : (new : Stage C D) → asked.before ≡ true → Makes g all_torn old new → FellTogether g old new p a
+  fell_before new due torn images schedule c together told now world inside given =
+      let up : (c.procs p).up ≡ true = world.up_are p inside ∙ asks.on in
+      let asked_is = asks.asked_at images c together told (go_all (system images old.inputs old.protocol) schedule old.entries c together now p up) inside world in
+      let fell = before_fell g images old together schedule c now told world p inside up a given asked asked_is new due torn in
+      (InBefore, λ e. absurd (let no : ⊥ = cc in no), fell.0, fell.1)
+
+  module _ {mid : Stage C D} (first : Makes g (commit_core asked.before) old mid) (leads : Leads g old mid) where
+    pub fell_event : (new : Stage C D) → Breaks g p a mid new → FellTogether g old new p a
+    fell_event new breaks images schedule c together told now world inside given =
+        let up : (c.procs p).up ≡ true = world.up_are p inside ∙ asks.on in
+        let asked_is = asks.asked_at images c together told (go_all (system images old.inputs old.protocol) schedule old.entries c together now p up) inside world in
+        let fell = event_fell g images old together schedule c now told world p inside up a given asked asked_is mid first leads.inputs leads.protocol leads.entries (told_later leads told) new breaks in
+        (InEvent, λ e. absurd (let no : ⊥ = cc in no), fell.0, fell.1)
+
+    module _ {gone : Stage C D} (event : Happens g p a (λ S d. after_event S mid.entries d p a) mid gone) (on_it : Leads g mid gone) where
+      pub fell_after : (new : Stage C D) → asked.after ≡ true → Makes g all_torn gone new → FellTogether g old new p a
+      fell_after new due torn images schedule c together told now world inside given =
+          let up : (c.procs p).up ≡ true = world.up_are p inside ∙ asks.on in
+          let asked_is = asks.asked_at images c together told (go_all (system images old.inputs old.protocol) schedule old.entries c together now p up) inside world in
+          let fell = after_fell g images old together schedule c now told world p inside up a given asked asked_is mid first leads.inputs leads.protocol leads.entries (told_later leads told) gone event
+          (on_it.inputs ∙ leads.inputs) (on_it.protocol ∙ leads.protocol) (told_later on_it (told_later leads told)) new due torn in
+          (InAfter, λ e. absurd (let no : ⊥ = cc in no), fell.0, fell.1)
+
+      pub went_whole : (last : Stage C D) (n : ℕ) → Makes g (commit_core asked.after) gone last
+          → ((images : List Image) (c : Core) → IsTold g old → AllGo (system images old.inputs old.protocol) c → p < (system images old.inputs old.protocol).guests.count → IsWorld g (system images old.inputs old.protocol) c old
+          → length (shown (system images old.inputs old.protocol).guests p (stands (system images old.inputs old.protocol).guests c p) a) ≡ n)
+          → WentTogether g old (later n last) p a
+      went_whole last n second long images schedule c together told now world inside given =
+          let up : (c.procs p).up ≡ true = world.up_are p inside ∙ asks.on in
+          let go = go_all (system images old.inputs old.protocol) schedule old.entries c together now p up in
+          whole_went g images old together schedule c now told world p inside up a given asked (asks.asked_at images c together told go inside world) mid first leads.inputs leads.protocol leads.entries (told_later leads told) gone event
+          (on_it.inputs ∙ leads.inputs) (on_it.protocol ∙ leads.protocol) (told_later on_it (told_later leads told)) last n second (long images c told go inside world)

@@ -1,6 +1,8 @@
 -- All processes that commit together fell: between turns, or in the event of one of them.
-use Rattle.std.proofs.Common.{◌≡◌, ◌∙◌, ◌-◌, ◌*◌, ◌^◌, ◌<◌, ◌≤◌, ℕ, true, false, Ok, IsSomeAnd, refl, sym, ap, subst, arith, length, slice_index, max}
+use Rattle.std.proofs.Common.{◌≡◌, ◌∙◌, ◌-◌, ◌*◌, ◌^◌, ◌<◌, ◌≤◌, ℕ, true, false, List, Ok, Option, None, Some, IsSomeAnd, refl, sym, ap, subst, arith, length, slice_get, slice_index, max}
 use Rattle.std.proofs.lemmas.Bool.{true≢false}
+use Rattle.dc_checkpoint.specs.Calls.{FallsStore}
+use Rattle.dc_checkpoint.specs.Handles.{showing_of}
 use Rattle.dc_checkpoint.specs.States.{Reading}
 use Rattle.dc_checkpoint.specs.declared.checkpoint.Checkpoint as checkpoint
 use Rattle.dc_guest.specs.Guest.{Guest}
@@ -8,6 +10,7 @@ use Rattle.dc_model.specs.Guests.{Answer}
 use Rattle.dc_model.specs.Process.{local}
 use Rattle.dc_model.specs.Runs.{own}
 use Rattle.dc_model.specs.World.{reported}
+use Rattle.dc_processes.proofs.Beside.{and_some}
 use Rattle.dc_processes.proofs.Entries.{world_power}
 use Rattle.dc_processes.proofs.Together.{saves_move}
 use Rattle.dc_processes.specs.Worlds.{WorldStands}
@@ -22,7 +25,32 @@ use Rattle.dc_together.proofs.Acknowledged.{numbers_stand, stands_together}
 use Rattle.dc_together.proofs.Happened.{stands_fewer, within_newer, within_older}
 use Rattle.dc_processes.specs.Slots.{based_in, is_up, slot_at}
 use Rattle.dc_processes.specs.Stages.{AreDecided, IsWorld, Stage, leaves_of, numbers_of, seen_of, store_of}
+use Rattle.dc_twophase.proofs.Pairs.{before_it}
+use Rattle.dc_twophase.specs.Stores.{EachPair}
 use Rattle.dc_together.specs.Together.{AllGo, after_broken_event}
+
+-- stores that fell: what is so of each was so of it before
+module _ {C D : Type 0} (g : checkpoint.Ghosts C D) (stores stores1 : List C) (dev : D) (as_many : length stores1 ≡ length stores) (fell : EachPair stores stores1 (λ i. FallsStore (showing_of g))) where
+  by_fallen : (q : ℕ) (P Q : C → Type 0) → ((b x : C) → FallsStore (showing_of g) b x → P x → Q b) → IsSomeAnd (slice_get stores1 q) P → IsSomeAnd (slice_get stores q) Q
+  by_fallen q P Q step = by_case (slice_get stores1 q) refl
+    where
+      by_case : (o : Option C) → slice_get stores1 q ≡ o → IsSomeAnd o P → IsSomeAnd (slice_get stores q) Q
+      by_case None e is = absurd is
+      by_case (Some x) e is = let b = before_it stores stores1 q x as_many e in and_some Q (slice_get stores q) b.0 b.1 (step b.0 x (fell q b.0 x b.1 e) is)
+
+  pub numbers_fell : (n : ℕ) → IsSomeAnd (slice_get stores1 0) (λ z. g.numbers z dev n) → IsSomeAnd (slice_get stores 0) (λ z. g.numbers z dev n)
+  numbers_fell n = by_fallen 0 (λ z. g.numbers z dev n) (λ z. g.numbers z dev n) (λ b x f is. f.numbers dev n is)
+
+  pub leaves_fell : (q n : ℕ) (r : Reading) → IsSomeAnd (slice_get stores1 q) (λ z. g.leaves z dev n r) → IsSomeAnd (slice_get stores q) (λ z. g.leaves z dev n r)
+  leaves_fell q n r = by_fallen q (λ z. g.leaves z dev n r) (λ z. g.leaves z dev n r) (λ b x f is. f.stands dev n r (omega arith) is)
+
+  -- and the first is steady still
+  pub steady_fell : IsSomeAnd (slice_get stores 0) (λ z. g.steady z dev) → IsSomeAnd (slice_get stores1 0) (λ z. g.steady z dev)
+  steady_fell = by_case (slice_get stores 0) refl
+    where
+      by_case : (o : Option C) → slice_get stores 0 ≡ o → IsSomeAnd o (λ z. g.steady z dev) → IsSomeAnd (slice_get stores1 0) (λ z. g.steady z dev)
+      by_case None e is = absurd is
+      by_case (Some b) e is = let x = before_it stores1 stores 0 b (sym as_many) e in and_some (λ z. g.steady z dev) (slice_get stores1 0) x.0 x.1 ((fell 0 b x.0 e x.1).steady dev is)
 
 module _ {C D : Type 0} (g : checkpoint.Ghosts C D) (S : System Guest) (together : is_joint S.protocol ≡ true) (c : Core) (old new : Stage C D) (world : IsWorld g S c old)
     (fewer : (n : ℕ) → numbers_of g new n → numbers_of g old n) (narrow : (q n : ℕ) → numbers_of g new n → (r : Reading) → leaves_of g new q n r → leaves_of g old q n r)

@@ -1,7 +1,7 @@
 -- Processes that are fit for a turn or a commit, with their stores.
 use Rattle.dc_checkpoint.specs.Calls.{FallsStore}
-use Rattle.std.proofs.Common.{◌≡◌, ◌∙◌, ◌/◌, ◌*◌, ◌+◌, ◌^◌, ◌<◌, ◌-◌, ◌≤◌, ℕ, List, true, Option, None, Some, IsSome, false, is_some, refl, sym, ap, subst, arith, length, slice_get, slice_index, max, ⊎_elim, Bool, if◌then◌else◌}
-use Rattle.std.proofs.lemmas.Bool.{cases_lt, true≢false}
+use Rattle.std.proofs.Common.{◌≡◌, ◌≢◌, ◌∙◌, ◌/◌, ◌*◌, ◌+◌, ◌^◌, ◌<◌, ◌-◌, ◌≤◌, ℕ, List, true, Option, None, Some, IsSome, false, is_some, refl, sym, ap, subst, arith, length, set, slice_get, slice_index, max, ⊎_elim, Bool, if◌then◌else◌}
+use Rattle.std.proofs.lemmas.Bool.{cases_eq, cases_lt, true≢false}
 use Rattle.std.proofs.lemmas.List.{length-drop}
 use Rattle.std.proofs.lemmas.Nat.{div-mul-add}
 use Rattle.dc_checkpoint.specs.Handles.{IsSame, showing_of}
@@ -16,7 +16,7 @@ use Rattle.dc_proc.specs.Ups.{IsFit as IsFitUp, IsWhole, held}
 use Rattle.dc_proc.specs.declared.down.Down.{Down as Fallen}
 use Rattle.dc_proc.specs.declared.up.Up.{Up as Process}
 use Rattle.dc_twophase.proofs.Laws.{Laws}
-use Rattle.dc_twophase.proofs.Pairs.{before_it, known}
+use Rattle.dc_twophase.proofs.Pairs.{at_other, at_same, before_it, known}
 use Rattle.dc_twophase.specs.Commits.{IsCommitted}
 use Rattle.dc_twophase.specs.Recoveries.{AreFit as AreFilled, IsRecovered}
 use Rattle.dc_twophase.specs.Stores.{AreApart, EachPair}
@@ -27,6 +27,16 @@ use Rattle.dc_processes.specs.Slots.{Falls, based_in, held_in, is_up, size_in, s
 use Rattle.dc_processes.specs.declared.joint.Joint.{Joint}
 use Rattle.dc_processes.specs.declared.slot.Slot.{Slot}
 use Rattle.dc_processes.specs.declared.slot.Slot.TheVariants.{Down, Up}
+
+-- what is so of one, and of each other
+pub by_other : (p : ℕ) (P : ℕ → Type 0) → P p → ((q : ℕ) → p ≢ q → P q) → (q : ℕ) → P q
+by_other p P self other q = ⊎_elim (λ (same : p ≡ q). subst P same self) (other q) (cases_eq p q)
+
+-- of one that was set, and of each other that is there
+pub each_set : {X : Type 0} (xs : List X) (p : ℕ) (y : X) (P : ℕ → X → Type 0) → P p y → ((q : ℕ) (x : X) → slice_get xs q ≡ Some x → p ≢ q → P q x) → (q : ℕ) (x : X) → slice_get (set xs p y) q ≡ Some x → P q x
+each_set {X} xs p y P self other = by_other p (λ q. (x : X) → slice_get (set xs p y) q ≡ Some x → P q x)
+    (λ x at. subst (P p) (sym (at_same xs p y x at)) self)
+    (λ q ne x at. other q x (sym (at_other xs p q y (λ e. ne (sym e))) ∙ at) ne)
 
 -- a process that is fit for its store
 pub record FitAt {C D : Type 0} (g : checkpoint.Ghosts C D) (c : C) (dev : D) (slot : Option Slot) : Type 0 where

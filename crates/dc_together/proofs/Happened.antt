@@ -28,9 +28,9 @@ use Rattle.dc_recovery.proofs.Worlds.{oldest_kept, own_more_other}
 use Rattle.dc_recovery.specs.Alone.{IsAnswerAlone, answers_alone, event_alone, status_alone, without_commits}
 use Rattle.dc_recovery.specs.Answers.{makes_most, replays, since}
 use Rattle.dc_recovery.specs.Core.{Core, Status, learned, stands}
-use Rattle.dc_recovery.specs.Parts.{Place, left_of, may_stop, may_store, passed, sets_unlogged}
+use Rattle.dc_recovery.specs.Parts.{Place, left_of, may_stop, may_store, event_later, sets_unlogged}
 use Rattle.dc_recovery.specs.Parts.Place.{InAfter, InBefore, InEvent, InLog, Nowhere}
-use Rattle.dc_recovery.specs.Saves.{Logged, last_at}
+use Rattle.dc_recovery.specs.Saves.{Logged, Save, last_at}
 use Rattle.dc_recovery.specs.Systems.{System, kind_at}
 use Rattle.dc_recovery.specs.Turned.{with_act}
 use Rattle.dc_twophase.proofs.Laws.{Laws}
@@ -47,7 +47,7 @@ use Rattle.dc_processes.specs.declared.slot.Slot.TheVariants.{Up}
 
 -- where all commit together, a turn of the process itself is its event alone
 pub event_only : (pr : Protocol) → is_joint pr ≡ true → (kind : Kind) (since : Since) (replay : Bool) (x : Logged) (st : Status)
-    → left_of (without_commits (is_joint pr) (rule_of pr kind since)) replay x st Nowhere ≡ passed replay (sets_unlogged false replay x.answer) st
+    → left_of (without_commits (is_joint pr) (rule_of pr kind since)) replay x st Nowhere ≡ event_later replay (sets_unlogged false replay x.answer) st
 event_only Cpv2pc together kind since replay x st = refl
 event_only Cbndv2pc together kind since replay x st = refl
 event_only Cbndv2pcCausal together kind since replay x st = refl
@@ -104,7 +104,7 @@ module _ (S : System Guest) (t : ℕ) (c : Core) (go : AllGo S c) (p : ℕ) (a :
   replay = reads_log S c p a
 
   abbrev after : Status → Status
-  after = passed replay (sets_unlogged false replay a)
+  after = event_later replay (sets_unlogged false replay a)
 
   pub at_self : gone.procs p ≡ after (c.procs p)
   at_self = put_self p (after (c.procs p)) c.procs
@@ -130,6 +130,13 @@ module _ (S : System Guest) (t : ℕ) (c : Core) (go : AllGo S c) (p : ℕ) (a :
   learned_still q s = ap (λ x. (at_position S.guests q x.position (own q gone.acts)).received s) (older_still q)
       ∙ ap (λ ds. (local S.guests q ds).received s) (oldest_kept S.guests t c p a go.run q (c.procs q).older.position (within_older q))
 
+  -- stopped in it, it has learned as much as before
+  pub learned_stopped : is_joint S.protocol ≡ true → (w : Place) → w ≡ InEvent → (s : ℕ) → (at_position S.guests p (status_alone S p (own p c.acts) (c.procs p) a w).older.position (answers_alone (own p c.acts) (c.procs p) a w)).received s ≡ learned S.guests c p s
+  learned_stopped together w place s = ap (λ v. (at_position S.guests p (status_alone S p (own p c.acts) (c.procs p) a v).older.position (answers_alone (own p c.acts) (c.procs p) a v)).received s) place
+      ∙ ap (λ (x : Save). (at_position S.guests p x.position (answers_alone (own p c.acts) (c.procs p) a InEvent)).received s) (event_older S together p (own p c.acts) (c.procs p) a)
+      ∙ ap (λ ds. (at_position S.guests p (c.procs p).older.position ds).received s) (sym (acts_alone S t c p a InEvent))
+      ∙ ap (λ ds. (local S.guests p ds).received s) (oldest_kept S.guests t c p a go.run p (c.procs p).older.position (within_older p))
+
 -- the event of process p of a world
 module _ {C D : Type 0} (g : checkpoint.Ghosts C D) (laws : Laws g) (images : List Image) (inputs : List (List (List ℕ))) (pr : Protocol) (together : is_joint pr ≡ true) (t : ℕ) (c : Core) (old new : Stage C D)
     (world : IsWorld g (system images inputs pr) c old) (go : AllGo (system images inputs pr) c) (p : ℕ) (inside : p < (system images inputs pr).guests.count)
@@ -145,7 +152,7 @@ module _ {C D : Type 0} (g : checkpoint.Ghosts C D) (laws : Laws g) (images : Li
   d = after_event S t c p a
 
   abbrev st : Status
-  st = passed (reads_log S c p a) (sets_unlogged false (reads_log S c p a) a) (c.procs p)
+  st = event_later (reads_log S c p a) (sets_unlogged false (reads_log S c p a) a) (c.procs p)
 
   abbrev more : List Answer
   more = answers_alone (own p c.acts) (c.procs p) a Nowhere

@@ -7,7 +7,7 @@ ghost use Rattle.dc_words.specs.Words.{masked};
 ghost use Rattle.dc_checkpoint.specs.States.{IsForm, IsText, form_in, number_in};
 ghost use Rattle.dc_vista.specs.Faults.{checked};
 ghost use Rattle.dc_vista.specs.Handles.{Fits, IsLent, seen, shape_of, since_of};
-ghost use Rattle.dc_vista.specs.Laws.{fits_in, leaves_alike, lent_fits, memory_long, memory_still, memory_told, numbers_alike, same_back, same_on, same_self, settled_reading, some_number, some_reading, still, told_memory};
+ghost use Rattle.dc_vista.specs.Laws.{fits_in, leaves_alike, lent_fits, memory_long, memory_still, memory_told, numbers_alike, same_back, same_on, same_self, unwaited_reading, some_number, some_reading, still, told_memory};
 ghost use Rattle.dc_vista.specs.Parts.{parts};
 ghost use Rattle.dc_vista.specs.Standing.{Numbers, StandsFor, memory_of};
 ghost use Rattle.dc_vista.specs.Whole.{IsPreparedAs, IsReady, untouched};
@@ -253,7 +253,7 @@ impl<K: Keeps> Checkpoint for Segment<K> {
 
     ghost from_outlasts = { λ s dev g from. tt };
 
-    ghost settled = { λ s dev ready d e r low high. settled_reading (shape_of s.frame) (since_of s.marks) _ ready d e r };
+    ghost none_waits = { λ s dev ready d e r low high. unwaited_reading (shape_of s.frame) (since_of s.marks) _ ready d e r };
 
     ghost some_reading = { λ s dev told. some_reading (shape_of s.frame) s.frame.lines (K.told dev s.frame.index) told };
 

@@ -1,4 +1,5 @@
 mod Digits
+mod Finding
 mod Spelling
 pub mod Bytes
 pub mod Splitting

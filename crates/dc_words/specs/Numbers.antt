@@ -14,6 +14,15 @@ abbrev pub is_number : List ℕ → Bool
 is_number [] = false
 is_number (c ∷ cs) = list_all is_digit (c ∷ cs) && (length cs == 0 || not (c == 48))
 
+-- a number can begin so: with a byte, and with no zero in front of others
+abbrev pub can_begin : List ℕ → Bool
+can_begin [] = false
+can_begin (c ∷ cs) = length cs == 0 || not (c == 48)
+
+-- what is wrong with one that is past the greatest, by whether digits alone come behind it
+abbrev pub past_by : Bool → NumberFault
+past_by digits = if digits then Range else NotNumber
+
 -- the number of a text, up to the greatest, or what is wrong
 abbrev pub number_of : ℕ → List ℕ → Result ℕ NumberFault
 number_of max text = if is_number text

@@ -1,6 +1,6 @@
-ghost use Rattle.std.specs.Prelude.{◌≡◌, ◌≤◌, ℕ, Ok, IfOk, decimal};
+ghost use Rattle.std.specs.Prelude.{◌≡◌, ◌≤◌, ◌+◌, ◌*◌, ◌-◌, ℕ, Ok, IfOk, SomeIff, decimal, true};
 ghost use Rattle.std.specs.List.{list_all};
-ghost use Rattle.dc_words.specs.Numbers.{is_number, is_digit, number_of};
+ghost use Rattle.dc_words.specs.Numbers.{can_begin, is_digit, number_of, past_by};
 
 use thiserror::Error;
 
@@ -15,18 +15,44 @@ pub enum NumberFault {
     Range,
 }
 
+fn is_digit(c: u8) -> bool
+    ensures { result ≡ is_digit c }
+{
+    c >= b'0' && c <= b'9'
+}
+
 fn has_digits(text: &[u8]) -> bool
     ensures { result ≡ list_all is_digit text.now }
 {
     text.iter().all(|c| *c >= b'0' && *c <= b'9')
 }
 
-fn has_form(text: &[u8]) -> bool
-    ensures { result ≡ is_number text.now }
+fn can_begin(text: &[u8]) -> bool
+    ensures { result ≡ can_begin text.now }
 {
     match text {
         [] => false,
-        [c, rest @ ..] => has_digits(text) && (rest.is_empty() || *c != b'0'),
+        [c, rest @ ..] => rest.is_empty() || *c != b'0',
+    }
+}
+
+/// A value with a digit behind it, where that is not past the greatest.
+fn with_digit(value: u64, c: u8, max: u64) -> Option<u64>
+    requires digit { is_digit c ≡ true }
+    ensures { SomeIff result (value * 10 + (c - 48) ≤ max) (value * 10 + (c - 48)) }
+{
+    let next = value.checked_mul(10)?.checked_add(u64::from(c - b'0'))?;
+    if next > max { None } else { Some(next) }
+}
+
+/// What is wrong with a number that is past the greatest, by the bytes behind it.
+fn past(rest: &[u8]) -> NumberFault
+    ensures { result ≡ past_by (list_all is_digit rest.now) }
+{
+    if has_digits(rest) {
+        NumberFault::Range
+    } else {
+        NumberFault::NotNumber
     }
 }
 
@@ -44,17 +70,19 @@ pub fn read_number(text: &[u8], max: u64) -> Result<u64, NumberFault>
 fn number_in(text: &[u8], max: u64) -> Result<u64, NumberFault>
     ensures { result ≡ number_of max text.now }
 {
-    if !has_form(text) {
+    if !can_begin(text) {
         return Err(NumberFault::NotNumber);
     }
     let mut value: u64 = 0;
     let mut rest = text;
     while let [c, after @ ..] = rest {
-        let next = u128::from(value) * 10 + u128::from(*c - b'0');
-        if next > u128::from(max) {
-            return Err(NumberFault::Range);
+        if !is_digit(*c) {
+            return Err(NumberFault::NotNumber);
         }
-        value = next as u64;
+        let Some(next) = with_digit(value, *c, max) else {
+            return Err(past(after));
+        };
+        value = next;
         rest = after;
     }
     Ok(value)

@@ -1,12 +1,14 @@
 ghost use Rattle.std.specs.Prelude.{◌≡◌, ◌<◌, ◌==◌, ◌∷◌, [], IfSome, None, length, position};
 ghost use Rattle.dc_words.specs.Texts.{fields_of, lines_of};
 
+use memchr::memchr;
+
 /// Where the first such byte stands.
 pub fn find(stop: u8, text: &[u8]) -> Option<usize>
     ensures find { result ≡ position (λ c. c == stop) text.now }
     ensures within { IfSome result (λ i. i < length text.now) }
 {
-    text.iter().position(|c| *c == stop)
+    memchr(stop, text)
 }
 
 /// The first line of a text that is not empty, and what follows it. The last line may lack its line feed.

@@ -30,9 +30,9 @@ use Rattle.dc_twophase.specs.Stores.{At, Each}
 use Rattle.dc_words.specs.Lists.{lists_of}
 use Rattle.dc_world.proofs.Resumed.{resumed}
 use Rattle.dc_world.specs.Opened.{AreMadeFor, AreOver}
-use Rattle.dc_world.specs.Reopened.{AreDownAt, AreExposed, IsAgain, IsFirstSteady, IsLeftDown, IsReadBeside, IsReopened}
+use Rattle.dc_world.specs.Reopened.{AreDownAt, AreExposed, IsAgain, IsLeftDown, IsReadBeside, IsReopened}
 use Rattle.dc_world.specs.Worlds.{IsReady}
-use Rattle.dc_world.specs.declared.opening.Setup.{Setup}
+use Rattle.dc_world.specs.declared.setup.Setup.{Setup}
 use Rattle.dc_world.specs.declared.reopening.Earlier.{Earlier}
 
 -- the decided number that counts

@@ -21,7 +21,8 @@ use Rattle.dc_words.specs.Words.{bytes_in, words_in}
 use Rattle.dc_processes.proofs.Handling.{counts_same}
 use Rattle.dc_together.specs.Joints.{whose}
 use Rattle.dc_world.proofs.Over.{over_still}
-use Rattle.dc_world.specs.Opened.{CanOpen, IsBegun, IsOver, first_kernel}
+use Rattle.dc_world.specs.Openable.{CanOpen}
+use Rattle.dc_world.specs.Opened.{IsBegun, IsOver, first_kernel}
 use Rattle.dc_processes.specs.Slots.{IsOf}
 use Rattle.dc_processes.specs.declared.slot.Slot.TheVariants.{Down, Up}
 

@@ -30,7 +30,7 @@ use Rattle.dc_resume.specs.Suited.{AreStored}
 use Rattle.dc_together.specs.Joints.{whose}
 use Rattle.dc_words.specs.Lists.{lists_of}
 use Rattle.dc_world.specs.Opened.{IsOver}
-use Rattle.dc_world.specs.declared.opening.Setup.{Setup}
+use Rattle.dc_world.specs.declared.setup.Setup.{Setup}
 use Rattle.dc_world.specs.declared.reopening.Earlier.{Earlier}
 
 -- a handle that was attached to the store of process p of n, which began with this image, on this device

@@ -4,13 +4,11 @@ ghost use Rattle.std.specs.Prelude.{◌≡◌, ◌<◌, ◌≤◌, ◌+◌, ◌*
 ghost use Rattle.dc_checkpoint.specs.Calls.{FallsStore};
 ghost use Rattle.dc_checkpoint.specs.Handles.{IsSame, showing_of};
 ghost use Rattle.dc_checkpoint.specs.declared.faults.StoreFault.{StoreFault as StoreFaults};
-ghost use Rattle.dc_elf.specs.Loaded.{seen_image};
 ghost use Rattle.dc_elf.specs.declared.image.Image.{Image as Images};
 ghost use Rattle.dc_kernel.specs.Kernels.{IsKernel};
 ghost use Rattle.dc_media.specs.Causes.{Rose};
 ghost use Rattle.dc_model.specs.World.{run};
 ghost use Rattle.dc_model.specs.declared.visible.Visible.{Visible as Visibles};
-ghost use Rattle.dc_proc.specs.Carried.{system};
 ghost use Rattle.dc_proc.specs.Downs.{IsDown, based_of};
 ghost use Rattle.dc_proc.specs.Downs.{IsOf as IsDownOf};
 ghost use Rattle.dc_processes.specs.Stages.{IsWorld, KeepsTelling, stage_of};
@@ -23,12 +21,13 @@ ghost use Rattle.dc_retrace.specs.Read.{kernel_at};
 ghost use Rattle.dc_resume.specs.Suited.{AreSuited, IsFirstUnsuited, saves_in};
 ghost use Rattle.dc_together.specs.Joints.{whose};
 ghost use Rattle.dc_twophase.specs.Stores.{At, Each, EachPair};
-ghost use Rattle.dc_words.specs.Lists.{lists_of};
-ghost use Rattle.dc_world.specs.Opened.{AreMadeFor, AreOver, CanOpen};
+ghost use Rattle.dc_world.specs.Openable.{CanOpen};
+ghost use Rattle.dc_world.specs.Opened.{AreMadeFor, AreOver, system_for};
 ghost use Rattle.dc_world.specs.Reopened.{AreAttached, AreDownAt, AreExposed, AreLeftDown, AreRead, HasHandle, HasNumber, IsAgain, IsAttached, IsFirstSteady, IsReadBeside, Refuses, Stood};
 ghost use Rattle.dc_world.specs.Worlds.{IsReady};
 
-use crate::opening::{Setup, acts_for, first_kernel, joint_for, saved_for, text_of};
+use crate::opening::{acts_for, first_kernel, joint_for, saved_for, text_of};
+use crate::setup::Setup;
 use crate::world::World;
 use dc_acts::Acts;
 use dc_checkpoint::Checkpoint;
@@ -287,10 +286,6 @@ impl<C: Checkpoint + Drop> World<C> {
         earlier: &Earlier,
         dev: &mut C::Device,
     ) -> Result<World<C>, RereadFault>
-        requires some { 0 < length setup.images.items }
-        requires few { length setup.images.items ≤ PROCESSES }
-        requires inputs { length setup.inputs.items ≡ length setup.images.items }
-        requires good { All CanOpen setup.images.items }
         requires processes { All (λ x. x.p < length setup.images.items) earlier.now.acts.now }
         requires acts { length earlier.now.acts.now ≤ earlier.now.entries }
         requires lines { earlier.now.lines ≤ earlier.now.entries }
@@ -300,16 +295,16 @@ impl<C: Checkpoint + Drop> World<C> {
         ensures begins { IfOk result (λ w. IsAgain setup earlier.now entries w.processes) }
         ensures over { IfOk result (λ w. AreOver C.Checkpoint setup.images.items w.stores.items) }
         ensures unstopped { IfOk result (λ w. w.stopped ≡ None) }
-        ensures reopened { IfOk result (λ w. (x : IsReadBeside C.Checkpoint (system (map seen_image setup.images.items) (lists_of setup.inputs.items) setup.protocol) setup.images.items earlier.now.acts.now dev.old dev.new)
-            × AreSuited (system (map seen_image setup.images.items) (lists_of setup.inputs.items) setup.protocol) x.given x.decided x.stored
+        ensures reopened { IfOk result (λ w. (x : IsReadBeside C.Checkpoint (system_for setup) setup.images.items earlier.now.acts.now dev.old dev.new)
+            × AreSuited (system_for setup) x.given x.decided x.stored
             × (is_causal setup.protocol ≡ false → (lines : List Visibles) → length lines ≡ earlier.now.lines
-            → IsWorld C.Checkpoint (system (map seen_image setup.images.items) (lists_of setup.inputs.items) setup.protocol)
-            (resumed_core x.given lines (saves_in (system (map seen_image setup.images.items) (lists_of setup.inputs.items) setup.protocol) x.stored)) (stage_of w.stores.items dev.new w.processes))) }
+            → IsWorld C.Checkpoint (system_for setup)
+            (resumed_core x.given lines (saves_in (system_for setup) x.stored)) (stage_of w.stores.items dev.new w.processes))) }
         ensures unsuited { (p : ℕ) → IsErrOf result (faults.Unsuited p)
-            → (x : IsReadBeside C.Checkpoint (system (map seen_image setup.images.items) (lists_of setup.inputs.items) setup.protocol) setup.images.items earlier.now.acts.now dev.old dev.new)
-            × IsFirstUnsuited (system (map seen_image setup.images.items) (lists_of setup.inputs.items) setup.protocol) x.given x.decided x.stored p }
+            → (x : IsReadBeside C.Checkpoint (system_for setup) setup.images.items earlier.now.acts.now dev.old dev.new)
+            × IsFirstUnsuited (system_for setup) x.given x.decided x.stored p }
         ensures unsteady { IsErrOf result faults.Unsteady → C.told dev.new 0 → ¬ IsFirstSteady C.Checkpoint setup.images.items dev.old }
-        ensures illegal { IsErrOf result faults.Illegal → run (system (map seen_image setup.images.items) (lists_of setup.inputs.items) setup.protocol).guests earlier.now.acts.now ≡ None }
+        ensures illegal { IsErrOf result faults.Illegal → run (system_for setup).guests earlier.now.acts.now ≡ None }
         ensures refused { (p : ℕ) (fault : StoreFaults) → IsErrOf result (faults.Refused p fault) → (d : ℕ) × Refuses C.Checkpoint setup.images.items d dev.new p fault }
         ensures refused_under { (d : ℕ) → HasNumber C.Checkpoint setup.images.items dev.new d
             → (p : ℕ) (fault : StoreFaults) → IsErrOf result (faults.Refused p fault) → Refuses C.Checkpoint setup.images.items d dev.new p fault }

@@ -1,6 +1,6 @@
 //! A world over its stores: one entry of a schedule at a time.
 
-ghost use Rattle.std.specs.Prelude.{◌≡◌, ◌≢◌, ◌<◌, ◌≤◌, ◌+◌, ◌++◌, ◌-◌, ℕ, IfOk, IfSome, IsErrOf, IsSome, IsSomeAnd, None, Some, OnErr, OnOk, Ok, Err, Option, false, true, length, take};
+ghost use Rattle.std.specs.Prelude.{◌≡◌, ◌≢◌, ◌<◌, ◌≤◌, ◌+◌, ◌++◌, ◌-◌, ◌∷◌, ℕ, [], IfOk, IfSome, IsErrOf, IsSome, IsSomeAnd, None, Some, OnErr, OnOk, Ok, Err, Option, false, true, length, take};
 ghost use Rattle.std.specs.List.{All};
 ghost use Rattle.dc_acts.specs.Lines.{text_of};
 ghost use Rattle.dc_audit.specs.Journals.{IsOfSixteen};
@@ -38,6 +38,16 @@ use dc_protocols::is_joint;
 use dc_together::turn_together;
 use dc_twophase::{JointFault, joint_fault};
 
+/// Writes the line of a record. It stays out of line: an entry that shows nothing would else clear the room of one.
+#[inline(never)]
+fn write_line<O: Sink>(visible: &Visible, out: &mut O) -> Result<(), SinkFailed>
+    ensures held { TakesWhole (text_of (visible.now ∷ [])) result (O.held out.old) (O.held out.new) }
+    ensures tells { TellsOn 0 (O.faults out.new) (O.held out.old) (O.held out.new) }
+    ensures cause { HasCause (O.faults out.old) (O.faults out.new) result }
+{
+    write_whole(out, line_of(visible).as_slice())
+}
+
 /// Writes the line of what was shown, if something was. It tells how many whole lines that is.
 fn write_shown<O: Sink>(shown: &Option<Visible>, out: &mut O) -> Result<u32, SinkFailed>
     ensures count { IfOk result (λ n. n ≡ length (lines_of shown.now)) }
@@ -48,7 +58,7 @@ fn write_shown<O: Sink>(shown: &Option<Visible>, out: &mut O) -> Result<u32, Sin
 {
     match shown {
         Some(visible) => {
-            write_whole(out, line_of(visible).as_slice())?;
+            write_line(visible, out)?;
             Ok(1)
         }
         None => Ok(0),

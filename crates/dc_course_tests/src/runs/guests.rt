@@ -2,7 +2,7 @@
 
 ghost use Rattle.std.specs.Prelude.{◌<◌, ◌≤◌, All, IfOk};
 ghost use Rattle.dc_elf.specs.Loaded.{CanStart};
-ghost use Rattle.dc_world.specs.Opened.{CanOpen};
+ghost use Rattle.dc_world.specs.Openable.{CanOpen};
 
 use dc_asm::assemble;
 use dc_cases::value;

@@ -3,7 +3,6 @@
 ghost use Rattle.std.specs.Prelude.{◌≡◌, ◌<◌, ◌≤◌, All, IfOk, false, length};
 ghost use Rattle.dc_elf.specs.Loaded.{CanStart};
 ghost use Rattle.dc_protocols.specs.Rules.{is_causal};
-ghost use Rattle.dc_world.specs.Opened.{CanOpen};
 ghost use Rattle.dc_world.specs.Worlds.{IsOfProcesses};
 
 use crate::runs::setting::{may_run, setup};
@@ -35,10 +34,6 @@ pub fn output_of(alloc: Global, case: &str) -> Result<MemSink, Fail> {
 
 /// What a case runs over, where these entries name its processes.
 pub fn setup_for(alloc: Global, case: &str, entries: &[Entry]) -> Result<Setup, Fail>
-    ensures some { IfOk result (λ setup. 0 < length setup.images.items) }
-    ensures few { IfOk result (λ setup. length setup.images.items ≤ 8) }
-    ensures inputs { IfOk result (λ setup. length setup.inputs.items ≡ length setup.images.items) }
-    ensures good { IfOk result (λ setup. All CanOpen setup.images.items) }
     ensures seven { IfOk result (λ setup. is_causal setup.protocol ≡ false) }
     ensures entries { IfOk result (λ setup. length entries.now ≤ 1000000) }
     ensures processes { IfOk result (λ setup. All (IsOfProcesses (length setup.images.items)) entries.now) }

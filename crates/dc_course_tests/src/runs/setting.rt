@@ -3,7 +3,6 @@
 ghost use Rattle.std.specs.Prelude.{◌≡◌, ◌<◌, ◌≤◌, All, IfOk, false, length, true};
 ghost use Rattle.dc_elf.specs.Loaded.{CanStart};
 ghost use Rattle.dc_protocols.specs.Rules.{is_causal};
-ghost use Rattle.dc_world.specs.Opened.{CanOpen};
 ghost use Rattle.dc_world.specs.Worlds.{IsOfProcesses};
 
 use crate::runs::guests::images;
@@ -58,10 +57,6 @@ fn inputs(alloc: Global, text: &str, n: usize) -> Result<Vec<Vec<Message>>, Fail
 
 /// What the world of a case begins with.
 pub fn setup(alloc: Global, case: &str) -> Result<Setup, Fail>
-    ensures some { IfOk result (λ setup. 0 < length setup.images.items) }
-    ensures few { IfOk result (λ setup. length setup.images.items ≤ 8) }
-    ensures inputs { IfOk result (λ setup. length setup.inputs.items ≡ length setup.images.items) }
-    ensures good { IfOk result (λ setup. All CanOpen setup.images.items) }
     ensures seven { IfOk result (λ setup. is_causal setup.protocol ≡ false) }
     ensures start { IfOk result (λ setup. All CanStart setup.images.items) }
 {

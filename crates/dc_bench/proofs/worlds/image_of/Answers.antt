@@ -1,4 +1,4 @@
-use Rattle.std.proofs.Common.{◌≡◌, ◌*◌, arith, length, refl}
+use Rattle.std.proofs.Common.{arith, refl}
 use Rattle.dc_bench.proofs.worlds.image_of.Goals as goal
 
 pub returns : goal.returns

@@ -1,7 +1,7 @@
-use Rattle.std.proofs.Common.{◌≡◌, ◌<◌, ◌∷◌, ℕ, zero, suc, [], arith, length, rules, slice_index_or, sym, subst, All}
+use Rattle.std.proofs.Common.{◌<◌, ◌∷◌, ℕ, zero, suc, [], arith, length, rules, slice_index_or, sym, subst, All}
 use Rattle.std.proofs.lemmas.List.Elements.{All-append}
 use Rattle.dc_elf.specs.declared.image.Image.{Image}
-use Rattle.dc_world.specs.Opened.{CanOpen}
+use Rattle.dc_world.specs.Openable.{CanOpen}
 use Rattle.dc_bench.proofs.worlds.setup_of.Goals as goal
 
 -- an image alone

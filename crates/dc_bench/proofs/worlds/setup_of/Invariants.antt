@@ -1,5 +1,5 @@
 use Rattle.std.proofs.Common.{◌≡◌, All, length}
-use Rattle.dc_world.specs.Opened.{CanOpen}
+use Rattle.dc_world.specs.Openable.{CanOpen}
 use Rattle.dc_bench.proofs.worlds.setup_of.Given as goal
 
 -- so many so far

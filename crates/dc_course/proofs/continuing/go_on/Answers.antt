@@ -1,4 +1,4 @@
-use Rattle.std.proofs.Common.{◌≡◌, ◌∙◌, ◌<◌, ℕ, true, Err, List, OnOk, Result, [], ap, arith, length, refl, reverse, rules, subst, sym}
+use Rattle.std.proofs.Common.{◌≡◌, ◌∙◌, ◌<◌, ℕ, Err, List, OnOk, Result, [], ap, arith, length, refl, reverse, rules, subst, sym}
 use Rattle.std.proofs.lemmas.List.{length-map, length-reverse}
 use Rattle.dc_course.proofs.Between.{tells_on}
 use Rattle.dc_course.proofs.Onward.{can_continue, course_on, on_err, rest_is, rest_long, uncut}
@@ -10,7 +10,7 @@ use Rattle.dc_course.specs.Continued.{IsCourseOn, IsEarlier, setting_from}
 use Rattle.dc_course.specs.Courses.{PlannedCome, StoresLeft, TellsThroughout, account_of, counts_of, journal_in}
 use Rattle.dc_course.specs.Headline.{IsCountedOn, IsEnding, Last, Setting, start_at, system_in, turn_after, unplanned}
 use Rattle.dc_course.specs.Moments.{IsMoment, Moments}
-use Rattle.dc_course.specs.Running.{CanBegin, IsEnded, IsRunning, IsSettingOf, moment_of, output}
+use Rattle.dc_course.specs.Running.{CanBegin, HasCome, IsEnded, IsRunning, IsSettingOf, moment, moment_of, output}
 use Rattle.dc_course.specs.declared.course.Course.{Course}
 use Rattle.dc_course.specs.declared.ending.Ending.{Ending}
 use Rattle.dc_elf.specs.Loaded.{seen_image}
@@ -120,6 +120,10 @@ module _ (g : Over) (c : goal.After-course g) (lines : List Visible) (asked : As
       (over_in g.C.Checkpoint (given g c) c.args.setup.images.items c.in_ok-world.world.stores.items refl c.in_ok-world.ensures.over)
       (c.in_ok-world.ensures.reopened.2 c.requires.seven (reverse lines) (length-reverse lines ∙ asked.earlier.count))
 
+  -- so it has come to where it begins
+  has_come : HasCome g.C.Checkpoint (given g c) (start g c lines) (g.O.Sink.held c.args.out.now) (moment (stage_in c.in_ok-world.world c.reopen.new.dev) c.in_ok-marks.marks.items (g.O.Sink.held c.args.out.now)) (moment_of c.run.new.self c.run.new.dev (g.O.Sink.held c.run.new.out))
+  has_come = record { can = can; told = told_opened g c asked.tells; tells = told_ended g c asked.tells; running = begun }
+
   -- the first moment is behind the opening
   first_moment : Moments (given g c) (start_at (given g c) (start g c lines)) (λ core d. StoresLeft g.C.Checkpoint (given g c) core d) g.C.Planned.calls c.args.dev.now (reverse c.in_ok-marks.marks.items) c.reopen.new.dev
   first_moment =
@@ -175,8 +179,7 @@ returns-clause-headline g c = λ tells lines earlier.
     let held = g.O.Sink.held c.args.out.now in
     let begins = can g c lines asked in
     let opened = told_opened g c tells in
-    let over = told_ended g c tells in
-    let running = begun g c lines asked in
+    let come_there = has_come g c lines asked in
     let first = first_moment g c lines asked in (
       c.reopen.new.dev,
       c.reopen.ensures.continues,
@@ -187,19 +190,19 @@ returns-clause-headline g c = λ tells lines earlier.
             let x = stage_in c.run.new.self.world c.run.new.dev in
             let out = output held (g.O.Sink.held c.run.new.out) in
             let marks = c.run.new.self.marks.items in
-            let r : IsRunning g.C.Checkpoint setting begun_at x marks out = w.in-Ok.ensures.runs_on setting begun_at held begins (rest_is c.args.earlier.now.entries c.args.schedule.now) opened over running in
+            let r : IsRunning g.C.Checkpoint setting begun_at x marks out = w.in-Ok.ensures.runs_on setting begun_at held come_there (rest_is c.args.earlier.now.entries c.args.schedule.now) in
             let all = w.in-Ok.ensures.used (uncut c.run.new.self (c.run.ensures.kept ∙ c.in_ok-journal.ensures.kept)) in
             let within = c.requires.taken in
             let used : turn_after setting marks ≡ length setting.schedule = omega (arith, all, rest_long c.args.earlier.now.entries c.args.schedule.now, within) in
             let have = w.ended.ensures.core c.run.new.dev setting.images r.core c.run.ensures.ready (now_world g.C.Checkpoint setting begun_at begins x marks out r) in
             let came = ending_whole g.C.Checkpoint setting begun_at (moment_of c.run.new.self c.run.new.dev (g.O.Sink.held c.run.new.out)) held w.ended.result r
             (subst (λ i. HaveEnded w.ended.result (guests_of setting.images i) r.core) r.of.inputs_are have) used in
-            let come = w.in-Ok.ensures.come setting begun_at begins (setting_is g c) (plan_kept g c) (rest_is c.args.earlier.now.entries c.args.schedule.now) c.args.dev.now held opened over running first in
+            let come = w.in-Ok.ensures.come setting begun_at (setting_is g c) (plan_kept g c) (rest_is c.args.earlier.now.entries c.args.schedule.now) c.args.dev.now held come_there first in
             course g c lines asked _ (w.ending-is ∙ w.ended-ending.ensures) came.last came.ended came.is (record { now = come.0; moments = come.1; later = come.2; whole = λ e. come.3 refl }))
         | in-Err w ↦ (
             let came = ending_broken g.C.Checkpoint setting begun_at (moment_of c.run.new.self c.run.new.dev (g.O.Sink.held c.run.new.out)) held w.in-Err.fault
-            (w.in-Err.ensures.runs_off w.in-Err.fault refl setting begun_at held begins (rest_is c.args.earlier.now.entries c.args.schedule.now) opened over running) in
-            let come = w.in-Err.ensures.come setting begun_at begins (setting_is g c) (plan_kept g c) (rest_is c.args.earlier.now.entries c.args.schedule.now) c.args.dev.now held opened over running first in
+            (w.in-Err.ensures.runs_off w.in-Err.fault refl setting begun_at held come_there (rest_is c.args.earlier.now.entries c.args.schedule.now)) in
+            let come = w.in-Err.ensures.come setting begun_at (setting_is g c) (plan_kept g c) (rest_is c.args.earlier.now.entries c.args.schedule.now) c.args.dev.now held come_there first in
             course g c lines asked _ (w.ending-is ∙ w.ended_by-ending.ensures) came.last came.ended came.is (record { now = come.0; moments = come.1; later = come.2; whole = λ e. absurd (came.broken e) }))
       ],
     )

@@ -19,7 +19,7 @@ use Rattle.dc_world.specs.declared.faults.TurnFault.TheVariants as fault
 use Rattle.dc_course.specs.Headline.{AreUpAlike, IsEnding, Last, Setting, StopsTold, counted_with, late, system_in, unplanned}
 use Rattle.dc_course.specs.Courses.{IsCourse, PlannedCome, StoresLeft, TellsThroughout, account_of, counts_of, ending_by, ending_of, journal_in, setting_of}
 use Rattle.dc_course.specs.Moments.{IsMoment, Moments}
-use Rattle.dc_course.specs.Running.{CanBegin, IsEnded, IsRunning, IsSettingOf, moment_of, output}
+use Rattle.dc_course.specs.Running.{CanBegin, HasCome, IsEnded, IsRunning, IsSettingOf, moment, moment_of, output}
 use Rattle.dc_course.specs.declared.course.Course.{Course}
 use Rattle.dc_course.specs.declared.ending.Ending.{Ending}
 use Rattle.dc_guest.specs.Guest.{guests_of}
@@ -75,13 +75,13 @@ up_is g c p less = up_there c.args.setup.protocol (length c.args.setup.images.it
 
 -- where all commit together, all or none
 up_alike : (g : Over) (c : goal.After-course g) → AreUpAlike (given g c) (up g c)
-up_alike g c together = up_together c.args.setup.protocol (length c.args.setup.images.items) c.in-Ok.world.processes.slots.items c.in-Ok.ensures.begins.slots_long c.requires.some together (c.in-Ok.ensures.alike together)
+up_alike g c together = up_together c.args.setup.protocol (length c.args.setup.images.items) c.in-Ok.world.processes.slots.items c.in-Ok.ensures.begins.slots_long c.args.setup.some together (c.in-Ok.ensures.alike together)
 
 -- where all that are there are, what is not there is too
 up_beyond : (g : Over) (c : goal.After-course g) → ((p : ℕ) → p < length (given g c).images → up g c p ≡ true) → (p : ℕ) → length (given g c).images ≤ p → up g c p ≡ true
 up_beyond g c below p high =
     let long = length-map c.args.setup.images.items seen_image in
-    up_past c.args.setup.protocol (length c.args.setup.images.items) c.in-Ok.world.processes.slots.items (up_is g c 0 c.requires.some) (below 0 (subst (λ n. 0 < n) (sym long) c.requires.some)) p (subst (λ n. n ≤ p) long high)
+    up_past c.args.setup.protocol (length c.args.setup.images.items) c.in-Ok.world.processes.slots.items (up_is g c 0 c.args.setup.some) (below 0 (subst (λ n. 0 < n) (sym long) c.args.setup.some)) p (subst (λ n. n ≤ p) long high)
 
 -- the core where it begins
 abbrev start : (g : Over) → goal.After-course g → Core
@@ -108,6 +108,11 @@ begun g c tells = begun_running g.C.Checkpoint (given g c) (start g c) (stage_in
     (over_in g.C.Checkpoint (given g c) c.args.setup.images.items c.in-Ok.world.stores.items refl c.in-Ok.ensures.over)
     (up_as g.C.Checkpoint (system_in (given g c)) (stage_in c.in-Ok.world c.open.new.dev) (λ p. is_up (slot_at c.in-Ok.world.processes.slots.items p)) (up g c)
     (λ p inside. up_is g c p (subst (λ n. p < n) (length-map c.args.setup.images.items seen_image) inside)) (c.in-Ok.ensures.opened c.requires.seven (told_opened g c tells)))
+
+-- so it has come to where it begins
+has_come : (g : Over) (c : goal.After-course g) → TellsThroughout g.C.Checkpoint (length c.args.setup.images.items) c.args.dev.now c.run.new.dev
+    → HasCome g.C.Checkpoint (given g c) (start g c) (g.O.Sink.held c.args.out.now) (moment (stage_in c.in-Ok.world c.open.new.dev) c.in_ok-marks.marks.items (g.O.Sink.held c.args.out.now)) (moment_of c.run.new.self c.run.new.dev (g.O.Sink.held c.run.new.out))
+has_come g c tells = record { can = can_begin g c; told = told_opened g c tells; tells = told_ended g c tells; running = begun g c tells }
 
 -- the stops of a process that are not planned, and of those that stop with it
 abbrev stops : (g : Over) → goal.After-course g → (ℕ → ℕ) → ℕ → ℕ
@@ -172,7 +177,7 @@ up_unless g c none p =
     let n = length c.args.setup.images.items in
     let slots = c.in-Ok.world.processes.slots.items in
     let below : (q : ℕ) → q < n → up g c q ≡ true = (λ q less. up_is g c q less ∙ c.in-Ok.ensures.unstopped none q (subst (λ m. q < m) (sym c.in-Ok.ensures.begins.slots_long) less)) in
-    ⊎_elim (λ (less : p < n). below p less) (λ (high : n ≤ p). up_past c.args.setup.protocol n slots (up_is g c 0 c.requires.some) (below 0 c.requires.some) p high) (cases_lt p n)
+    ⊎_elim (λ (less : p < n). below p less) (λ (high : n ≤ p). up_past c.args.setup.protocol n slots (up_is g c 0 c.args.setup.some) (below 0 c.args.setup.some) p high) (cases_lt p n)
 
 -- the journal begins with nothing
 journal_begins : (g : Over) (c : goal.After-course g) → IsJournalOf (given g c) (up g c) c.in_ok-marks.marks.items c.in_ok-journal.journal.lines.items
@@ -190,7 +195,7 @@ noted g c ending ends tells turns =
     if_kept c.run.new.self.journal (λ lines. EndsAtFirstStop ending (up g c) c.run.new.self.marks.items × IsJournalOf (given g c) (up g c) c.run.new.self.marks.items lines) (λ keeps.
     let kept : c.in_ok-journal.journal.kept ≡ true = sym c.run.ensures.kept ∙ keeps in (
       ends kept,
-      c.run.ensures.journal kept (given g c) (up g c) (g.O.Sink.held c.args.out.now) (can_begin g c) refl refl turns (told_opened g c tells) (told_ended g c tells) (begun g c tells) (up_unless g c) (journal_begins g c),
+      c.run.ensures.journal kept (given g c) (up g c) (g.O.Sink.held c.args.out.now) (has_come g c tells) refl refl turns (up_unless g c) (journal_begins g c),
     ))
 
 -- it was not stopped, where its schedule was used up
@@ -252,29 +257,29 @@ returns-clause-headline g c tells = elim c.match-run.branch [
       let out = output (g.O.Sink.held c.args.out.now) (g.O.Sink.held c.run.new.out) in
       let marks = c.run.new.self.marks.items in
       let images = (given g c).images in
-      let r : IsRunning g.C.Checkpoint (given g c) (start g c) x marks out = w.in-Ok-run.ensures.runs_on (given g c) (start g c) (g.O.Sink.held c.args.out.now) (can_begin g c) refl (told_opened g c tells) (told_ended g c tells) (begun g c tells) in
+      let r : IsRunning g.C.Checkpoint (given g c) (start g c) x marks out = w.in-Ok-run.ensures.runs_on (given g c) (start g c) (g.O.Sink.held c.args.out.now) (has_come g c tells) refl in
       let have = w.ended.ensures.core c.run.new.dev images r.core c.run.ensures.ready (now_world g.C.Checkpoint (given g c) (start g c) (can_begin g c) x marks out r) in
       let came = ending_whole g.C.Checkpoint (given g c) (start g c) (moment_of c.run.new.self c.run.new.dev (g.O.Sink.held c.run.new.out)) (g.O.Sink.held c.args.out.now) w.ended.result r
       (subst (λ i. HaveEnded w.ended.result (guests_of images i) r.core) r.of.inputs_are have) (let used = w.in-Ok-run.ensures.used (sym w.cut_by.ensures ∙ w.in-None.is) in omega (arith, used)) in
       course g c tells _ (w.ending-is ∙ w.ended-in-None.ensures) came.last came.ended came.is
       (λ kept. ends_whole g c w.ended.result (w.in-Ok-run.ensures.whole (cut_none c.run.new.self (c.run.ensures.kept ∙ kept) (sym w.cut_by.ensures ∙ w.in-None.is))))
-      (let come = w.in-Ok-run.ensures.come (given g c) (start g c) (can_begin g c) (setting_is g c) (plan_kept g c) refl c.args.dev.now (g.O.Sink.held c.args.out.now) (told_opened g c tells) (told_ended g c tells) (begun g c tells) (first_moment g c tells) in record { come = record { now = come.0; moments = come.1; later = come.2; whole = λ e. come.3 refl } }))
+      (let come = w.in-Ok-run.ensures.come (given g c) (start g c) (setting_is g c) (plan_kept g c) refl c.args.dev.now (g.O.Sink.held c.args.out.now) (has_come g c tells) (first_moment g c tells) in record { come = record { now = come.0; moments = come.1; later = come.2; whole = λ e. come.3 refl } }))
   | in-Ok-run+in-Some w ↦ (
       let x = stage_in c.run.new.self.world c.run.new.dev in
       let out = output (g.O.Sink.held c.args.out.now) (g.O.Sink.held c.run.new.out) in
       let marks = c.run.new.self.marks.items in
-      let r : IsRunning g.C.Checkpoint (given g c) (start g c) x marks out = w.in-Ok-run.ensures.runs_on (given g c) (start g c) (g.O.Sink.held c.args.out.now) (can_begin g c) refl (told_opened g c tells) (told_ended g c tells) (begun g c tells) in
+      let r : IsRunning g.C.Checkpoint (given g c) (start g c) x marks out = w.in-Ok-run.ensures.runs_on (given g c) (start g c) (g.O.Sink.held c.args.out.now) (has_come g c tells) refl in
       let cut = cut_some c.run.new.self w.in-Some.p (sym w.cut_by.ensures ∙ w.in-Some.is) in
       let stop : Stop g c w.in-Some.p = said_of c.run.new.self.world.stopped w.in-Some.p _ cut.1 (w.in-Ok-run.ensures.stop (sym c.run.ensures.kept ∙ cut.0)) in
       let came = ending_cut g.C.Checkpoint (given g c) (start g c) (moment_of c.run.new.self c.run.new.dev (g.O.Sink.held c.run.new.out)) (g.O.Sink.held c.args.out.now) w.in-Some.p r (subst (λ n. w.in-Some.p < n) (sym (length-map c.args.setup.images.items seen_image)) (stop_inside g c w.in-Some.p stop)) in
       course g c tells _ w.ending-is came.last came.ended came.is (λ kept. ends_cut g c w.in-Some.p tells stop)
-      (let come = w.in-Ok-run.ensures.come (given g c) (start g c) (can_begin g c) (setting_is g c) (plan_kept g c) refl c.args.dev.now (g.O.Sink.held c.args.out.now) (told_opened g c tells) (told_ended g c tells) (begun g c tells) (first_moment g c tells) in record { come = record { now = come.0; moments = come.1; later = come.2; whole = λ e. come.3 refl } }))
+      (let come = w.in-Ok-run.ensures.come (given g c) (start g c) (setting_is g c) (plan_kept g c) refl c.args.dev.now (g.O.Sink.held c.args.out.now) (has_come g c tells) (first_moment g c tells) in record { come = record { now = come.0; moments = come.1; later = come.2; whole = λ e. come.3 refl } }))
   | in-Err-run w ↦ (
       let came = ending_broken g.C.Checkpoint (given g c) (start g c) (moment_of c.run.new.self c.run.new.dev (g.O.Sink.held c.run.new.out)) (g.O.Sink.held c.args.out.now) w.in-Err-run.fault
-      (w.in-Err-run.ensures.runs_off w.in-Err-run.fault refl (given g c) (start g c) (g.O.Sink.held c.args.out.now) (can_begin g c) refl (told_opened g c tells) (told_ended g c tells) (begun g c tells)) in
+      (w.in-Err-run.ensures.runs_off w.in-Err-run.fault refl (given g c) (start g c) (g.O.Sink.held c.args.out.now) (has_come g c tells) refl) in
       course g c tells _ (w.ending-is ∙ w.ended_by-ending.ensures) came.last came.ended came.is
       (λ kept. ends_broken g c w.in-Err-run.fault (w.in-Err-run.ensures.broken kept))
-      (let come = w.in-Err-run.ensures.come (given g c) (start g c) (can_begin g c) (setting_is g c) (plan_kept g c) refl c.args.dev.now (g.O.Sink.held c.args.out.now) (told_opened g c tells) (told_ended g c tells) (begun g c tells) (first_moment g c tells) in record { come = record { now = come.0; moments = come.1; later = come.2; whole = λ e. absurd (came.broken e) } }))
+      (let come = w.in-Err-run.ensures.come (given g c) (start g c) (setting_is g c) (plan_kept g c) refl c.args.dev.now (g.O.Sink.held c.args.out.now) (has_come g c tells) (first_moment g c tells) in record { come = record { now = come.0; moments = come.1; later = come.2; whole = λ e. absurd (came.broken e) } }))
 ]
 
 pub returns-clause-planned : goal.returns-clause-planned

@@ -123,7 +123,7 @@ returns-clause-headline g c =
     }) lines
     (subst (λ ss. IsEarlier (setting_from c.args.setup c.args.schedule.now ss c.args.earlier.now.entries) c.args.earlier.now lines) (sym c.new-armed.ensures.stops) earlier) in
     disk_part disk c.args.setup c.args.earlier.now c.args.schedule.now armed.plan.stops c.args.stops.items lines (account_of course) course.ending out (λ d. d.device.now) armed dev part.0 c.args.disks.now part.3 part.4
-    c.new-armed.ensures.stops lent c.requires.some part.2 (λ s. shape_of s.store.frame) (record { sizes = λ s. refl; forms = λ s. refl; kernels = λ s. s.store.frame.layout; events = λ s. s.store.frame.events; firsts = λ s. refl; leaves_to = λ s x d r l. l; leaves_from = λ s x d r l. l; numbers_to = λ s x d l. l; numbers_from = λ s x d l. l; steady_to = λ s x kept none. record { kept = kept; high = λ e held. inr (omega (arith, none)) }; steady_from = λ s x steady. steady.kept })) c.go_on-course.ensures.headline)
+    c.new-armed.ensures.stops lent c.args.setup.some part.2 (λ s. shape_of s.store.frame) (record { sizes = λ s. refl; forms = λ s. refl; kernels = λ s. s.store.frame.layout; events = λ s. s.store.frame.events; firsts = λ s. refl; leaves_to = λ s x d r l. l; leaves_from = λ s x d r l. l; numbers_to = λ s x d l. l; numbers_from = λ s x d l. l; steady_to = λ s x kept none. record { kept = kept; high = λ e held. inr (omega (arith, none)) }; steady_from = λ s x steady. steady.kept })) c.go_on-course.ensures.headline)
 
 pub returns-clause-unsteady : goal.returns-clause-unsteady
 returns-clause-unsteady g c e =
@@ -159,5 +159,5 @@ returns-clause-stood g c enough =
 pub returns-clause-resumable : goal.returns-clause-resumable
 returns-clause-resumable g c left tells =
     resumable g.D.Disks (setting_from c.args.setup c.args.schedule.now c.args.stops.items c.args.earlier.now.entries) c.args.setup.images.items refl c.args.earlier.now.entries c.args.earlier.now.lines c.args.earlier.now.acts.now
-    c.args.disks.now _ c.requires.some left tells c.go_on-course.result
+    c.args.disks.now _ c.args.setup.some left tells c.go_on-course.result
     (returns-clause-unsuited g c) (returns-clause-unsteady g c) c.go_on-course.ensures.illegal (returns-clause-refused_under g c) (returns-clause-stood g c)

@@ -41,7 +41,7 @@ returns-clause-headline g c =
       told = λ p less. subst (λ x. IsSome (g.D.Disks.told x p)) (sym lent) (tells.told p less);
       stops = λ p less. let all = c.run-course.ensures.planned p in let none = c.new-armed.ensures.came p in let few = tells.stops p less in let long = c.requires.entries in omega (arith, all, none, few, long);
       faults = tells.faults;
-    })) c.new-armed.ensures.stops lent c.requires.some (λ s. shape_of s.store.frame) (record { sizes = λ s. refl; forms = λ s. refl; kernels = λ s. s.store.frame.layout; events = λ s. s.store.frame.events; firsts = λ s. refl; leaves_to = λ s x d r l. l; leaves_from = λ s x d r l. l; numbers_to = λ s x d l. l; numbers_from = λ s x d l. l; steady_to = λ s x kept none. record { kept = kept; high = λ e held. inr (omega (arith, none)) }; steady_from = λ s x steady. steady.kept })) c.run-course.ensures.headline)
+    })) c.new-armed.ensures.stops lent c.args.setup.some (λ s. shape_of s.store.frame) (record { sizes = λ s. refl; forms = λ s. refl; kernels = λ s. s.store.frame.layout; events = λ s. s.store.frame.events; firsts = λ s. refl; leaves_to = λ s x d r l. l; leaves_from = λ s x d r l. l; numbers_to = λ s x d l. l; numbers_from = λ s x d l. l; steady_to = λ s x kept none. record { kept = kept; high = λ e held. inr (omega (arith, none)) }; steady_from = λ s x steady. steady.kept })) c.run-course.ensures.headline)
 
 pub returns-clause-tells : goal.returns-clause-tells
 returns-clause-tells g c p =

@@ -5,7 +5,7 @@ use Rattle.std.proofs.lemmas.Result.{err_from_is_err_and}
 use Rattle.std.specs.List.{AllByRecursion}
 use Rattle.dc_elf.specs.Loaded.{seen_image}
 use Rattle.dc_shows.specs.Typed.{IsImage}
-use Rattle.dc_world.specs.Opened.{CanOpen}
+use Rattle.dc_world.specs.Openable.{CanOpen}
 use Rattle.dc_run.specs.declared.refusal.Refusal.TheVariants.{Library}
 use Rattle.dc_shows.proofs.Lists.{all_both}
 use Rattle.dc_run.proofs.Openings.{guest_added, guest_asked, guest_stops, same_refusal, told_on}

@@ -2,7 +2,7 @@ use Rattle.std.proofs.Common.{◌≡◌, All, Ok, Some, length, map, string_byte
 use Rattle.std.specs.List.{AllByRecursion}
 use Rattle.dc_elf.specs.Loaded.{seen_image}
 use Rattle.dc_shows.specs.Typed.{IsImage}
-use Rattle.dc_world.specs.Opened.{CanOpen}
+use Rattle.dc_world.specs.Openable.{CanOpen}
 use Rattle.dc_run.specs.Opening.{Files, images_in}
 use Rattle.dc_run.specs.Settings.{LibraryKept}
 use Rattle.dc_run.proofs.opening.load_guests.Given as goal

@@ -1,4 +1,4 @@
-use Rattle.std.proofs.Common.{◌≡◌, ◌∙◌, ℕ, Err, Some, true, ap, inl, inr, length, refl, rules}
+use Rattle.std.proofs.Common.{◌≡◌, ◌∙◌, ℕ, [], Err, Some, true, ap, inl, inr, length, refl, rules}
 use Rattle.dc_audit.specs.Reading.{IsVerdict}
 use Rattle.dc_audit.specs.declared.verdict.Verdict.TheVariants as found
 use Rattle.dc_command.specs.Command.{asked_of}
@@ -9,11 +9,12 @@ use Rattle.dc_run.specs.Checking.{Checked, IsChecked}
 use Rattle.dc_run.proofs.Checks.{check_asks, check_exact, check_passes}
 use Rattle.dc_run.proofs.Commands.{assembly_asks, assembly_exact, assembly_opened, audit_asks, audit_exact, audit_opened, audit_says, check_opened, resume_asks, resume_exact, resume_is_work, resume_opened, run_exact, run_asks, run_is_work, run_opened, unasked_opened, unasked_work}
 use Rattle.dc_run.proofs.Ends.{never_refused, not_stopped, opened_with, other_complete, resume_complete, resume_of_words, run_complete, run_of_words}
+use Rattle.dc_course.specs.Lent.{TellsStores}
 use Rattle.dc_media.specs.Devices.{of_disks, of_words}
 use Rattle.dc_run.proofs.OnMedia.{disk_asked, each_so, medium_asked, other_same}
 use Rattle.dc_run.specs.Media.{HasFailed, HasStopped, IsOtherSame, devices_of, lent}
 use Rattle.dc_run.specs.Headline.{IsReported, course, is_used_up, keeps_journal, loan}
-use Rattle.dc_run.specs.Passing.{WritesPassing, WritesSaved}
+use Rattle.dc_run.specs.Passing.{WritesPassing, WritesPassingOn, WritesSaved}
 use Rattle.dc_run.specs.Settings.{has_run}
 use Rattle.dc_run.specs.declared.verdict.Verdict.TheVariants.{DeviceFault, DeviceStopped}
 use Rattle.dc_run.proofs.Leaving.{asked_left, left_same, resume_left}
@@ -103,7 +104,7 @@ returns-in-Ok-Run-clause-passes g c ran = let asked : asked_of c.args.words.now 
     let out = course (g.O.Sink.held c.args.out.now) (g.O.Sink.held c.run_plan.new.out) (g.O.Sink.faults c.args.out.now) (g.O.Sink.faults c.run_plan.new.out) in
     let report = course (g.R.Sink.held c.args.report.now) (g.R.Sink.held c.run_plan.new.report) (g.R.Sink.faults c.args.report.now) (g.R.Sink.faults c.run_plan.new.report) in
     run_of_words (g.L.Library.files c.args.lib.now) c.args.words.now (order_view c.in-Ok-Run.order)
-    (λ m task. task.ledger ≡ Ledger.Report → (devices_of g.K.Keeps g.D.Disks m).tell (length task.setting.images) (lent c.args.keeps.now c.args.disks.now) (lent c.run_plan.new.keeps c.run_plan.new.disks) → WritesPassing task.setting out report c.run_plan.result) asked (c.run_plan.ensures.passes ran)
+    (λ m task. task.ledger ≡ Ledger.Report → (devices_of g.K.Keeps g.D.Disks m).tell (length task.setting.images) (lent c.args.keeps.now c.args.disks.now) (lent c.run_plan.new.keeps c.run_plan.new.disks) → WritesPassing task.setting 0 [] out report c.run_plan.result) asked (c.run_plan.ensures.passes ran)
 
 pub returns-in-Ok-Run-clause-keeps_others : goal.returns-in-Ok-Run-clause-keeps_others
 returns-in-Ok-Run-clause-keeps_others g c = let asked : asked_of c.args.words.now ≡ Some (ToRun (order_view c.in-Ok-Run.order)) = search rules in
@@ -348,6 +349,13 @@ returns-in-Ok-Resume-clause-resumed g c on = let asked : asked_of c.args.words.n
     let out = course (g.O.Sink.held c.args.out.now) (g.O.Sink.held c.resume_run.new.out) (g.O.Sink.faults c.args.out.now) (g.O.Sink.faults c.resume_run.new.out) in
     let report = course (g.R.Sink.held c.args.report.now) (g.R.Sink.held c.resume_run.new.report) (g.R.Sink.faults c.args.report.now) (g.R.Sink.faults c.resume_run.new.report) in
     resume_of_words (g.L.Library.files c.args.lib.now) c.args.words.now (halted_view c.in-Ok-Resume.names) (λ going. IsResumed going g.D.Disks c.resume_run.result (loan c.args.disks.now c.resume_run.new.disks) out report) asked (c.resume_run.ensures.resumed on)
+
+pub returns-in-Ok-Resume-clause-passes_on : goal.returns-in-Ok-Resume-clause-passes_on
+returns-in-Ok-Resume-clause-passes_on g c on = let asked : asked_of c.args.words.now ≡ Some (ToResume (halted_view c.in-Ok-Resume.names)) = search rules in
+    let out = course (g.O.Sink.held c.args.out.now) (g.O.Sink.held c.resume_run.new.out) (g.O.Sink.faults c.args.out.now) (g.O.Sink.faults c.resume_run.new.out) in
+    let report = course (g.R.Sink.held c.args.report.now) (g.R.Sink.held c.resume_run.new.report) (g.R.Sink.faults c.args.report.now) (g.R.Sink.faults c.resume_run.new.report) in
+    resume_of_words (g.L.Library.files c.args.lib.now) c.args.words.now (halted_view c.in-Ok-Resume.names)
+    (λ going. TellsStores (of_disks g.D.Disks) (length going.setting.images) c.args.disks.now c.resume_run.new.disks → WritesPassingOn going out report c.resume_run.result) asked (c.resume_run.ensures.passes on)
 
 pub returns-in-Ok-Resume-clause-unsuited : goal.returns-in-Ok-Resume-clause-unsuited
 returns-in-Ok-Resume-clause-unsuited g c p e = let asked : asked_of c.args.words.now ≡ Some (ToResume (halted_view c.in-Ok-Resume.names)) = search rules in

@@ -1,4 +1,4 @@
-use Rattle.std.proofs.Common.{◌≡◌, ◌∙◌, ◌<◌, ℕ, None, Result, true, false, ap, inl, inr, length, refl, rules, subst, sym}
+use Rattle.std.proofs.Common.{◌≡◌, ◌∙◌, ◌<◌, ℕ, [], None, Result, true, false, ap, inl, inr, length, refl, rules, subst, sym}
 use Rattle.std.proofs.lemmas.Bool.{true≢false}
 use Rattle.std.proofs.lemmas.List.{length-map}
 use Rattle.dc_media.specs.Devices.{of_disks, of_words}
@@ -13,7 +13,7 @@ use Rattle.dc_elf.specs.Loaded.{seen_image}
 use Rattle.dc_run.specs.Headline.{IsReported, course, is_used_up, keeps_journal, loan, verdict_at}
 use Rattle.dc_run.specs.Media.{HasFailed, HasStopped, IsOtherSame, devices_of, lent}
 use Rattle.dc_run.specs.Opening.{AsksToRun, Task, is_halted, opening_of}
-use Rattle.dc_run.specs.declared.setting.Setting as code
+use Rattle.dc_run.specs.declared.setting.OpenedRun as code
 use Rattle.dc_run.specs.declared.verdict.Did.TheVariants.{Run}
 use Rattle.dc_run.specs.Refusals.{as_verdict, verdict_of}
 use Rattle.dc_run.specs.declared.refusal.Refusal.{Refusal}
@@ -42,7 +42,7 @@ kept_alone ledger.Total never = absurd (never refl)
 kept_alone ledger.Journal never = refl
 
 -- a task by the setting that the code has, under this ledger
-abbrev task_for : Ledger → code.Setting → Task
+abbrev task_for : Ledger → code.OpenedRun → Task
 task_for ledger s = record { ledger = ledger; setting = setting_of s; halt = s.halt }
 
 -- the outcome before its report
@@ -121,7 +121,7 @@ returns-in-Ok-run_setting-clause-passes g c ran =
     let after = lent c.run_setting.new.keeps c.run_setting.new.disks in
     let on = devices_of g.K.Keeps g.D.Disks c.in-Ok.setting.medium in
     let reports = run_ledger (is_halted (task_of c.in-Ok.setting)) c.in-Ok-run_setting.course c.outcome_of-outcome.result.0 c.reported.result.verdict _ report (outcome_is g c) c.reported.ensures.reports in
-    opened_so (g.L.Library.files c.args.lib.now) (order_view c.args.order.now) setting c.in-Ok.setting.halt c.in-Ok.setting.medium (λ m t. t.ledger ≡ ledger.Report → (devices_of g.K.Keeps g.D.Disks m).tell (length t.setting.images) before after → WritesPassing t.setting out report c.reported.result) (opened_is g c)
+    opened_so (g.L.Library.files c.args.lib.now) (order_view c.args.order.now) setting c.in-Ok.setting.halt c.in-Ok.setting.medium (λ m t. t.ledger ≡ ledger.Report → (devices_of g.K.Keeps g.D.Disks m).tell (length t.setting.images) before after → WritesPassing t.setting 0 [] out report c.reported.result) (opened_is g c)
     (λ report_it tells calm calm' empty empty' shown listed at at'. run_passes on (task_for ledger.Report c.in-Ok.setting) refl c.reported.result (loan before after) out report c.in-Ok.ensures.given
     (subst (λ l. IsReported (task_for l c.in-Ok.setting) on c.reported.result (loan before after) out report) report_it (written g c))
     tells calm calm' (λ e. c.in-Ok-run_setting.ensures.sink (sink_ending (is_halted (task_of c.in-Ok.setting)) c.in-Ok-run_setting.course.ending c.reported.result.verdict _ report reports e))

@@ -1,4 +1,4 @@
-use Rattle.std.proofs.Common.{◌∙◌, ◌<◌, All, List, ap, length, refl, subst, sym}
+use Rattle.std.proofs.Common.{◌≡◌, ◌∙◌, ◌<◌, All, List, ap, length, refl, subst, sym}
 use Rattle.std.proofs.lemmas.List.{length-map}
 use Rattle.std.proofs.lemmas.Result.{IfOk-weaker}
 use Rattle.dc_course.specs.Courses.{account_of}
@@ -31,7 +31,7 @@ use Rattle.dc_run.proofs.resuming.go_on_with.Goals as goal
 pub go_on_disks-requires-clause-processes : goal.go_on_disks-requires-clause-processes
 go_on_disks-requires-clause-processes g c = let s = c.args.going.setting in
     let n = length s.images.items in
-    let run_is = c.entries_run-entries.ensures.run ∙ ap (entries_run c.args.going.halt) c.deref.ensures.value in
+    let run_is : c.entries_run-entries.result.now ≡ entries_run c.args.going.halt s.schedule.items = c.entries_run-entries.ensures.run ∙ ap (entries_run c.args.going.halt) c.deref.ensures.value in
     subst (All (IsOfProcesses n)) (sym run_is) (run_named n c.args.going.halt s.schedule.items (entries_named n 0 s.schedule.items s.entries.1))
 
 pub returns-clause-kept : goal.returns-clause-kept
@@ -44,7 +44,7 @@ returns-clause-kept g c =
     let acts = c.args.going.report.acts.items in
     let lent = loan c.args.disks.now c.go_on_disks.new.disks in
     let out = output (g.O.Sink.held c.args.out.now) (g.O.Sink.held c.go_on_disks.new.out) in
-    let run_is = c.entries_run-entries.ensures.run ∙ ap (entries_run halt) c.deref.ensures.value in
+    let run_is : c.entries_run-entries.result.now ≡ entries_run halt s.schedule.items = c.entries_run-entries.ensures.run ∙ ap (entries_run halt) c.deref.ensures.value in
     let acts_is = c.as_slice.ensures in
     IfOk-weaker c.go_on_disks.result _ _ (λ run says. (
       record { images = s.images.items; seen = refl },

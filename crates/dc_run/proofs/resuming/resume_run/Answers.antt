@@ -1,15 +1,16 @@
-use Rattle.std.proofs.Common.{◌≡◌, ◌∙◌, ◌<◌, ⊎_elim, Err, true, ap, inl, inr, refl, rules, subst, sym}
+use Rattle.std.proofs.Common.{◌≡◌, ◌∙◌, ◌<◌, ⊎_elim, Err, true, ap, inl, inr, length, refl, rules, subst, sym}
 use Rattle.std.proofs.lemmas.Bool.{true≢false}
 use Rattle.std.proofs.lemmas.List.{length-map}
 use Rattle.dc_command.specs.Command.{halted_view}
 use Rattle.dc_course.specs.Courses.{account_of as run_account}
-use Rattle.dc_course.specs.Lent.{AreLeftFrom}
+use Rattle.dc_course.specs.Lent.{AreLeftFrom, TellsStores}
 use Rattle.dc_media.specs.Devices.{of_disks}
 use Rattle.dc_course.specs.declared.course.Course.{Course}
 use Rattle.dc_elf.specs.Loaded.{seen_image}
 use Rattle.dc_reread.specs.declared.faults.RereadFault.TheVariants as faults
 use Rattle.dc_run.specs.Again.{going_of}
 use Rattle.dc_run.specs.Headline.{course, loan}
+use Rattle.dc_run.specs.Passing.{WritesPassingOn}
 use Rattle.dc_run.specs.Resumed.{HaveStood, IsRefusedStore, IsResumed, IsUnsuited}
 use Rattle.dc_run.specs.Resuming.{AsksToResume, going_in, is_halted_again}
 use Rattle.dc_run.specs.Settings.{differing_line, has_ended, is_free, may_have_run}
@@ -19,6 +20,9 @@ use Rattle.dc_run.proofs.Goings.{before_is, free_unresumed, going_so, is_resumed
 use Rattle.dc_run.proofs.Headlines.{reported_may, reported_so}
 use Rattle.dc_run.proofs.LeftAgain.{left_on}
 use Rattle.dc_run.proofs.Works.{exact_work, for_known, opened_work, refused_exact}
+use Rattle.dc_run.proofs.PassedOn.{resumed_passes}
+use Rattle.dc_run.proofs.Passed.{sink_ending, stop_ending}
+use Rattle.dc_run.proofs.resuming.resume_run.Given.{Over}
 use Rattle.dc_run.proofs.resuming.resume_run.Goals as goal
 
 pub returns-in-Err-clause-refused : goal.returns-in-Err-clause-refused
@@ -68,31 +72,39 @@ returns-in-Ok-go_on_with-clause-library_asked g c which =
     let reports = resumed_report c.leaves_over-halted.result c.in-Ok-go_on_with.course c.outcome_of.result c.reported.result.verdict c.in-Ok.going.report.entries report c.outcome_of.ensures c.reported.ensures.reports in
     for_known (g.L.Library.files c.args.lib.now) {P = λ files. c.reported.result.verdict ≡ LibraryFault which → AsksToResume files (halted_view c.args.names.now) which} (λ files here e. absurd (true≢false (sym (reported_may c.leaves_over-halted.result c.in-Ok-go_on_with.course.ending c.reported.result.verdict _ report reports) ∙ ap may_have_run e)))
 
-pub returns-in-Ok-go_on_with-clause-resumed : goal.returns-in-Ok-go_on_with-clause-resumed
-returns-in-Ok-go_on_with-clause-resumed g c on =
+-- it went on, and kept its promise
+went : (g : Over) (c : goal.After-reported g) → IsResumed (going_of c.in-Ok.going) g.D.Disks c.reported.result (loan c.args.disks.now c.go_on_with.new.disks)
+    (course (g.O.Sink.held c.args.out.now) (g.O.Sink.held c.go_on_with.new.out) (g.O.Sink.faults c.args.out.now) (g.O.Sink.faults c.go_on_with.new.out))
+    (course (g.R.Sink.held c.args.report.now) (g.R.Sink.held c.reported.new.report) (g.R.Sink.faults c.args.report.now) (g.R.Sink.faults c.reported.new.report))
+went g c =
     let report = course (g.R.Sink.held c.args.report.now) (g.R.Sink.held c.reported.new.report) (g.R.Sink.faults c.args.report.now) (g.R.Sink.faults c.reported.new.report) in
     let reports = resumed_report c.leaves_over-halted.result c.in-Ok-go_on_with.course c.outcome_of.result c.reported.result.verdict c.in-Ok.going.report.entries report c.outcome_of.ensures c.reported.ensures.reports in
     let out = course (g.O.Sink.held c.args.out.now) (g.O.Sink.held c.go_on_with.new.out) (g.O.Sink.faults c.args.out.now) (g.O.Sink.faults c.go_on_with.new.out) in
     let again : c.leaves_over-halted.result ≡ is_halted_again (going_of c.in-Ok.going) = search rules in
-    going_so _ (halted_view c.args.names.now) (going_of c.in-Ok.going) (λ going. IsResumed going g.D.Disks c.reported.result (loan c.args.disks.now c.go_on_with.new.disks) out report) c.in-Ok.ensures.told
-    (is_resumed (going_of c.in-Ok.going) g.D.Disks c.in-Ok-go_on_with.course c.reported.result _ out report c.leaves_over-halted.result again
+    is_resumed (going_of c.in-Ok.going) g.D.Disks c.in-Ok-go_on_with.course c.reported.result _ out report c.leaves_over-halted.result again
     (c.reported.ensures.acts ∙ ap (λ o. o.acts) c.outcome_of.ensures) (c.reported.ensures.marks ∙ ap (λ o. o.marks) c.outcome_of.ensures) (c.reported.ensures.lines ∙ ap (λ o. o.lines) c.outcome_of.ensures)
     c.in-Ok-go_on_with.ensures.unkept c.in-Ok-go_on_with.ensures.kept (left_on g.D.Disks (going_of c.in-Ok.going) (run_account c.in-Ok-go_on_with.course) c.in-Ok-go_on_with.course.ending _ _ (subst (λ n. 0 < n) (sym (length-map c.in-Ok.going.setting.images.items seen_image)) c.in-Ok.going.setting.some)
-    c.in-Ok.going.setting.entries.0 c.in-Ok.ensures.ran c.in-Ok.ensures.before c.in-Ok.ensures.taken.1 c.in-Ok-go_on_with.ensures.kept) reports)
+    c.in-Ok.going.setting.entries.0 c.in-Ok.ensures.ran c.in-Ok.ensures.before c.in-Ok.ensures.taken.1 c.in-Ok-go_on_with.ensures.kept) reports
+
+pub returns-in-Ok-go_on_with-clause-resumed : goal.returns-in-Ok-go_on_with-clause-resumed
+returns-in-Ok-go_on_with-clause-resumed g c on =
+    let report = course (g.R.Sink.held c.args.report.now) (g.R.Sink.held c.reported.new.report) (g.R.Sink.faults c.args.report.now) (g.R.Sink.faults c.reported.new.report) in
+    let out = course (g.O.Sink.held c.args.out.now) (g.O.Sink.held c.go_on_with.new.out) (g.O.Sink.faults c.args.out.now) (g.O.Sink.faults c.go_on_with.new.out) in
+    going_so _ (halted_view c.args.names.now) (going_of c.in-Ok.going) (λ going. IsResumed going g.D.Disks c.reported.result (loan c.args.disks.now c.go_on_with.new.disks) out report) c.in-Ok.ensures.told (went g c)
 
 pub returns-in-Ok-go_on_with-clause-went : goal.returns-in-Ok-go_on_with-clause-went
-returns-in-Ok-go_on_with-clause-went g c on =
+returns-in-Ok-go_on_with-clause-went g c on = (going_of c.in-Ok.going, c.in-Ok.ensures.ran, went g c)
+
+pub returns-in-Ok-go_on_with-clause-passes : goal.returns-in-Ok-go_on_with-clause-passes
+returns-in-Ok-go_on_with-clause-passes g c on =
     let report = course (g.R.Sink.held c.args.report.now) (g.R.Sink.held c.reported.new.report) (g.R.Sink.faults c.args.report.now) (g.R.Sink.faults c.reported.new.report) in
     let reports = resumed_report c.leaves_over-halted.result c.in-Ok-go_on_with.course c.outcome_of.result c.reported.result.verdict c.in-Ok.going.report.entries report c.outcome_of.ensures c.reported.ensures.reports in
     let out = course (g.O.Sink.held c.args.out.now) (g.O.Sink.held c.go_on_with.new.out) (g.O.Sink.faults c.args.out.now) (g.O.Sink.faults c.go_on_with.new.out) in
-    let again : c.leaves_over-halted.result ≡ is_halted_again (going_of c.in-Ok.going) = search rules in (
-      going_of c.in-Ok.going,
-      c.in-Ok.ensures.ran,
-      is_resumed (going_of c.in-Ok.going) g.D.Disks c.in-Ok-go_on_with.course c.reported.result _ out report c.leaves_over-halted.result again
-          (c.reported.ensures.acts ∙ ap (λ o. o.acts) c.outcome_of.ensures) (c.reported.ensures.marks ∙ ap (λ o. o.marks) c.outcome_of.ensures) (c.reported.ensures.lines ∙ ap (λ o. o.lines) c.outcome_of.ensures)
-          c.in-Ok-go_on_with.ensures.unkept c.in-Ok-go_on_with.ensures.kept (left_on g.D.Disks (going_of c.in-Ok.going) (run_account c.in-Ok-go_on_with.course) c.in-Ok-go_on_with.course.ending _ _ (subst (λ n. 0 < n) (sym (length-map c.in-Ok.going.setting.images.items seen_image)) c.in-Ok.going.setting.some)
-          c.in-Ok.going.setting.entries.0 c.in-Ok.ensures.ran c.in-Ok.ensures.before c.in-Ok.ensures.taken.1 c.in-Ok-go_on_with.ensures.kept) reports,
-    )
+    going_so _ (halted_view c.args.names.now) (going_of c.in-Ok.going)
+    (λ going. TellsStores (of_disks g.D.Disks) (length going.setting.images) c.args.disks.now c.go_on_with.new.disks → WritesPassingOn going out report c.reported.result) c.in-Ok.ensures.told
+    (λ tells lines were calm calm' empty empty' shown listed at at'. resumed_passes g.D.Disks (going_of c.in-Ok.going) c.reported.result (loan c.args.disks.now c.go_on_with.new.disks) out report c.in-Ok.ensures.given c.in-Ok.ensures.lines (went g c) tells calm calm'
+    (λ e. c.in-Ok-go_on_with.ensures.sink (sink_ending c.leaves_over-halted.result c.in-Ok-go_on_with.course.ending c.reported.result.verdict _ report reports e))
+    (λ p e. c.in-Ok-go_on_with.ensures.unstopped p (stop_ending c.leaves_over-halted.result c.in-Ok-go_on_with.course.ending c.reported.result.verdict _ report p reports e)) empty empty' lines were shown listed at at')
 
 pub returns-in-Err-go_on_with-clause-refused : goal.returns-in-Err-go_on_with-clause-refused
 returns-in-Err-go_on_with-clause-refused g c refusal is = for_known _ (λ files here. exact_work c.idle-in-Err-go_on_with.result.verdict refusal (going_in files (halted_view c.args.names.now)) (going_of c.in-Ok.going) is (c.in-Ok.ensures.told files here)

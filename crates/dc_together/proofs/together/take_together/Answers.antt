@@ -1,459 +1,173 @@
-use Rattle.std.proofs.Common.{◌≡◌, ◌∙◌, ◌<◌, ◌+◌, ◌-◌, ◌*◌, true, Some, OnErr, ap, if◌then◌else◌, arith, length, refl, slice_get, subst, sym}
+use Rattle.std.proofs.Common.{◌≡◌, ◌∙◌, ◌<◌, ◌+◌, ◌-◌, ◌*◌, Some, ap, arith, if◌then◌else◌, length, rules, slice_get, subst, sym}
 use Rattle.std.proofs.lemmas.Result.{err_from_is_err_and}
-use Rattle.dc_guest.specs.Answers.{answer_of, effect_of}
-use Rattle.dc_guest.specs.Guest.{event_of, machine_over, next_of, over}
-use Rattle.dc_guest.specs.Nexts.{called_by}
-use Rattle.dc_words.specs.Lists.{lists_of}
-use Rattle.dc_proc.specs.Carried.{system}
+use Rattle.dc_guest.specs.Answers.{answer_of}
+use Rattle.dc_proc.proofs.Texts.{any_err}
 use Rattle.dc_proc.specs.Events.{HasCountsFor}
-use Rattle.dc_proc.specs.Turns.{shown_of}
-use Rattle.dc_recovery.specs.Parts.Place.{InAfter, InBefore, InEvent}
-use Rattle.dc_twophase.proofs.Counting.{calm_then, joint_then}
-use Rattle.dc_twophase.proofs.Pairs.{known, pair_then}
-use Rattle.dc_checkpoint.specs.Handles.{same_then}
-use Rattle.dc_twophase.specs.Stores.{on}
-use Rattle.dc_together.proofs.Alike.{makes_alike, shows_alike}
+use Rattle.dc_twophase.proofs.Pairs.{known}
 use Rattle.dc_processes.proofs.Allowing.{may_turn}
-use Rattle.dc_processes.proofs.Beside.{some_there}
-use Rattle.dc_together.proofs.Composed.{fell_after, fell_before, fell_event, go_all, went_whole}
-use Rattle.dc_together.proofs.Fitting.{counts_fewer, counts_gone, counts_mid, fit_there, own_same, room_same}
 use Rattle.dc_processes.proofs.Handling.{counts_held}
-use Rattle.dc_together.proofs.Joining.{joint_as, no_index_then, same_stores, told_calm, told_same}
-use Rattle.dc_together.proofs.Owns.{here_going}
-use Rattle.dc_processes.proofs.Telling.{shown_is, told_at}
-use Rattle.dc_together.specs.Joints.{AllBelong, HaveCounts, IsRoomFor}
 use Rattle.dc_processes.specs.Slots.{held_in, is_up, slot_at}
 use Rattle.dc_processes.specs.Stages.{IsTold, stage_of}
-use Rattle.dc_processes.specs.Taking.{MayTake}
-use Rattle.dc_processes.specs.Turns.{FellTogether, later, lines_of}
+use Rattle.dc_processes.specs.Taking.{MayTake, ShowsNext}
+use Rattle.dc_processes.specs.Turns.{later, lines_of}
 use Rattle.dc_processes.specs.declared.processes.Processes.{Processes}
-use Rattle.dc_processes.specs.declared.slot.Slot.TheVariants.{Up}
+use Rattle.dc_together.proofs.Alike.{lines_told, makes_alike, memory_told, shows_told}
+use Rattle.dc_together.proofs.Composed.{Asks, fell_after, fell_before, fell_event, went_whole}
+use Rattle.dc_together.proofs.Fitting.{counts_fewer, counts_gone, counts_mid, fit_there, room_same}
+use Rattle.dc_together.proofs.Leading.{Leads, joint_later, leads_of, leads_then, others_later, own_later, same_later}
+use Rattle.dc_together.specs.Joints.{HaveCounts, IsRoomFor}
+use Rattle.dc_together.proofs.together.take_together.Given.{Over}
+use Rattle.dc_together.proofs.together.take_together.Goals.{After-asked-asked, In_ok-commit_if, After-take_event, In_ok-done}
 use Rattle.dc_together.proofs.together.take_together.Goals as goal
 
+-- before it: the process has a store, and the code asks what the theory asks
+module _ (g : Over) (c : After-asked-asked g) where
+  store : (x : g.row.C.Denot) × (slice_get c.args.stores.now c.args.p ≡ Some x)
+  store = known c.args.stores.now c.args.p (subst (λ m. c.args.p < m) (sym c.requires.stores) c.requires.process)
+
+  asks : Asks g.C.Checkpoint (stage_of c.args.stores.now c.args.dev.now c.args.processes.now) c.args.p (answer_of c.args.answer.now) c.asked-asked.result
+  asks = record { asked_at = c.asked-asked.ensures.asked; on = ap is_up (c.requires.next store.0 store.1).there }
+
+-- after the commit before the event
+module _ (g : Over) (c : In_ok-commit_if g) where
+  first : Leads g.C.Checkpoint (stage_of c.args.stores.now c.args.dev.now c.args.processes.now) (stage_of c.commit_if.new.stores c.commit_if.new.dev c.commit_if.new.processes)
+  first = leads_of c.args.processes.now c.commit_if.new.processes (search rules) c.commit_if.ensures.long c.commit_if.ensures.as_many c.commit_if.ensures.stores c.commit_if.ensures.others c.in_ok-commit_if.ensures.joint.calm
+
+  counts_first : HaveCounts (2 * c.args.processes.now.left - 1) c.commit_if.new.processes.slots.items
+  counts_first = let slots1 = c.commit_if.new.processes.slots.items in
+      counts_mid c.args.processes.now.left c.requires.left c.asked-asked.result.before c.args.processes.now.slots.items slots1 slots1 c.in_ok-commit_if.ensures.counts (λ m have. counts_fewer (m + 1) m slots1 (omega arith) have) c.requires.counts
+
+-- after the event, whole or refused
+room_event : (g : Over) (c : After-take_event g) → IsRoomFor g.C.Checkpoint c.take_event.new.stores (length c.args.processes.now.slots.items) c.take_event.new.processes.joint
+room_event g c = room_same g.C.Checkpoint c.commit_if.new.stores c.take_event.new.stores (length c.args.processes.now.slots.items) c.commit_if.new.processes.joint c.take_event.new.processes.joint c.take_event.ensures.as_many c.take_event.ensures.stores
+    (ap (λ (w : Processes). length w.joint.texts.items) c.take_event.ensures.rest) (ap (λ (w : Processes). w.joint.saved) c.take_event.ensures.rest) c.commit_if.ensures.room
+
+-- after the event
+module _ (g : Over) (c : In_ok-done g) where
+  begun : Leads g.C.Checkpoint (stage_of c.args.stores.now c.args.dev.now c.args.processes.now) (stage_of c.commit_if.new.stores c.commit_if.new.dev c.commit_if.new.processes)
+  begun = leads_of c.args.processes.now c.commit_if.new.processes (search rules) c.commit_if.ensures.long c.commit_if.ensures.as_many c.commit_if.ensures.stores c.commit_if.ensures.others c.in_ok-commit_if.ensures.joint.calm
+
+  second : Leads g.C.Checkpoint (stage_of c.commit_if.new.stores c.commit_if.new.dev c.commit_if.new.processes) (stage_of c.take_event.new.stores c.take_event.new.dev c.take_event.new.processes)
+  second = leads_of c.commit_if.new.processes c.take_event.new.processes (search rules) c.take_event.ensures.long c.take_event.ensures.as_many c.take_event.ensures.stores c.take_event.ensures.others c.in_ok-done.ensures.joint.calm
+
+  two : Leads g.C.Checkpoint (stage_of c.args.stores.now c.args.dev.now c.args.processes.now) (stage_of c.take_event.new.stores c.take_event.new.dev c.take_event.new.processes)
+  two = leads_then (g.met.C.Checkpoint.untouched_on c.args.dev.now c.commit_if.new.dev c.take_event.new.dev) begun second
+
+  counts_second : HaveCounts (2 * (c.args.processes.now.left - 1) + (if c.asked-asked.result.after then 1 else 0)) c.take_event.new.processes.slots.items
+  counts_second = counts_gone c.args.processes.now.left c.requires.left c.asked-asked.result.before c.args.processes.now.slots.items c.commit_if.new.processes.slots.items c.take_event.new.processes.slots.items
+      c.in_ok-commit_if.ensures.counts c.in_ok-done.ensures.counts c.requires.counts c.asked-asked.result.after (c.asked-asked.ensures.once c.requires.together)
+
 pub asked-asked-requires-clause-next : goal.asked-asked-requires-clause-next
-asked-asked-requires-clause-next g c x at =
-    (c.args.call, c.requires.next x at)
+asked-asked-requires-clause-next g c x at = (c.args.call, c.requires.next x at)
 
 pub returns-in_err-commit_if-clause-fell : goal.returns-in_err-commit_if-clause-fell
 returns-in_err-commit_if-clause-fell g c =
-    let G = g.C.Checkpoint in
-    let p = c.args.p in
-    let processes0 = c.args.processes.now in
-    let slots0 = processes0.slots.items in
-    let stores0 = c.args.stores.now in
-    let dev0 = c.args.dev.now in
-    let processes1 = c.commit_if.new.processes in
-    let stores1 = c.commit_if.new.stores in
-    let dev1 = c.commit_if.new.dev in
-    let fault = err_from_is_err_and c.from_residual.result c.from_residual.ensures.1 in
     let broke = c.in_err-commit_if.ensures in
-    let new = later 0 (stage_of stores1 dev1 processes1) in
-    subst (λ r. OnErr r (FellTogether G (stage_of stores0 dev0 processes0) new p (answer_of c.args.answer.now))) (sym fault.1) (λ images schedule core together told now world inside given.
-    let a = answer_of c.args.answer.now in
-    let old = stage_of stores0 dev0 processes0 in
-    let inputs = lists_of processes0.inputs.items in
-    let pr = processes0.protocol in
-    let S = system images inputs pr in
-    let y = known stores0 p (subst (λ m. p < m) (sym c.requires.stores) c.requires.process) in
-    let next = c.requires.next y.0 y.1 in
-    let up : (core.procs p).up ≡ true = world.up_are p inside ∙ ap is_up next.there in
-    let go = go_all S schedule processes0.entries core together now p up in
-    let asked = c.asked-asked.result in
-    let asked_is = c.asked-asked.ensures.asked images core together told go inside world in
-    let fell = fell_before G images old together schedule core now told world p inside up a given asked asked_is new broke.due (broke.torn (counts_fewer (2 * processes0.left) (2 * processes0.left - 1) slots0 (omega arith) c.requires.counts)) in
-    (InBefore, λ e. absurd (let no : ⊥ = cc in no), fell.0, fell.1))
+    any_err c.from_residual.result (fell_before (asks g (goal.at.returns-in_err-commit_if-clause-fell g c).After-asked-asked) (later 0 (stage_of c.commit_if.new.stores c.commit_if.new.dev c.commit_if.new.processes)) broke.due
+    (broke.torn (counts_fewer (2 * c.args.processes.now.left) (2 * c.args.processes.now.left - 1) c.args.processes.now.slots.items (omega arith) c.requires.counts)))
 
 pub take_event-requires-clause-belongs : goal.take_event-requires-clause-belongs
-take_event-requires-clause-belongs g c =
-    let G = g.C.Checkpoint in
-    let processes0 = c.args.processes.now in
-    let slots0 = processes0.slots.items in
-    let stores0 = c.args.stores.now in
-    let stores1 = c.commit_if.new.stores in
-    let ok1 = c.in_ok-commit_if.ensures in
-    let many1 : length stores1 ≡ length stores0 = c.commit_if.ensures.as_many in
-    subst (λ m. AllBelong G m stores1) (sym ok1.long) (own_same G stores0 stores1 (length slots0) many1 c.commit_if.ensures.stores c.requires.belongs)
+take_event-requires-clause-belongs g c = own_later (first g (goal.at.take_event-requires-clause-belongs g c).In_ok-commit_if) c.requires.belongs
 
 pub take_event-requires-clause-may : goal.take_event-requires-clause-may
 take_event-requires-clause-may g c x at =
     let G = g.C.Checkpoint in
     let p = c.args.p in
-    let processes0 = c.args.processes.now in
-    let slots0 = processes0.slots.items in
-    let stores0 = c.args.stores.now in
-    let dev0 = c.args.dev.now in
-    let processes1 = c.commit_if.new.processes in
-    let slots1 = processes1.slots.items in
-    let stores1 = c.commit_if.new.stores in
+    let slots1 = c.commit_if.new.processes.slots.items in
     let dev1 = c.commit_if.new.dev in
-    let ok1 = c.in_ok-commit_if.ensures in
-    let many1 : length stores1 ≡ length stores0 = c.commit_if.ensures.as_many in
-    let left1 : processes1.left ≡ processes0.left = ap (λ (w : Processes). w.left) c.commit_if.ensures.rest in
-    let y = known stores0 p (subst (λ m. p < m) (sym c.requires.stores) c.requires.process) in
-    let f = fit_there G x dev1 (slot_at slots1 p) (ok1.fit p x at) in
-    let makes = makes_alike G y.0 x dev0 dev1 (slot_at slots0 p) (slot_at slots1 p) c.args.call (c.requires.next y.0 y.1) f.up f.there f.fit (ok1.alike p c.requires.process) (ok1.memory p y.0 x y.1 at) in
-    let there1 : p < length slots1 = subst (λ m. p < m) (sym ok1.long) c.requires.process in
-    let of = ok1.well.each p (Up makes.up) there1 makes.there in
-    let counts = counts_mid processes0.left c.requires.left c.asked-asked.result.before slots0 slots1 slots1 ok1.counts (λ m have. counts_fewer (m + 1) m slots1 (omega arith) have) c.requires.counts in
-    let counts_up : HasCountsFor (2 * processes0.left - 1) makes.up.kernel = counts_held makes.up (2 * processes0.left - 1) (subst (λ s. HasCountsFor (2 * processes0.left - 1) (held_in s).kernel) makes.there (counts p there1)) in
-    subst (MayTake G x dev1 (answer_of c.args.answer.now)) (sym makes.there) (may_turn G (2 * processes0.left - 1) x dev1 (slot_at slots1 p) c.args.call (answer_of c.args.answer.now) (length slots0) p makes counts_up
-    (let l = c.requires.left in omega (arith, l)) (of.1 ∙ ok1.long) of.2 c.requires.kind c.requires.plain c.requires.sender)
+    let left = c.args.processes.now.left in
+    let ok = c.in_ok-commit_if.ensures in
+    let y = store g (goal.at.take_event-requires-clause-may g c).After-asked-asked in
+    let f = fit_there G x dev1 (slot_at slots1 p) (ok.fit p x at) in
+    let makes = makes_alike G y.0 x c.args.dev.now dev1 (slot_at c.args.processes.now.slots.items p) (slot_at slots1 p) c.args.call (c.requires.next y.0 y.1) f.up f.there f.fit (ok.alike p c.requires.process) (ok.memory p y.0 x y.1 at) in
+    let there : p < length slots1 = subst (λ m. p < m) (sym ok.long) c.requires.process in
+    let of = ok.well.each p _ there makes.there in
+    let counts : HasCountsFor (2 * left - 1) makes.up.kernel = counts_held makes.up (2 * left - 1) (subst (λ s. HasCountsFor (2 * left - 1) (held_in s).kernel) makes.there (counts_first g (goal.at.take_event-requires-clause-may g c).In_ok-commit_if p there)) in
+    subst (MayTake G x dev1 (answer_of c.args.answer.now)) (sym makes.there) (may_turn G (2 * left - 1) x dev1 (slot_at slots1 p) c.args.call (answer_of c.args.answer.now) (length c.args.processes.now.slots.items) p makes counts
+    (let l = c.requires.left in omega (arith, l)) (of.1 ∙ ok.long) of.2 c.requires.kind c.requires.plain c.requires.sender)
 
 pub returns-in_err-done-clause-stores : goal.returns-in_err-done-clause-stores
-returns-in_err-done-clause-stores g c =
-    let stores0 = c.args.stores.now in
-    let stores1 = c.commit_if.new.stores in
-    let many1 : length stores1 ≡ length stores0 = c.commit_if.ensures.as_many in
-    let stores2 = c.take_event.new.stores in
-    pair_then stores0 stores1 stores2 many1 (λ i b x z was now. same_then was now) c.commit_if.ensures.stores c.take_event.ensures.stores
+returns-in_err-done-clause-stores g c = same_later (first g (goal.at.returns-in_err-done-clause-stores g c).In_ok-commit_if) c.take_event.new.stores c.take_event.ensures.stores
 
 pub returns-in_err-done-clause-room : goal.returns-in_err-done-clause-room
-returns-in_err-done-clause-room g c =
-    let G = g.C.Checkpoint in
-    let processes0 = c.args.processes.now in
-    let slots0 = processes0.slots.items in
-    let processes1 = c.commit_if.new.processes in
-    let stores1 = c.commit_if.new.stores in
-    let processes2 = c.take_event.new.processes in
-    let stores2 = c.take_event.new.stores in
-    let many2 : length stores2 ≡ length stores1 = c.take_event.ensures.as_many in
-    room_same G stores1 stores2 (length slots0) processes1.joint processes2.joint many2 c.take_event.ensures.stores (ap (λ (w : Processes). length w.joint.texts.items) c.take_event.ensures.rest) (ap (λ (w : Processes). w.joint.saved) c.take_event.ensures.rest) c.commit_if.ensures.room
+returns-in_err-done-clause-room g c = room_event g (goal.at.returns-in_err-done-clause-room g c).After-take_event
 
 pub returns-in_err-done-clause-joint : goal.returns-in_err-done-clause-joint
 returns-in_err-done-clause-joint g c =
-    let G = g.C.Checkpoint in
-    let stores0 = c.args.stores.now in
-    let dev0 = c.args.dev.now in
-    let stores1 = c.commit_if.new.stores in
-    let dev1 = c.commit_if.new.dev in
-    let ok1 = c.in_ok-commit_if.ensures in
-    let many1 : length stores1 ≡ length stores0 = c.commit_if.ensures.as_many in
-    let dev2 = c.take_event.new.dev in
     let fault = err_from_is_err_and c.from_residual-in_err-done.result c.from_residual-in_err-done.ensures.1 in
-    rw (fault.1, fault.2) (joint_as G stores0 dev0 dev2 _ (joint_then G (on stores0 dev0) (on stores1 dev1) (same_stores G stores0 stores1 many1 c.commit_if.ensures.stores) ok1.joint.calm c.in_err-done.ensures.joint))
+    rw (fault.1, fault.2) (joint_later (first g (goal.at.returns-in_err-done-clause-joint g c).In_ok-commit_if) c.take_event.new.dev _ c.in_err-done.ensures.joint)
 
 pub returns-in_err-done-clause-others : goal.returns-in_err-done-clause-others
-returns-in_err-done-clause-others g c q none =
-    let G = g.C.Checkpoint in
-    let stores0 = c.args.stores.now in
-    let dev0 = c.args.dev.now in
-    let stores1 = c.commit_if.new.stores in
-    let dev1 = c.commit_if.new.dev in
-    let many1 : length stores1 ≡ length stores0 = c.commit_if.ensures.as_many in
-    let dev2 = c.take_event.new.dev in
-    g.met.C.Checkpoint.untouched_on dev0 dev1 dev2 q (c.commit_if.ensures.others q none) (c.take_event.ensures.others q (no_index_then G stores0 stores1 q (same_stores G stores0 stores1 many1 c.commit_if.ensures.stores) none))
+returns-in_err-done-clause-others g c = others_later (first g (goal.at.returns-in_err-done-clause-others g c).In_ok-commit_if) c.take_event.new.dev (g.met.C.Checkpoint.untouched_on c.args.dev.now c.commit_if.new.dev c.take_event.new.dev) c.take_event.ensures.others
 
 pub returns-in_err-done-clause-fell : goal.returns-in_err-done-clause-fell
 returns-in_err-done-clause-fell g c =
-    let G = g.C.Checkpoint in
-    let p = c.args.p in
-    let processes0 = c.args.processes.now in
-    let slots0 = processes0.slots.items in
-    let stores0 = c.args.stores.now in
-    let dev0 = c.args.dev.now in
-    let processes1 = c.commit_if.new.processes in
-    let slots1 = processes1.slots.items in
-    let stores1 = c.commit_if.new.stores in
-    let dev1 = c.commit_if.new.dev in
-    let ok1 = c.in_ok-commit_if.ensures in
-    let many1 : length stores1 ≡ length stores0 = c.commit_if.ensures.as_many in
-    let processes2 = c.take_event.new.processes in
-    let slots2 = processes2.slots.items in
-    let stores2 = c.take_event.new.stores in
-    let dev2 = c.take_event.new.dev in
-    let many2 : length stores2 ≡ length stores1 = c.take_event.ensures.as_many in
-    let fault = err_from_is_err_and c.from_residual-in_err-done.result c.from_residual-in_err-done.ensures.1 in
-    let new = later 0 (stage_of stores2 dev2 processes2) in
-    subst (λ r. OnErr r (FellTogether G (stage_of stores0 dev0 processes0) new p (answer_of c.args.answer.now))) (sym fault.1) (λ images schedule core together told now world inside given.
-    let a = answer_of c.args.answer.now in
-    let old = stage_of stores0 dev0 processes0 in
-    let inputs = lists_of processes0.inputs.items in
-    let pr = processes0.protocol in
-    let S = system images inputs pr in
-    let y = known stores0 p (subst (λ m. p < m) (sym c.requires.stores) c.requires.process) in
-    let next = c.requires.next y.0 y.1 in
-    let up : (core.procs p).up ≡ true = world.up_are p inside ∙ ap is_up next.there in
-    let go = go_all S schedule processes0.entries core together now p up in
-    let asked = c.asked-asked.result in
-    let asked_is = c.asked-asked.ensures.asked images core together told go inside world in
-    let mid = stage_of stores1 dev1 processes1 in
-    let told1 : IsTold G mid = told_calm G old mid ok1.long ok1.joint.calm told in
-    let rest1 = c.commit_if.ensures.rest in
-    let inputs1 = ap (λ (w : Processes). lists_of w.inputs.items) rest1 in
-    let protocol1 = ap (λ (w : Processes). w.protocol) rest1 in
-    let entries1 = ap (λ (w : Processes). w.entries) rest1 in
-    let left1 : processes1.left ≡ processes0.left = ap (λ (w : Processes). w.left) c.commit_if.ensures.rest in
-    let counts = counts_mid processes0.left c.requires.left asked.before slots0 slots1 slots1 ok1.counts (λ m have. counts_fewer (m + 1) m slots1 (omega arith) have) c.requires.counts in
-    let fell = fell_event G images old together schedule core now told world p inside up a given asked asked_is mid ok1.goes inputs1 protocol1 entries1 told1 new
-    (c.in_err-done.ensures.broken (subst (λ k. HaveCounts (2 * k - 1) slots1) (sym left1) counts)) in
-    (InEvent, λ e. absurd (let no : ⊥ = cc in no), fell.0, fell.1))
+    let at = goal.at.returns-in_err-done-clause-fell g c in
+    let f = at.In_ok-commit_if in
+    any_err c.from_residual-in_err-done.result (fell_event (asks g at.After-asked-asked) c.in_ok-commit_if.ensures.goes (first g f) (later 0 (stage_of c.take_event.new.stores c.take_event.new.dev c.take_event.new.processes))
+    (c.in_err-done.ensures.broken (subst (λ k. HaveCounts (2 * k - 1) c.commit_if.new.processes.slots.items) (sym (first g f).left) (counts_first g f))))
 
 pub commit_if-requires-2-clause-belongs : goal.commit_if-requires-2-clause-belongs
-commit_if-requires-2-clause-belongs g c =
-    let G = g.C.Checkpoint in
-    let processes0 = c.args.processes.now in
-    let slots0 = processes0.slots.items in
-    let stores0 = c.args.stores.now in
-    let stores1 = c.commit_if.new.stores in
-    let ok1 = c.in_ok-commit_if.ensures in
-    let many1 : length stores1 ≡ length stores0 = c.commit_if.ensures.as_many in
-    let stores2 = c.take_event.new.stores in
-    let many2 : length stores2 ≡ length stores1 = c.take_event.ensures.as_many in
-    subst (λ m. AllBelong G m stores2) (sym (c.take_event.ensures.long ∙ ok1.long)) (own_same G stores1 stores2 (length slots0) many2 c.take_event.ensures.stores (own_same G stores0 stores1 (length slots0) many1 c.commit_if.ensures.stores c.requires.belongs))
+commit_if-requires-2-clause-belongs g c = own_later (two g (goal.at.commit_if-requires-2-clause-belongs g c).In_ok-done) c.requires.belongs
 
 pub commit_if-requires-2-clause-counts : goal.commit_if-requires-2-clause-counts
 commit_if-requires-2-clause-counts g c due =
-    let G = g.C.Checkpoint in
-    let p = c.args.p in
-    let processes0 = c.args.processes.now in
-    let slots0 = processes0.slots.items in
-    let stores0 = c.args.stores.now in
-    let dev0 = c.args.dev.now in
-    let processes1 = c.commit_if.new.processes in
-    let slots1 = processes1.slots.items in
-    let stores1 = c.commit_if.new.stores in
-    let dev1 = c.commit_if.new.dev in
-    let ok1 = c.in_ok-commit_if.ensures in
-    let many1 : length stores1 ≡ length stores0 = c.commit_if.ensures.as_many in
-    let processes2 = c.take_event.new.processes in
-    let slots2 = processes2.slots.items in
-    let stores2 = c.take_event.new.stores in
-    let dev2 = c.take_event.new.dev in
-    let many2 : length stores2 ≡ length stores1 = c.take_event.ensures.as_many in
-    let gone_counts = counts_gone processes0.left c.requires.left c.asked-asked.result.before slots0 slots1 slots2 ok1.counts c.in_ok-done.ensures.counts c.requires.counts c.asked-asked.result.after (c.asked-asked.ensures.once c.requires.together) in
-    counts_fewer (2 * (processes0.left - 1) + 1) 1 slots2 (omega arith) (subst (λ b. HaveCounts (2 * (processes0.left - 1) + (if b then 1 else 0)) slots2) due gone_counts)
+    let left = c.args.processes.now.left in
+    let slots2 = c.take_event.new.processes.slots.items in
+    counts_fewer (2 * (left - 1) + 1) 1 slots2 (omega arith) (subst (λ b. HaveCounts (2 * (left - 1) + (if b then 1 else 0)) slots2) due (counts_second g (goal.at.commit_if-requires-2-clause-counts g c).In_ok-done))
 
 pub commit_if-requires-2-clause-room : goal.commit_if-requires-2-clause-room
-commit_if-requires-2-clause-room g c =
-    let G = g.C.Checkpoint in
-    let processes0 = c.args.processes.now in
-    let slots0 = processes0.slots.items in
-    let processes1 = c.commit_if.new.processes in
-    let stores1 = c.commit_if.new.stores in
-    let ok1 = c.in_ok-commit_if.ensures in
-    let processes2 = c.take_event.new.processes in
-    let stores2 = c.take_event.new.stores in
-    let many2 : length stores2 ≡ length stores1 = c.take_event.ensures.as_many in
-    subst (λ m. IsRoomFor G stores2 m processes2.joint) (sym (c.take_event.ensures.long ∙ ok1.long))
-    (room_same G stores1 stores2 (length slots0) processes1.joint processes2.joint many2 c.take_event.ensures.stores (ap (λ (w : Processes). length w.joint.texts.items) c.take_event.ensures.rest) (ap (λ (w : Processes). w.joint.saved) c.take_event.ensures.rest) c.commit_if.ensures.room)
+commit_if-requires-2-clause-room g c = subst (λ m. IsRoomFor g.C.Checkpoint c.take_event.new.stores m c.take_event.new.processes.joint) (sym (c.take_event.ensures.long ∙ c.commit_if.ensures.long)) (room_event g (goal.at.commit_if-requires-2-clause-room g c).After-take_event)
 
 pub returns-in_err-commit_if-2-clause-stores : goal.returns-in_err-commit_if-2-clause-stores
-returns-in_err-commit_if-2-clause-stores g c =
-    let stores0 = c.args.stores.now in
-    let stores1 = c.commit_if.new.stores in
-    let many1 : length stores1 ≡ length stores0 = c.commit_if.ensures.as_many in
-    let stores2 = c.take_event.new.stores in
-    let many2 : length stores2 ≡ length stores1 = c.take_event.ensures.as_many in
-    let stores3 = c.commit_if-2.new.stores in
-    pair_then stores0 stores2 stores3 (many2 ∙ many1) (λ i b x z was now. same_then was now) (pair_then stores0 stores1 stores2 many1 (λ i b x z was now. same_then was now) c.commit_if.ensures.stores c.take_event.ensures.stores) c.commit_if-2.ensures.stores
+returns-in_err-commit_if-2-clause-stores g c = same_later (two g (goal.at.returns-in_err-commit_if-2-clause-stores g c).In_ok-done) c.commit_if-2.new.stores c.commit_if-2.ensures.stores
 
 pub returns-in_err-commit_if-2-clause-joint : goal.returns-in_err-commit_if-2-clause-joint
 returns-in_err-commit_if-2-clause-joint g c =
-    let G = g.C.Checkpoint in
-    let stores0 = c.args.stores.now in
-    let dev0 = c.args.dev.now in
-    let stores1 = c.commit_if.new.stores in
-    let dev1 = c.commit_if.new.dev in
-    let ok1 = c.in_ok-commit_if.ensures in
-    let many1 : length stores1 ≡ length stores0 = c.commit_if.ensures.as_many in
-    let stores2 = c.take_event.new.stores in
-    let dev2 = c.take_event.new.dev in
-    let many2 : length stores2 ≡ length stores1 = c.take_event.ensures.as_many in
-    let dev3 = c.commit_if-2.new.dev in
     let fault = err_from_is_err_and c.from_residual-in_err-commit_if-2.result c.from_residual-in_err-commit_if-2.ensures.1 in
-    rw (fault.1, fault.2) (joint_as G stores0 dev0 dev3 _ (joint_then G (on stores0 dev0) (on stores2 dev2) (same_stores G stores0 stores2 (many2 ∙ many1) (pair_then stores0 stores1 stores2 many1 (λ i b x z was now. same_then was now) c.commit_if.ensures.stores c.take_event.ensures.stores)) (λ q. calm_then G dev0 dev1 dev2 q (ok1.joint.calm q) (c.in_ok-done.ensures.joint.calm q)) c.in_err-commit_if-2.ensures.joint))
+    rw (fault.1, fault.2) (joint_later (two g (goal.at.returns-in_err-commit_if-2-clause-joint g c).In_ok-done) c.commit_if-2.new.dev _ c.in_err-commit_if-2.ensures.joint)
 
 pub returns-in_err-commit_if-2-clause-others : goal.returns-in_err-commit_if-2-clause-others
-returns-in_err-commit_if-2-clause-others g c q none =
-    let G = g.C.Checkpoint in
-    let stores0 = c.args.stores.now in
-    let dev0 = c.args.dev.now in
-    let stores1 = c.commit_if.new.stores in
-    let dev1 = c.commit_if.new.dev in
-    let many1 : length stores1 ≡ length stores0 = c.commit_if.ensures.as_many in
-    let stores2 = c.take_event.new.stores in
-    let dev2 = c.take_event.new.dev in
-    let many2 : length stores2 ≡ length stores1 = c.take_event.ensures.as_many in
-    let dev3 = c.commit_if-2.new.dev in
-    g.met.C.Checkpoint.untouched_on dev0 dev2 dev3 q (g.met.C.Checkpoint.untouched_on dev0 dev1 dev2 q (c.commit_if.ensures.others q none) (c.take_event.ensures.others q (no_index_then G stores0 stores1 q (same_stores G stores0 stores1 many1 c.commit_if.ensures.stores) none))) (c.commit_if-2.ensures.others q (no_index_then G stores0 stores2 q (same_stores G stores0 stores2 (many2 ∙ many1) (pair_then stores0 stores1 stores2 many1 (λ i b x z was now. same_then was now) c.commit_if.ensures.stores c.take_event.ensures.stores)) none))
+returns-in_err-commit_if-2-clause-others g c = others_later (two g (goal.at.returns-in_err-commit_if-2-clause-others g c).In_ok-done) c.commit_if-2.new.dev (g.met.C.Checkpoint.untouched_on c.args.dev.now c.take_event.new.dev c.commit_if-2.new.dev) c.commit_if-2.ensures.others
 
 pub returns-in_err-commit_if-2-clause-fell : goal.returns-in_err-commit_if-2-clause-fell
 returns-in_err-commit_if-2-clause-fell g c =
-    let G = g.C.Checkpoint in
-    let p = c.args.p in
-    let processes0 = c.args.processes.now in
-    let slots0 = processes0.slots.items in
-    let stores0 = c.args.stores.now in
-    let dev0 = c.args.dev.now in
-    let processes1 = c.commit_if.new.processes in
-    let slots1 = processes1.slots.items in
-    let stores1 = c.commit_if.new.stores in
-    let dev1 = c.commit_if.new.dev in
-    let ok1 = c.in_ok-commit_if.ensures in
-    let many1 : length stores1 ≡ length stores0 = c.commit_if.ensures.as_many in
-    let processes2 = c.take_event.new.processes in
-    let slots2 = processes2.slots.items in
-    let stores2 = c.take_event.new.stores in
-    let dev2 = c.take_event.new.dev in
-    let many2 : length stores2 ≡ length stores1 = c.take_event.ensures.as_many in
-    let processes3 = c.commit_if-2.new.processes in
-    let stores3 = c.commit_if-2.new.stores in
-    let dev3 = c.commit_if-2.new.dev in
-    let fault = err_from_is_err_and c.from_residual-in_err-commit_if-2.result c.from_residual-in_err-commit_if-2.ensures.1 in
+    let at = goal.at.returns-in_err-commit_if-2-clause-fell g c in
+    let e = at.In_ok-done in
+    let left = c.args.processes.now.left in
+    let slots2 = c.take_event.new.processes.slots.items in
     let broke = c.in_err-commit_if-2.ensures in
-    let new = later 0 (stage_of stores3 dev3 processes3) in
-    subst (λ r. OnErr r (FellTogether G (stage_of stores0 dev0 processes0) new p (answer_of c.args.answer.now))) (sym fault.1) (λ images schedule core together told now world inside given.
-    let a = answer_of c.args.answer.now in
-    let old = stage_of stores0 dev0 processes0 in
-    let inputs = lists_of processes0.inputs.items in
-    let pr = processes0.protocol in
-    let S = system images inputs pr in
-    let y = known stores0 p (subst (λ m. p < m) (sym c.requires.stores) c.requires.process) in
-    let next = c.requires.next y.0 y.1 in
-    let up : (core.procs p).up ≡ true = world.up_are p inside ∙ ap is_up next.there in
-    let go = go_all S schedule processes0.entries core together now p up in
-    let asked = c.asked-asked.result in
-    let asked_is = c.asked-asked.ensures.asked images core together told go inside world in
-    let mid = stage_of stores1 dev1 processes1 in
-    let told1 : IsTold G mid = told_calm G old mid ok1.long ok1.joint.calm told in
-    let rest1 = c.commit_if.ensures.rest in
-    let inputs1 = ap (λ (w : Processes). lists_of w.inputs.items) rest1 in
-    let protocol1 = ap (λ (w : Processes). w.protocol) rest1 in
-    let entries1 = ap (λ (w : Processes). w.entries) rest1 in
-    let gone = stage_of stores2 dev2 processes2 in
-    let ok2 = c.in_ok-done.ensures in
-    let told2 : IsTold G gone = told_calm G mid gone ok2.long ok2.joint.calm told1 in
-    let rest2 = c.take_event.ensures.rest in
-    let inputs2 = ap (λ (w : Processes). lists_of w.inputs.items) rest2 ∙ inputs1 in
-    let protocol2 = ap (λ (w : Processes). w.protocol) rest2 ∙ protocol1 in
-    let gone_counts = counts_gone processes0.left c.requires.left c.asked-asked.result.before slots0 slots1 slots2 ok1.counts c.in_ok-done.ensures.counts c.requires.counts c.asked-asked.result.after (c.asked-asked.ensures.once c.requires.together) in
-    let left2 : processes2.left ≡ processes0.left = ap (λ (w : Processes). w.left) rest2 ∙ ap (λ (w : Processes). w.left) rest1 in
-    let counts : HaveCounts (2 * processes2.left - 1) slots2 = counts_fewer (2 * (processes0.left - 1) + 1) (2 * processes2.left - 1) slots2 (let l = c.requires.left in omega (arith, l, left2)) (subst (λ b. HaveCounts (2 * (processes0.left - 1) + (if b then 1 else 0)) slots2) broke.due gone_counts) in
-    let fell = fell_after G images old together schedule core now told world p inside up a given asked asked_is mid ok1.goes inputs1 protocol1 entries1 told1 gone ok2.happens inputs2 protocol2 told2 new broke.due (broke.torn counts) in
-    (InAfter, λ e. absurd (let no : ⊥ = cc in no), fell.0, fell.1))
+    let left_is : c.take_event.new.processes.left ≡ left = (two g e).left in
+    let counts : HaveCounts (2 * c.take_event.new.processes.left - 1) slots2 = counts_fewer (2 * (left - 1) + 1) (2 * c.take_event.new.processes.left - 1) slots2 (let l = c.requires.left in omega (arith, l, left_is))
+    (subst (λ b. HaveCounts (2 * (left - 1) + (if b then 1 else 0)) slots2) broke.due (counts_second g e)) in
+    any_err c.from_residual-in_err-commit_if-2.result (fell_after (asks g at.After-asked-asked) c.in_ok-commit_if.ensures.goes (begun g e) c.in_ok-done.ensures.happens (second g e)
+    (later 0 (stage_of c.commit_if-2.new.stores c.commit_if-2.new.dev c.commit_if-2.new.processes)) broke.due (broke.torn counts))
 
 pub returns-clause-stores : goal.returns-clause-stores
-returns-clause-stores g c =
-    let stores0 = c.args.stores.now in
-    let stores1 = c.commit_if.new.stores in
-    let many1 : length stores1 ≡ length stores0 = c.commit_if.ensures.as_many in
-    let stores2 = c.take_event.new.stores in
-    let many2 : length stores2 ≡ length stores1 = c.take_event.ensures.as_many in
-    let stores3 = c.commit_if-2.new.stores in
-    pair_then stores0 stores2 stores3 (many2 ∙ many1) (λ i b x z was now. same_then was now) (pair_then stores0 stores1 stores2 many1 (λ i b x z was now. same_then was now) c.commit_if.ensures.stores c.take_event.ensures.stores) c.commit_if-2.ensures.stores
+returns-clause-stores g c = same_later (two g (goal.at.returns-clause-stores g c).In_ok-done) c.commit_if-2.new.stores c.commit_if-2.ensures.stores
 
 pub returns-clause-fit : goal.returns-clause-fit
-returns-clause-fit g c =
-    let processes0 = c.args.processes.now in
-    let slots0 = processes0.slots.items in
-    let processes1 = c.commit_if.new.processes in
-    let slots1 = processes1.slots.items in
-    let ok1 = c.in_ok-commit_if.ensures in
-    let processes2 = c.take_event.new.processes in
-    let slots2 = processes2.slots.items in
-    let gone_counts = counts_gone processes0.left c.requires.left c.asked-asked.result.before slots0 slots1 slots2 ok1.counts c.in_ok-done.ensures.counts c.requires.counts c.asked-asked.result.after (c.asked-asked.ensures.once c.requires.together) in
-    (c.in_ok-commit_if-2.ensures.fit, c.in_ok-commit_if-2.ensures.counts (2 * (processes0.left - 1)) gone_counts)
+returns-clause-fit g c = (c.in_ok-commit_if-2.ensures.fit, c.in_ok-commit_if-2.ensures.counts (2 * (c.args.processes.now.left - 1)) (counts_second g (goal.at.returns-clause-fit g c).In_ok-done))
 
 pub returns-clause-others : goal.returns-clause-others
-returns-clause-others g c q none =
-    let G = g.C.Checkpoint in
-    let stores0 = c.args.stores.now in
-    let dev0 = c.args.dev.now in
-    let stores1 = c.commit_if.new.stores in
-    let dev1 = c.commit_if.new.dev in
-    let many1 : length stores1 ≡ length stores0 = c.commit_if.ensures.as_many in
-    let stores2 = c.take_event.new.stores in
-    let dev2 = c.take_event.new.dev in
-    let many2 : length stores2 ≡ length stores1 = c.take_event.ensures.as_many in
-    let dev3 = c.commit_if-2.new.dev in
-    g.met.C.Checkpoint.untouched_on dev0 dev2 dev3 q (g.met.C.Checkpoint.untouched_on dev0 dev1 dev2 q (c.commit_if.ensures.others q none) (c.take_event.ensures.others q (no_index_then G stores0 stores1 q (same_stores G stores0 stores1 many1 c.commit_if.ensures.stores) none))) (c.commit_if-2.ensures.others q (no_index_then G stores0 stores2 q (same_stores G stores0 stores2 (many2 ∙ many1) (pair_then stores0 stores1 stores2 many1 (λ i b x z was now. same_then was now) c.commit_if.ensures.stores c.take_event.ensures.stores)) none))
+returns-clause-others g c = others_later (two g (goal.at.returns-clause-others g c).In_ok-done) c.commit_if-2.new.dev (g.met.C.Checkpoint.untouched_on c.args.dev.now c.take_event.new.dev c.commit_if-2.new.dev) c.commit_if-2.ensures.others
+
+-- what it showed is what it was to show before the commit
+shows : (g : Over) (c : goal.After-hand_on g) → IsTold g.C.Checkpoint (stage_of c.args.stores.now c.args.dev.now c.args.processes.now) → (z : g.row.C.Denot) → slice_get c.args.stores.now c.args.p ≡ Some z
+    → ShowsNext g.C.Checkpoint z c.args.dev.now (slot_at c.args.processes.now.slots.items c.args.p) c.in_ok-done.done
+shows g c told z at = let ok = c.in_ok-commit_if.ensures in
+    shows_told g.C.Checkpoint g.met.C.Checkpoint.told_contents (begun g (goal.at.returns-clause-showed g c).In_ok-done) c.args.p c.requires.process c.requires.stores c.requires.belongs c.args.call z at (c.requires.next z at) told
+    ok.fit (ok.alike c.args.p c.requires.process) ok.memory c.in_ok-done.done c.in_ok-done.ensures.shown
 
 pub returns-clause-showed : goal.returns-clause-showed
-returns-clause-showed g c =
-    let G = g.C.Checkpoint in
-    let p = c.args.p in
-    let processes0 = c.args.processes.now in
-    let slots0 = processes0.slots.items in
-    let stores0 = c.args.stores.now in
-    let dev0 = c.args.dev.now in
-    let processes1 = c.commit_if.new.processes in
-    let slots1 = processes1.slots.items in
-    let stores1 = c.commit_if.new.stores in
-    let dev1 = c.commit_if.new.dev in
-    let ok1 = c.in_ok-commit_if.ensures in
-    let many1 : length stores1 ≡ length stores0 = c.commit_if.ensures.as_many in
-    record {
-      done = c.in_ok-done.done;
-      mark_is = c.hand_on.ensures.mark;
-      shown_is = c.hand_on.ensures.shown;
-      showed = λ told z at. (let y : (s : _) × (slice_get stores0 p ≡ Some s) = (z, at) in
-          let next = c.requires.next z at in
-          let x = known stores1 p (subst (λ m. p < m) (sym (many1 ∙ c.requires.stores)) c.requires.process) in
-          let f = fit_there G x.0 dev1 (slot_at slots1 p) (ok1.fit p x.0 x.1) in
-          let index0 : G.index y.0 ≡ p = (c.requires.belongs p y.0 y.1).index_is in
-          let index1 : G.index x.0 ≡ p = (c.commit_if.ensures.stores p y.0 x.0 y.1 x.1).index_same ∙ index0 in
-          let words = some_there (G.contents y.0 dev0) (g.met.C.Checkpoint.told_contents y.0 dev0 next.fit.ready (subst (G.told dev0) (sym index0) (told.told p c.requires.process))) in
-          let told_mid : IsTold G (stage_of stores1 dev1 processes1) = told_calm G (stage_of stores0 dev0 processes0) (stage_of stores1 dev1 processes1) ok1.long ok1.joint.calm told in
-          let some1 = g.met.C.Checkpoint.told_contents x.0 dev1 f.fit.ready (subst (G.told dev1) (sym index1) (told_mid.told p (subst (λ m. p < m) (sym ok1.long) c.requires.process))) in
-          let words1 = told_same (G.contents y.0 dev0) (G.contents x.0 dev1) words.0 (ok1.memory p y.0 x.0 y.1 x.1) words.1 some1 in
-          let shows = shows_alike G y.0 x.0 dev0 dev1 (slot_at slots0 p) (slot_at slots1 p) c.args.call next f.up f.there f.fit (ok1.alike p c.requires.process) (ok1.memory p y.0 x.0 y.1 x.1) c.in_ok-done.done words.0 words.1 words1 (c.in_ok-done.ensures.shown x.0 x.1) in
-          shows);
-    }
+returns-clause-showed g c = record { done = c.in_ok-done.done; mark_is = c.hand_on.ensures.mark; shown_is = c.hand_on.ensures.shown; showed = shows g c }
 
 pub returns-clause-went : goal.returns-clause-went
-returns-clause-went g c images schedule core together told now world inside given =
-    let G = g.C.Checkpoint in
-    let p = c.args.p in
-    let processes0 = c.args.processes.now in
-    let slots0 = processes0.slots.items in
-    let stores0 = c.args.stores.now in
-    let dev0 = c.args.dev.now in
-    let processes1 = c.commit_if.new.processes in
-    let slots1 = processes1.slots.items in
-    let stores1 = c.commit_if.new.stores in
-    let dev1 = c.commit_if.new.dev in
-    let ok1 = c.in_ok-commit_if.ensures in
-    let many1 : length stores1 ≡ length stores0 = c.commit_if.ensures.as_many in
-    let processes2 = c.take_event.new.processes in
-    let stores2 = c.take_event.new.stores in
-    let dev2 = c.take_event.new.dev in
-    let processes3 = c.commit_if-2.new.processes in
-    let stores3 = c.commit_if-2.new.stores in
-    let dev3 = c.commit_if-2.new.dev in
-    let a = answer_of c.args.answer.now in
-    let old = stage_of stores0 dev0 processes0 in
-    let inputs = lists_of processes0.inputs.items in
-    let pr = processes0.protocol in
-    let S = system images inputs pr in
-    let y = known stores0 p (subst (λ m. p < m) (sym c.requires.stores) c.requires.process) in
-    let next = c.requires.next y.0 y.1 in
-    let up : (core.procs p).up ≡ true = world.up_are p inside ∙ ap is_up next.there in
-    let go = go_all S schedule processes0.entries core together now p up in
-    let asked = c.asked-asked.result in
-    let asked_is = c.asked-asked.ensures.asked images core together told go inside world in
-    let mid = stage_of stores1 dev1 processes1 in
-    let told1 : IsTold G mid = told_calm G old mid ok1.long ok1.joint.calm told in
-    let rest1 = c.commit_if.ensures.rest in
-    let inputs1 = ap (λ (w : Processes). lists_of w.inputs.items) rest1 in
-    let protocol1 = ap (λ (w : Processes). w.protocol) rest1 in
-    let entries1 = ap (λ (w : Processes). w.entries) rest1 in
-    let gone = stage_of stores2 dev2 processes2 in
-    let ok2 = c.in_ok-done.ensures in
-    let told2 : IsTold G gone = told_calm G mid gone ok2.long ok2.joint.calm told1 in
-    let rest2 = c.take_event.ensures.rest in
-    let inputs2 = ap (λ (w : Processes). lists_of w.inputs.items) rest2 ∙ inputs1 in
-    let protocol2 = ap (λ (w : Processes). w.protocol) rest2 ∙ protocol1 in
-    let x = known stores1 p (subst (λ m. p < m) (sym (many1 ∙ c.requires.stores)) c.requires.process) in
-    let f = fit_there G x.0 dev1 (slot_at slots1 p) (ok1.fit p x.0 x.1) in
-    let index0 : G.index y.0 ≡ p = (c.requires.belongs p y.0 y.1).index_is in
-    let index1 : G.index x.0 ≡ p = (c.commit_if.ensures.stores p y.0 x.0 y.1 x.1).index_same ∙ index0 in
-    let words = some_there (G.contents y.0 dev0) (g.met.C.Checkpoint.told_contents y.0 dev0 next.fit.ready (subst (G.told dev0) (sym index0) (told.told p c.requires.process))) in
-    let told_mid : IsTold G (stage_of stores1 dev1 processes1) = told_calm G (stage_of stores0 dev0 processes0) (stage_of stores1 dev1 processes1) ok1.long ok1.joint.calm told in
-    let some1 = g.met.C.Checkpoint.told_contents x.0 dev1 f.fit.ready (subst (G.told dev1) (sym index1) (told_mid.told p (subst (λ m. p < m) (sym ok1.long) c.requires.process))) in
-    let words1 = told_same (G.contents y.0 dev0) (G.contents x.0 dev1) words.0 (ok1.memory p y.0 x.0 y.1 x.1) words.1 some1 in
-    let shows = shows_alike G y.0 x.0 dev0 dev1 (slot_at slots0 p) (slot_at slots1 p) c.args.call next f.up f.there f.fit (ok1.alike p c.requires.process) (ok1.memory p y.0 x.0 y.1 x.1) c.in_ok-done.done words.0 words.1 words1 (c.in_ok-done.ensures.shown x.0 x.1) in
-    let here = here_going G S core old go world p inside y.0 y.1 next.up next.there words.0 words.1 in
-    let showed = told_at (λ ws. c.in_ok-done.done ≡ shown_of (effect_of (event_of (next_of (over next.up.guest ws)) (machine_over next.up.guest ws))) next.up.kernel.visible) (G.contents y.0 dev0) words.0 words.1 (shows next.up next.there) in
-    let lines = shown_is images inputs pr p _ (core.procs p) words.0 next.up next.fit.whole here next.runs a (called_by (next_of (over next.up.guest words.0))) c.in_ok-done.done refl showed in
-    went_whole G images old together schedule core now told world p inside up a given asked asked_is mid ok1.goes inputs1 protocol1 entries1 told1 gone ok2.happens inputs2 protocol2 told2
-    (stage_of stores3 dev3 processes3) (length (lines_of c.hand_on.new.shown)) c.in_ok-commit_if-2.ensures.goes (ap (λ vs. length vs) lines ∙ ap (λ v. length (lines_of v)) (sym c.hand_on.ensures.shown))
+returns-clause-went g c =
+    let at = goal.at.returns-clause-went g c in
+    let s = at.After-asked-asked in
+    let e = at.In_ok-done in
+    let y = store g s in
+    went_whole (asks g s) c.in_ok-commit_if.ensures.goes (begun g e) c.in_ok-done.ensures.happens (second g e) (stage_of c.commit_if-2.new.stores c.commit_if-2.new.dev c.commit_if-2.new.processes) (length (lines_of c.hand_on.new.shown)) c.in_ok-commit_if-2.ensures.goes
+    (λ images core told go inside world. let words = memory_told g.C.Checkpoint g.met.C.Checkpoint.told_contents (begun g e) c.args.p c.requires.process c.requires.stores c.requires.belongs c.args.call y.0 y.1 (c.requires.next y.0 y.1) told in
+    lines_told g.C.Checkpoint (stage_of c.args.stores.now c.args.dev.now c.args.processes.now) images core (answer_of c.args.answer.now) told go c.args.p inside world y.0 y.1 c.args.call (c.requires.next y.0 y.1) words.0 words.1 (returns-clause-showed g c))

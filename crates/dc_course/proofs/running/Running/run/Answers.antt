@@ -2,7 +2,7 @@ use Rattle.std.proofs.Common.{◌≡◌, ◌≢◌, ◌⊎◌, ◌∙◌, ◌<�
 use Rattle.std.proofs.lemmas.Bool.{cases_Bool}
 use Rattle.std.proofs.lemmas.List.{length-append}
 use Rattle.std.proofs.lemmas.Option.{slice_get-get_or}
-use Rattle.dc_course.proofs.Between.{counted_twice, entry_at, later_on, runs_more, runs_off, tells_on, told_between}
+use Rattle.dc_course.proofs.Between.{come_between, come_on, counted_twice, entry_at, later_on, runs_more, runs_off, tells_on}
 use Rattle.dc_audit.specs.Journals.{IsOfSixteen}
 use Rattle.dc_course.proofs.Journaling.{keeps_ended, keeps_more, stopped_or, unstopped_more}
 use Rattle.dc_course.proofs.Partaking.{cut_none, no_one, none_of, one_stopped, part_inside, rose_from, setting_kept}
@@ -27,10 +27,9 @@ returns-in-Err-clause-others g c q high = g.met.C.Checkpoint.untouched_on c.args
     (c.entry.ensures.others q (let long = c.loop-entry.invariant.long in omega (arith, long, high)))
 
 pub returns-in-Err-clause-runs_off : goal.returns-in-Err-clause-runs_off
-returns-in-Err-clause-runs_off g c fault e = runs_off g.C.Checkpoint c.args.schedule.now _ (moment_of c.args.self.now c.args.dev.now (g.O.Sink.held c.args.out.now)) (moment_of c.loop-entry.self c.loop-entry.dev (g.O.Sink.held c.loop-entry.out))
-    (moment_of c.entry.new.self c.entry.new.dev (g.O.Sink.held c.entry.new.out))
-    (ap (slice_get c.args.schedule.now) c.loop-entry.invariant.marks ∙ slice_get-get_or c.args.schedule.now c.loop-entry.entry-index _ c.loop-entry-test.true)
-    c.loop-entry.invariant.long c.entry.ensures.long c.loop-entry.invariant.tells c.entry.ensures.later c.loop-entry.invariant.runs fault (c.in-Err.ensures.steps_off fault (let same : c.in-Err.fault ≡ fault = cc in ap Err same))
+returns-in-Err-clause-runs_off g c fault e = runs_off g.C.Checkpoint (moment_of c.args.self.now c.args.dev.now (g.O.Sink.held c.args.out.now)) (moment_of c.loop-entry.self c.loop-entry.dev (g.O.Sink.held c.loop-entry.out))
+    (moment_of c.entry.new.self c.entry.new.dev (g.O.Sink.held c.entry.new.out)) c.loop-entry.invariant.long c.entry.ensures.long c.loop-entry.invariant.tells c.entry.ensures.later c.args.schedule.now c.loop-entry.invariant.runs _
+    (ap (slice_get c.args.schedule.now) c.loop-entry.invariant.marks ∙ slice_get-get_or c.args.schedule.now c.loop-entry.entry-index _ c.loop-entry-test.true) fault (c.in-Err.ensures.steps_off fault (let same : c.in-Err.fault ≡ fault = cc in ap Err same))
 
 pub returns-in-Err-clause-stops : goal.returns-in-Err-clause-stops
 returns-in-Err-clause-stops g c setting p of planned is below =
@@ -101,37 +100,36 @@ loop-entry-preserved g c = record {
   marks = (let more = ap (λ ms. length ms) c.in-Ok.ensures.noted ∙ length-append c.loop-entry.self.marks.items (c.in-Ok.mark ∷ []) in let so_far = c.loop-entry.invariant.marks in omega (arith, more, so_far));
   left = (let one = c.entry.ensures.left in let some = c.loop-entry.invariant.left in omega (arith, one, some));
   room = (let before = c.loop-entry.invariant.room in let more = c.entry.ensures.room in omega (arith, before, more));
-  runs = runs_more g.C.Checkpoint c.args.schedule.now _ (moment_of c.args.self.now c.args.dev.now (g.O.Sink.held c.args.out.now)) (moment_of c.loop-entry.self c.loop-entry.dev (g.O.Sink.held c.loop-entry.out))
-      (moment_of c.entry.new.self c.entry.new.dev (g.O.Sink.held c.entry.new.out))
-      (ap (slice_get c.args.schedule.now) c.loop-entry.invariant.marks ∙ slice_get-get_or c.args.schedule.now c.loop-entry.entry-index _ c.loop-entry-test.true)
-      c.loop-entry.invariant.long c.entry.ensures.long c.loop-entry.invariant.tells c.entry.ensures.later c.loop-entry.invariant.runs c.in-Ok.ensures.steps_on;
+  runs = runs_more g.C.Checkpoint (moment_of c.args.self.now c.args.dev.now (g.O.Sink.held c.args.out.now)) (moment_of c.loop-entry.self c.loop-entry.dev (g.O.Sink.held c.loop-entry.out))
+      (moment_of c.entry.new.self c.entry.new.dev (g.O.Sink.held c.entry.new.out)) c.loop-entry.invariant.long c.entry.ensures.long c.loop-entry.invariant.tells c.entry.ensures.later c.args.schedule.now c.loop-entry.invariant.runs _
+      (ap (slice_get c.args.schedule.now) c.loop-entry.invariant.marks ∙ slice_get-get_or c.args.schedule.now c.loop-entry.entry-index _ c.loop-entry-test.true) c.in-Ok.ensures.steps_on;
   lasts = g.met.C.Planned.lasts_on c.args.dev.now c.loop-entry.dev c.entry.new.dev c.loop-entry.invariant.lasts c.entry.ensures.lasts;
   stops = λ setting p of planned is below. counted_twice setting p c.args.self.now.marks.items c.loop-entry.self.marks.items c.entry.new.self.marks.items _ _ _
       (c.loop-entry.invariant.stops setting p of planned is (λ q less. let l = c.entry.ensures.later q in let small = below q less in omega (arith, l.0, small)))
       (c.entry.ensures.stops setting p (setting_kept c.args.self.now (record { world = c.loop-entry.self.world; marks = c.loop-entry.self.marks; journal = c.leave-count.new.self; from = c.loop-entry.self.from }) setting of c.loop-entry.invariant.protocol c.loop-entry.invariant.long c.loop-entry.invariant.from) (planned ∙ sym (g.met.C.Planned.planned_same c.args.dev.now c.loop-entry.dev c.loop-entry.invariant.lasts))
       (entry_at setting c.args.schedule.now (length c.loop-entry.self.marks.items) _ is (ap (slice_get c.args.schedule.now) c.loop-entry.invariant.marks ∙ slice_get-get_or c.args.schedule.now c.loop-entry.entry-index _ c.loop-entry-test.true)) below);
-  comes = λ setting begun ok of planned is before first told still start so_far.
-      let x = stage_in c.args.self.now.world c.args.dev.now in
-      let mid = stage_in c.loop-entry.self.world c.loop-entry.dev in
+  comes = λ setting begun of planned is before first come so_far.
       let new = stage_in c.entry.new.self.world c.entry.new.dev in
       let marks = c.loop-entry.self.marks.items in
       let m = c.in-Ok.mark in
       let same = c.in-Ok.ensures.noted in
       let at = entry_at setting c.args.schedule.now (length marks) _ is (ap (slice_get c.args.schedule.now) c.loop-entry.invariant.marks ∙ slice_get-get_or c.args.schedule.now c.loop-entry.entry-index _ c.loop-entry-test.true) in
       let kept = setting_kept c.args.self.now (record { world = c.loop-entry.self.world; marks = c.loop-entry.self.marks; journal = c.leave-count.new.self; from = c.loop-entry.self.from }) setting of c.loop-entry.invariant.protocol c.loop-entry.invariant.long c.loop-entry.invariant.from in
-      let between = told_between g.C.Checkpoint x mid new c.loop-entry.invariant.long c.entry.ensures.long c.loop-entry.invariant.tells c.entry.ensures.later told still in
-      let r0 = c.loop-entry.invariant.runs setting begun first ok is told between start in
-      let r1 = c.in-Ok.ensures.steps_on setting begun first ok at between still r0 in
+      let between = come_between g.C.Checkpoint (moment_of c.args.self.now c.args.dev.now (g.O.Sink.held c.args.out.now)) (moment_of c.loop-entry.self c.loop-entry.dev (g.O.Sink.held c.loop-entry.out)) (moment_of c.entry.new.self c.entry.new.dev (g.O.Sink.held c.entry.new.out))
+      c.loop-entry.invariant.long c.entry.ensures.long c.loop-entry.invariant.tells c.entry.ensures.later setting begun first come in
+      let on = come_on g.C.Checkpoint (moment_of c.args.self.now c.args.dev.now (g.O.Sink.held c.args.out.now)) (moment_of c.loop-entry.self c.loop-entry.dev (g.O.Sink.held c.loop-entry.out)) (moment_of c.entry.new.self c.entry.new.dev (g.O.Sink.held c.entry.new.out))
+      c.loop-entry.invariant.long c.entry.ensures.long c.loop-entry.invariant.tells c.entry.ensures.later c.args.schedule.now c.loop-entry.invariant.runs setting begun first come is in
+      let r1 = c.in-Ok.ensures.steps_on setting begun first on at in
       let shown = moment_is g.C.Checkpoint setting begun c.entry.new.self.world.stores.items c.entry.new.dev c.entry.new.self.world.processes c.entry.new.self.marks.items (output first (g.O.Sink.held c.entry.new.out)) r1 c.entry.ensures.ready in
       let long : length setting.images ≡ length new.slots = r1.world.count_is in
       subst (λ ms. Moments setting (start_at setting begun) (λ core d. StoresLeft g.C.Checkpoint setting core d) g.C.Planned.calls before (reverse ms) c.entry.new.dev) (sym same)
       (moments_more setting (start_at setting begun) (λ core d. StoresLeft g.C.Checkpoint setting core d) g.C.Planned.calls before marks m c.loop-entry.dev c.entry.new.dev
-      (c.loop-entry.invariant.comes setting begun ok of planned is before first told between start so_far)
+      (c.loop-entry.invariant.comes setting begun of planned is before first between so_far)
       (record {
         later = λ p inside. g.met.C.Planned.calls_later c.loop-entry.dev c.entry.new.dev p c.entry.ensures.lasts;
         come = λ p inside. unstopped_in (record { world = c.loop-entry.self.world; marks = c.loop-entry.self.marks; journal = c.leave-count.new.self; from = c.loop-entry.self.from }) setting (g.C.Planned.planned c.loop-entry.dev) _ m p (g.C.Planned.calls c.loop-entry.dev p) (g.C.Planned.calls c.entry.new.dev p) kept
             (planned ∙ sym (g.met.C.Planned.planned_same c.args.dev.now c.loop-entry.dev c.loop-entry.invariant.lasts)) at inside
-            (λ whole part. c.in-Ok.ensures.come p whole part (still.stops p (subst (λ n. p < n) long inside)) (still.faults p (subst (λ n. p < n) long inside)));
+            (λ whole part. c.in-Ok.ensures.come p whole part (come.tells.stops p (subst (λ n. p < n) long inside)) (come.tells.faults p (subst (λ n. p < n) long inside)));
       })
       (subst (λ ms. IsMoment setting (start_at setting begun) (λ core d. StoresLeft g.C.Checkpoint setting core d) (reverse ms) c.entry.new.dev) same shown));
   planned = λ p. let before = c.loop-entry.invariant.planned p in let more = c.entry.ensures.once p in omega (arith, before, more);
@@ -156,20 +154,21 @@ loop-entry-preserved g c = record {
 }
 
 pub returns-in-Err-clause-come : goal.returns-in-Err-clause-come
-returns-in-Err-clause-come g c setting begun ok of planned is before first told still start so_far =
+returns-in-Err-clause-come g c setting begun of planned is before first come so_far =
     let mid = c.loop-entry.dev in
-    let between = told_between g.C.Checkpoint (stage_in c.args.self.now.world c.args.dev.now) (stage_in c.loop-entry.self.world mid) (stage_in c.entry.new.self.world c.entry.new.dev) c.loop-entry.invariant.long c.entry.ensures.long c.loop-entry.invariant.tells c.entry.ensures.later told still in (
+    let between = come_between g.C.Checkpoint (moment_of c.args.self.now c.args.dev.now (g.O.Sink.held c.args.out.now)) (moment_of c.loop-entry.self mid (g.O.Sink.held c.loop-entry.out)) (moment_of c.entry.new.self c.entry.new.dev (g.O.Sink.held c.entry.new.out))
+    c.loop-entry.invariant.long c.entry.ensures.long c.loop-entry.invariant.tells c.entry.ensures.later setting begun first come in (
       mid,
       subst (λ ms. Moments setting (start_at setting begun) (λ core d. StoresLeft g.C.Checkpoint setting core d) g.C.Planned.calls before (reverse ms) mid) (sym c.in-Err.ensures.unmarked)
-          (c.loop-entry.invariant.comes setting begun ok of planned is before first told between start so_far),
+          (c.loop-entry.invariant.comes setting begun of planned is before first between so_far),
       λ p inside. g.met.C.Planned.calls_later mid c.entry.new.dev p c.entry.ensures.lasts,
       λ ends. absurd (cc),
     )
 
 pub returns-clause-come : goal.returns-clause-come
-returns-clause-come g c setting begun ok of planned is before first told still start so_far = (
+returns-clause-come g c setting begun of planned is before first come so_far = (
   c.loop-entry.dev,
-  c.loop-entry.invariant.comes setting begun ok of planned is before first told still start so_far,
+  c.loop-entry.invariant.comes setting begun of planned is before first come so_far,
   λ p inside. omega arith,
   λ ends. refl,
 )
@@ -189,9 +188,9 @@ returns-in-Err-clause-journal g c keeps =
     (c.cut_off.ensures.lines ∙ ap (λ (j : Journal). take c.leave-count.result j.lines.items) c.entry.ensures.journal ∙ c.leave-count.ensures.behind)
 
 pub returns-then-is_some-clause-come : goal.returns-then-is_some-clause-come
-returns-then-is_some-clause-come g c setting begun ok of planned is before first told still start so_far = (
+returns-then-is_some-clause-come g c setting begun of planned is before first come so_far = (
   c.loop-entry.dev,
-  c.loop-entry.invariant.comes setting begun ok of planned is before first told still start so_far,
+  c.loop-entry.invariant.comes setting begun of planned is before first come so_far,
   λ p inside. omega arith,
   λ ends. refl,
 )

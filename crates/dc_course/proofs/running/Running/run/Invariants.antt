@@ -5,12 +5,12 @@ use Rattle.dc_media.specs.Causes.{Rose}
 use Rattle.dc_recovery.specs.Unstopped.{Unstopped}
 use Rattle.dc_course.proofs.Between.{Later}
 use Rattle.dc_course.specs.Headline.{IsCountedOn, Setting}
-use Rattle.dc_course.specs.Running.{CanBegin, IsRest, IsRunning, IsSettingOf, RunsOn, moment_of, output}
+use Rattle.dc_course.specs.Running.{HasCome, IsRest, IsSettingOf, RunsOn, moment_of}
 use Rattle.dc_course.specs.Traces.{StoreMoments}
 use Rattle.dc_media.specs.Told.{TellsOn}
 use Rattle.dc_recovery.specs.Core.{Core}
-use Rattle.dc_processes.specs.Stages.{IsTold, KeepsTelling}
-use Rattle.dc_world.specs.Worlds.{MayRun, stage_in}
+use Rattle.dc_processes.specs.Stages.{KeepsTelling}
+use Rattle.dc_world.specs.Worlds.{MayRun}
 use Rattle.dc_course.proofs.running.Running.run.Given as goal
 
 -- the entries so far have led the run on, each with its mark
@@ -27,8 +27,8 @@ invariant-loop-entry g l = let O = g.O.Sink in let C = g.C.Checkpoint in record 
   lasts : g.C.Planned.lasts l.fn.dev l.dev;
   stops : (setting : Setting) (p : ℕ) → IsSettingOf l.fn.self setting → setting.stops ≡ g.C.Planned.planned l.fn.dev → IsRest setting l.schedule → ((q : ℕ) → q < length setting.images → C.stops l.dev q < 2 ^ 64 - 1)
       → IsCountedOn setting p l.fn.self.marks.items l.self.marks.items (g.C.Planned.unplanned l.fn.dev) (g.C.Planned.unplanned l.dev);
-  comes : (setting : Setting) (begun : Core) → CanBegin setting begun → IsSettingOf l.fn.self setting → setting.stops ≡ g.C.Planned.planned l.fn.dev → IsRest setting l.schedule
-      → (before : _) (first : Option (List ℕ)) → IsTold C (stage_in l.fn.self.world l.fn.dev) → IsTold C (stage_in l.self.world l.dev) → IsRunning C setting begun (stage_in l.fn.self.world l.fn.dev) l.fn.self.marks.items (output first (O.held l.fn.out))
+  comes : (setting : Setting) (begun : Core) → IsSettingOf l.fn.self setting → setting.stops ≡ g.C.Planned.planned l.fn.dev → IsRest setting l.schedule
+      → (before : _) (first : Option (List ℕ)) → HasCome C setting begun first (moment_of l.fn.self l.fn.dev (O.held l.fn.out)) (moment_of l.self l.dev (O.held l.out))
       → StoreMoments C g.C.Planned.calls setting begun before (moment_of l.fn.self l.fn.dev (O.held l.fn.out)) l.fn.dev → StoreMoments C g.C.Planned.calls setting begun before (moment_of l.self l.dev (O.held l.out)) l.dev;
   planned : (p : ℕ) → C.stops l.dev p + g.C.Planned.unplanned l.fn.dev p ≤ g.C.Planned.unplanned l.dev p + C.stops l.fn.dev p + l.entry-index;
   later : Later C l.fn.dev l.dev;

@@ -2,7 +2,7 @@ use Rattle.std.proofs.Common.{◌≡◌, ◌∷◌, ◌++◌, [], All, List, sub
 use Rattle.std.proofs.lemmas.List.Elements.{All-append, All-cons, All-nil}
 use Rattle.dc_elf.specs.declared.image.Image.{Image}
 use Rattle.dc_elf.specs.Loaded.{CanStart}
-use Rattle.dc_world.specs.Opened.{CanOpen}
+use Rattle.dc_world.specs.Openable.{CanOpen}
 use Rattle.dc_course_tests.proofs.runs.guests.images.Goals as goal
 
 -- one more of which it holds

@@ -1,6 +1,6 @@
 use Rattle.std.specs.Prelude.{All}
 use Rattle.dc_elf.specs.Loaded.{CanStart}
-use Rattle.dc_world.specs.Opened.{CanOpen}
+use Rattle.dc_world.specs.Openable.{CanOpen}
 use Rattle.dc_course_tests.proofs.runs.guests.images.Given as goal
 
 -- guests can begin in those so far

@@ -24,7 +24,7 @@ use Rattle.dc_proc.specs.Ups.{held}
 use Rattle.dc_proc.specs.declared.up.Up.{Up}
 use Rattle.dc_protocols.specs.declared.protocol.Rule.{Rule}
 use Rattle.dc_recovery.specs.Alone.{answers_alone}
-use Rattle.dc_recovery.specs.Parts.{fallen, first_of, passed, second_of, sets_unlogged, torn, torn_log}
+use Rattle.dc_recovery.specs.Parts.{fallen, first_of, event_later, second_of, sets_unlogged, torn, torn_log}
 use Rattle.dc_recovery.specs.Parts.Place.{Nowhere}
 use Rattle.dc_recovery.specs.Saves.{answer_at}
 use Rattle.dc_proc.proofs.up.Up.take.Goals as goal
@@ -141,15 +141,15 @@ returns-in_err-commit_if-2-clause-stopped g c = any_err c.from_residual-in_err-c
     let there : answer_at (second_of c.rule-asked.result.log (record { position = st.position; answer = (answer_of c.args.answer.now) }) (first_of c.rule-asked.result.before st)).position (answers_alone answers st (answer_of c.args.answer.now) Nowhere) ≡ Some (answer_of c.args.answer.now) = subst (λ i. answer_at i (answers_alone answers st (answer_of c.args.answer.now) Nowhere) ≡ Some (answer_of c.args.answer.now)) (sym (second_at c.rule-asked.result.log (record { position = st.position; answer = (answer_of c.args.answer.now) }) (first_of c.rule-asked.result.before st) ∙ first_at c.rule-asked.result.before st)) (answer_there (system images inputs c.args.self.now.protocol) p answers st (answer_of c.args.answer.now) alone) in
     let same2 = same_twice (g.C.Checkpoint.contents c.args.store.now c.args.dev.now) (g.C.Checkpoint.contents c.commit_if.new.store c.commit_if.new.dev) (g.C.Checkpoint.contents c.append_if.new.store c.append_if.new.dev) c.in_ok-commit_if.ensures.memory c.in_ok-append_if.ensures.memory in
     let guest2 = c.in_ok-append_if.ensures.guest ∙ c.in_ok-commit_if.ensures.guest in
-    let over4 : IsOver (system images inputs c.args.self.now.protocol) p (answers_alone answers st (answer_of c.args.answer.now) Nowhere) (passed c.replays-replay.result (sets_unlogged c.rule-asked.result.log c.replays-replay.result (answer_of c.args.answer.now)) (second_of c.rule-asked.result.log (record { position = st.position; answer = (answer_of c.args.answer.now) }) (first_of c.rule-asked.result.before st))) (g.C.Checkpoint.contents c.advance.new.store c.advance.new.dev) (held c.note_event-shown.new.self) (g.C.Checkpoint.leaves c.advance.new.store c.advance.new.dev d) = over_next images inputs c.args.self.now.protocol p (answers_alone answers st (answer_of c.args.answer.now) Nowhere) (second_of c.rule-asked.result.log (record { position = st.position; answer = (answer_of c.args.answer.now) }) (first_of c.rule-asked.result.before st)) (answer_of c.args.answer.now) there c.append_if.new.self c.note_event-shown.new.self c.in_ok-append_if.ensures.whole (whole_next c.append_if.new.self c.note_event-shown.new.self c.in_ok-append_if.ensures.whole (ap (λ (b : Bare). b.ended) (c.in_ok-append_if.ensures.guest ∙ c.in_ok-commit_if.ensures.guest) ∙ c.requires.runs) c.args.next.now (answer_of c.args.answer.now) c.effect-effect.result (search rules) (search rules) (search rules) (search rules) (search rules)) (ap (λ (b : Bare). b.ended) guest2 ∙ c.requires.runs) c.args.next.now c.effect-effect.result c.replays-replay.result c.rule-asked.result.log
+    let over4 : IsOver (system images inputs c.args.self.now.protocol) p (answers_alone answers st (answer_of c.args.answer.now) Nowhere) (event_later c.replays-replay.result (sets_unlogged c.rule-asked.result.log c.replays-replay.result (answer_of c.args.answer.now)) (second_of c.rule-asked.result.log (record { position = st.position; answer = (answer_of c.args.answer.now) }) (first_of c.rule-asked.result.before st))) (g.C.Checkpoint.contents c.advance.new.store c.advance.new.dev) (held c.note_event-shown.new.self) (g.C.Checkpoint.leaves c.advance.new.store c.advance.new.dev d) = over_next images inputs c.args.self.now.protocol p (answers_alone answers st (answer_of c.args.answer.now) Nowhere) (second_of c.rule-asked.result.log (record { position = st.position; answer = (answer_of c.args.answer.now) }) (first_of c.rule-asked.result.before st)) (answer_of c.args.answer.now) there c.append_if.new.self c.note_event-shown.new.self c.in_ok-append_if.ensures.whole (whole_next c.append_if.new.self c.note_event-shown.new.self c.in_ok-append_if.ensures.whole (ap (λ (b : Bare). b.ended) (c.in_ok-append_if.ensures.guest ∙ c.in_ok-commit_if.ensures.guest) ∙ c.requires.runs) c.args.next.now (answer_of c.args.answer.now) c.effect-effect.result (search rules) (search rules) (search rules) (search rules) (search rules)) (ap (λ (b : Bare). b.ended) guest2 ∙ c.requires.runs) c.args.next.now c.effect-effect.result c.replays-replay.result c.rule-asked.result.log
     (search rules) (search rules) (search rules) (search rules) (search rules) (search rules) (g.C.Checkpoint.contents c.append_if.new.store c.append_if.new.dev) (g.C.Checkpoint.contents c.advance.new.store c.advance.new.dev) (g.C.Checkpoint.leaves c.append_if.new.store c.append_if.new.dev d) (g.C.Checkpoint.leaves c.advance.new.store c.advance.new.dev d) over2
     (still (λ ws. c.args.next.now ≡ next_of (over c.append_if.new.self.guest ws)) (g.C.Checkpoint.contents c.args.store.now c.args.dev.now) (g.C.Checkpoint.contents c.append_if.new.store c.append_if.new.dev) same2 (subst (λ (b : Bare). IfSome (g.C.Checkpoint.contents c.args.store.now c.args.dev.now) (λ ws. c.args.next.now ≡ next_of (over b ws))) (sym guest2) c.requires.found))
     (still (λ ws. c.effect-effect.result ≡ effect_of (event_of c.args.next.now (machine_over c.append_if.new.self.guest ws))) (g.C.Checkpoint.contents c.args.store.now c.args.dev.now) (g.C.Checkpoint.contents c.append_if.new.store c.append_if.new.dev) same2 (subst (λ (b : Bare). IfSome (g.C.Checkpoint.contents c.args.store.now c.args.dev.now) (λ ws. c.effect-effect.result ≡ effect_of (event_of c.args.next.now (machine_over b ws)))) (sym guest2) c.effect-effect.ensures.effect))
     (search rules) (λ r l. c.in_ok-advance.ensures.stores.adds_nothing.stands d r from2 l) in
     let from4 : g.C.Checkpoint.floor c.advance.new.store ≤ d = omega (arith, from2, c.in_ok-advance.ensures.stores.call.floor) in
     stopped_after images inputs c.args.self.now.protocol p answers st (answer_of c.args.answer.now) words c.args.self.now c.requires.whole here c.requires.runs stood.going c.requires.sender c.args.next.now c.kind-kind.result c.rule-asked.result c.replays-replay.result found c.kind-kind.ensures c.rule-asked.ensures c.replays-replay.ensures (slice_index c.args.self.now.others.items) (g.C.Checkpoint.leaves c.commit_if-2.new.store c.commit_if-2.new.dev d) (record { before = c.args.acts.now.items; more = acts_with c.args.acts.now.items c.args.self.now.kernel c.args.t (answer_of c.args.answer.now); after = c.add_act.new.acts.items }) c.commit_if-2.new.self.based.items c.in_err-commit_if-2.ensures.due
-    (stands_as (system images inputs c.args.self.now.protocol) p (answers_alone answers st (answer_of c.args.answer.now) Nowhere) (torn (passed c.replays-replay.result (sets_unlogged c.rule-asked.result.log c.replays-replay.result (answer_of c.args.answer.now)) (second_of c.rule-asked.result.log (record { position = st.position; answer = (answer_of c.args.answer.now) }) (first_of c.rule-asked.result.before st)))) (g.C.Checkpoint.leaves c.commit_if-2.new.store c.commit_if-2.new.dev d) c.note_event-shown.new.self.others.items c.args.self.now.others.items (search rules)
-    (c.in_err-commit_if-2.ensures.torn images inputs c.args.self.now.protocol p (answers_alone answers st (answer_of c.args.answer.now) Nowhere) (passed c.replays-replay.result (sets_unlogged c.rule-asked.result.log c.replays-replay.result (answer_of c.args.answer.now)) (second_of c.rule-asked.result.log (record { position = st.position; answer = (answer_of c.args.answer.now) }) (first_of c.rule-asked.result.before st))) d from4 over4))
+    (stands_as (system images inputs c.args.self.now.protocol) p (answers_alone answers st (answer_of c.args.answer.now) Nowhere) (torn (event_later c.replays-replay.result (sets_unlogged c.rule-asked.result.log c.replays-replay.result (answer_of c.args.answer.now)) (second_of c.rule-asked.result.log (record { position = st.position; answer = (answer_of c.args.answer.now) }) (first_of c.rule-asked.result.before st)))) (g.C.Checkpoint.leaves c.commit_if-2.new.store c.commit_if-2.new.dev d) c.note_event-shown.new.self.others.items c.args.self.now.others.items (search rules)
+    (c.in_err-commit_if-2.ensures.torn images inputs c.args.self.now.protocol p (answers_alone answers st (answer_of c.args.answer.now) Nowhere) (event_later c.replays-replay.result (sets_unlogged c.rule-asked.result.log c.replays-replay.result (answer_of c.args.answer.now)) (second_of c.rule-asked.result.log (record { position = st.position; answer = (answer_of c.args.answer.now) }) (first_of c.rule-asked.result.before st))) d from4 over4))
     (c.add_act.ensures.acts ∙ acts_same c.args.acts.now.items c.args.self.now.kernel c.commit_if.new.self.kernel c.args.t (answer_of c.args.answer.now) bare1)
     (parts_based (system images inputs c.args.self.now.protocol) p answers st (answer_of c.args.answer.now) words (held c.args.self.now) here stood.going c.rule-asked.result.before c.rule-asked.result.log (record { position = st.position; answer = (answer_of c.args.answer.now) }) c.commit_if-2.new.self.based.items c.commit_if.new.self.based.items
     c.in_ok-commit_if.ensures.copied (λ f. ap (λ (u : Up). u.based.items) (c.in_ok-commit_if.ensures.kept f)) (c.in_err-commit_if-2.ensures.based ∙ ap (λ (u : Up). u.based.items) c.note_event-shown.ensures.rest ∙ ap (λ (u : Up). u.based.items) c.advance.ensures.rest ∙ c.append_if.ensures.based)))
@@ -170,13 +170,13 @@ returns-clause-goes g c images inputs p answers st d words from told stood alone
     let there : answer_at (second_of c.rule-asked.result.log (record { position = st.position; answer = (answer_of c.args.answer.now) }) (first_of c.rule-asked.result.before st)).position (answers_alone answers st (answer_of c.args.answer.now) Nowhere) ≡ Some (answer_of c.args.answer.now) = subst (λ i. answer_at i (answers_alone answers st (answer_of c.args.answer.now) Nowhere) ≡ Some (answer_of c.args.answer.now)) (sym (second_at c.rule-asked.result.log (record { position = st.position; answer = (answer_of c.args.answer.now) }) (first_of c.rule-asked.result.before st) ∙ first_at c.rule-asked.result.before st)) (answer_there (system images inputs c.args.self.now.protocol) p answers st (answer_of c.args.answer.now) alone) in
     let same2 = same_twice (g.C.Checkpoint.contents c.args.store.now c.args.dev.now) (g.C.Checkpoint.contents c.commit_if.new.store c.commit_if.new.dev) (g.C.Checkpoint.contents c.append_if.new.store c.append_if.new.dev) c.in_ok-commit_if.ensures.memory c.in_ok-append_if.ensures.memory in
     let guest2 = c.in_ok-append_if.ensures.guest ∙ c.in_ok-commit_if.ensures.guest in
-    let over4 : IsOver (system images inputs c.args.self.now.protocol) p (answers_alone answers st (answer_of c.args.answer.now) Nowhere) (passed c.replays-replay.result (sets_unlogged c.rule-asked.result.log c.replays-replay.result (answer_of c.args.answer.now)) (second_of c.rule-asked.result.log (record { position = st.position; answer = (answer_of c.args.answer.now) }) (first_of c.rule-asked.result.before st))) (g.C.Checkpoint.contents c.advance.new.store c.advance.new.dev) (held c.note_event-shown.new.self) (g.C.Checkpoint.leaves c.advance.new.store c.advance.new.dev d) = over_next images inputs c.args.self.now.protocol p (answers_alone answers st (answer_of c.args.answer.now) Nowhere) (second_of c.rule-asked.result.log (record { position = st.position; answer = (answer_of c.args.answer.now) }) (first_of c.rule-asked.result.before st)) (answer_of c.args.answer.now) there c.append_if.new.self c.note_event-shown.new.self c.in_ok-append_if.ensures.whole (whole_next c.append_if.new.self c.note_event-shown.new.self c.in_ok-append_if.ensures.whole (ap (λ (b : Bare). b.ended) (c.in_ok-append_if.ensures.guest ∙ c.in_ok-commit_if.ensures.guest) ∙ c.requires.runs) c.args.next.now (answer_of c.args.answer.now) c.effect-effect.result (search rules) (search rules) (search rules) (search rules) (search rules)) (ap (λ (b : Bare). b.ended) guest2 ∙ c.requires.runs) c.args.next.now c.effect-effect.result c.replays-replay.result c.rule-asked.result.log
+    let over4 : IsOver (system images inputs c.args.self.now.protocol) p (answers_alone answers st (answer_of c.args.answer.now) Nowhere) (event_later c.replays-replay.result (sets_unlogged c.rule-asked.result.log c.replays-replay.result (answer_of c.args.answer.now)) (second_of c.rule-asked.result.log (record { position = st.position; answer = (answer_of c.args.answer.now) }) (first_of c.rule-asked.result.before st))) (g.C.Checkpoint.contents c.advance.new.store c.advance.new.dev) (held c.note_event-shown.new.self) (g.C.Checkpoint.leaves c.advance.new.store c.advance.new.dev d) = over_next images inputs c.args.self.now.protocol p (answers_alone answers st (answer_of c.args.answer.now) Nowhere) (second_of c.rule-asked.result.log (record { position = st.position; answer = (answer_of c.args.answer.now) }) (first_of c.rule-asked.result.before st)) (answer_of c.args.answer.now) there c.append_if.new.self c.note_event-shown.new.self c.in_ok-append_if.ensures.whole (whole_next c.append_if.new.self c.note_event-shown.new.self c.in_ok-append_if.ensures.whole (ap (λ (b : Bare). b.ended) (c.in_ok-append_if.ensures.guest ∙ c.in_ok-commit_if.ensures.guest) ∙ c.requires.runs) c.args.next.now (answer_of c.args.answer.now) c.effect-effect.result (search rules) (search rules) (search rules) (search rules) (search rules)) (ap (λ (b : Bare). b.ended) guest2 ∙ c.requires.runs) c.args.next.now c.effect-effect.result c.replays-replay.result c.rule-asked.result.log
     (search rules) (search rules) (search rules) (search rules) (search rules) (search rules) (g.C.Checkpoint.contents c.append_if.new.store c.append_if.new.dev) (g.C.Checkpoint.contents c.advance.new.store c.advance.new.dev) (g.C.Checkpoint.leaves c.append_if.new.store c.append_if.new.dev d) (g.C.Checkpoint.leaves c.advance.new.store c.advance.new.dev d) over2
     (still (λ ws. c.args.next.now ≡ next_of (over c.append_if.new.self.guest ws)) (g.C.Checkpoint.contents c.args.store.now c.args.dev.now) (g.C.Checkpoint.contents c.append_if.new.store c.append_if.new.dev) same2 (subst (λ (b : Bare). IfSome (g.C.Checkpoint.contents c.args.store.now c.args.dev.now) (λ ws. c.args.next.now ≡ next_of (over b ws))) (sym guest2) c.requires.found))
     (still (λ ws. c.effect-effect.result ≡ effect_of (event_of c.args.next.now (machine_over c.append_if.new.self.guest ws))) (g.C.Checkpoint.contents c.args.store.now c.args.dev.now) (g.C.Checkpoint.contents c.append_if.new.store c.append_if.new.dev) same2 (subst (λ (b : Bare). IfSome (g.C.Checkpoint.contents c.args.store.now c.args.dev.now) (λ ws. c.effect-effect.result ≡ effect_of (event_of c.args.next.now (machine_over b ws)))) (sym guest2) c.effect-effect.ensures.effect))
     (search rules) (λ r l. c.in_ok-advance.ensures.stores.adds_nothing.stands d r from2 l) in
     let from4 : g.C.Checkpoint.floor c.advance.new.store ≤ d = omega (arith, from2, c.in_ok-advance.ensures.stores.call.floor) in
-    unstopped images inputs c.args.self.now.protocol p answers st (answer_of c.args.answer.now) words c.args.self.now c.requires.whole here c.requires.runs stood.going c.requires.sender c.args.next.now c.kind-kind.result c.rule-asked.result c.replays-replay.result found c.kind-kind.ensures c.rule-asked.ensures c.replays-replay.ensures (g.C.Checkpoint.contents c.commit_if-2.new.store c.commit_if-2.new.dev) (held c.commit_if-2.new.self) (g.C.Checkpoint.leaves c.commit_if-2.new.store c.commit_if-2.new.dev d) (c.in_ok-commit_if-2.ensures.goes images inputs c.args.self.now.protocol p (answers_alone answers st (answer_of c.args.answer.now) Nowhere) (passed c.replays-replay.result (sets_unlogged c.rule-asked.result.log c.replays-replay.result (answer_of c.args.answer.now)) (second_of c.rule-asked.result.log (record { position = st.position; answer = (answer_of c.args.answer.now) }) (first_of c.rule-asked.result.before st))) d from4 over4)
+    unstopped images inputs c.args.self.now.protocol p answers st (answer_of c.args.answer.now) words c.args.self.now c.requires.whole here c.requires.runs stood.going c.requires.sender c.args.next.now c.kind-kind.result c.rule-asked.result c.replays-replay.result found c.kind-kind.ensures c.rule-asked.ensures c.replays-replay.ensures (g.C.Checkpoint.contents c.commit_if-2.new.store c.commit_if-2.new.dev) (held c.commit_if-2.new.self) (g.C.Checkpoint.leaves c.commit_if-2.new.store c.commit_if-2.new.dev d) (c.in_ok-commit_if-2.ensures.goes images inputs c.args.self.now.protocol p (answers_alone answers st (answer_of c.args.answer.now) Nowhere) (event_later c.replays-replay.result (sets_unlogged c.rule-asked.result.log c.replays-replay.result (answer_of c.args.answer.now)) (second_of c.rule-asked.result.log (record { position = st.position; answer = (answer_of c.args.answer.now) }) (first_of c.rule-asked.result.before st))) d from4 over4)
 
 pub returns-clause-quiet : goal.returns-clause-quiet
 returns-clause-quiet g c = quiet_turn c.args.self.now c.commit_if.new.self c.note_event-shown.new.self c.commit_if-2.new.self

@@ -98,7 +98,7 @@ returns-clause-ready g c =
     let many : c.len-n.result ≡ length c.args.setup.images.items = search rules in
     subst (λ zs. IsReady g.C.Checkpoint zs c.read_down.new.dev w) (sym all)
     (ready g.C.Checkpoint c.args.setup c.args.earlier.now c.args.entries new c.read_down.new.dev w begins long over c.in_ok-slots.ensures.read.0.stored down c.in_ok-slots.ensures.lent
-    c.requires.some c.requires.few c.requires.inputs (c.in_ok-slots.ensures.long.1 ∙ ap (λ xs. length xs) c.deref-2.ensures.value) c.requires.acts c.requires.lines c.requires.entries c.in_ok-acts.ensures.room
+    c.args.setup.some c.args.setup.few c.args.setup.each (c.in_ok-slots.ensures.long.1 ∙ ap (λ xs. length xs) c.deref-2.ensures.value) c.requires.acts c.requires.lines c.requires.entries c.in_ok-acts.ensures.room
     (subst (λ n. is_joint c.args.setup.protocol ≡ true → length c.in_ok-joint.joint.texts.items ≡ kernel_words n * n) many c.in_ok-joint.ensures.texts)
     (subst (λ n. is_joint c.args.setup.protocol ≡ true → length c.in_ok-joint.joint.saved.items ≡ n) many c.in_ok-joint.ensures.saved_long)
     (subst (λ n. AreMadeFor n c.in_ok-joint.joint.saved.items) many c.in_ok-joint.ensures.saved_fit))
@@ -139,5 +139,5 @@ returns-clause-reopened g c =
       read.1,
       λ free lines shown. subst (λ zs. IsWorld g.C.Checkpoint (system (map seen_image c.args.setup.images.items) (lists_of c.args.setup.inputs.items) protocol)
           (resumed_core read.0.given lines (saves_in (system (map seen_image c.args.setup.images.items) (lists_of c.args.setup.inputs.items) protocol) read.0.stored)) (stage_of zs dev w)) (sym all)
-          (goes_on g.C.Checkpoint c.args.setup c.args.earlier.now c.args.entries new old dev w begins long over read.0 read.2 read.1 c.requires.some (omega (arith, entries)) free (read.3 free) c.in_ok-slots.ensures.steady lines shown),
+          (goes_on g.C.Checkpoint c.args.setup c.args.earlier.now c.args.entries new old dev w begins long over read.0 read.2 read.1 c.args.setup.some (omega (arith, entries)) free (read.3 free) c.in_ok-slots.ensures.steady lines shown),
     )
