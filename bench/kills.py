@@ -177,7 +177,8 @@ def main():
         room = os.path.realpath(name)
         left = asked.kills
         for number, protocol in enumerate(PROTOCOLS):
-            left -= try_protocol(room, protocol, asked, draw, -(-left // (len(PROTOCOLS) - number)))
+            # Each protocol has one kill at least, also where those before it had more than was asked.
+            left -= try_protocol(room, protocol, asked, draw, max(1, -(-left // (len(PROTOCOLS) - number))))
 
 
 main()
