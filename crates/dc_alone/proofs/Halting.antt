@@ -6,7 +6,7 @@ use Rattle.dc_elf.specs.Images.{Image}
 use Rattle.dc_guest.specs.Guest.{Guest}
 use Rattle.dc_model.specs.Guests.{Answer}
 use Rattle.dc_model.specs.Runs.{own}
-use Rattle.dc_model.specs.World.{reported}
+use Rattle.dc_model.specs.FailureFree.{reported}
 use Rattle.dc_model.specs.declared.entry.Entry.{Entry}
 use Rattle.dc_proc.proofs.Numbers.{numbered_less, numbered_more}
 use Rattle.dc_proc.specs.Carried.{system}

@@ -14,7 +14,7 @@ ghost use Rattle.dc_recovery.specs.Saves.{log_end};
 ghost use Rattle.dc_processes.specs.Processes.{Hears, IsWell, Learns, LearnsAll};
 ghost use Rattle.dc_processes.specs.Slots.{IsOf, based_in, slot_at};
 ghost use Rattle.dc_processes.specs.Stages.{IsHandled, stage_of};
-ghost use Rattle.dc_processes.specs.Turns.{GoesOn, HasNoRun, WithStores, later, with_slot};
+ghost use Rattle.dc_processes.specs.Turns.{GoesOn, HasNoRun, IsRefused, WithStores, later, with_slot};
 ghost use Rattle.dc_processes.specs.declared.slot.Slot.TheVariants as slots;
 
 use dc_checkpoint::{CheckFault, Checkpoint, StoreFault};
@@ -85,6 +85,7 @@ pub fn recover<C: Checkpoint>(
     ensures handled { IsHandled C.Checkpoint (processes.old.left - 1) store.new dev.new (slot_at processes.new.slots.items turn.now.p) }
     ensures call { Touches (showing_of C.Checkpoint) (on store.old dev.old) (on store.new dev.new) result }
     ensures whole { IfOk result (λ mark. mark ≡ marks.Stopped → ⊥) }
+    ensures content { (fault : faults.StoreFault) → IsErrOf result (CheckFault.Refused fault) → IsRefused C.Checkpoint processes.old.left store.new dev.new fault }
     ensures refused { (fault : faults.StoreFault) → IsErrOf result (CheckFault.Refused fault) → WithStores C.Checkpoint turn.now.p store.old (λ stores. HasNoRun C.Checkpoint (with_slot turn.now.p (slots.Down down) (stage_of stores dev.old processes.old))
         (later 0 (stage_of (slice_set stores turn.now.p store.new) dev.new processes.new))) }
     ensures turned { IfOk result (λ mark. WithStores C.Checkpoint turn.now.p store.old (λ stores. GoesOn C.Checkpoint (with_slot turn.now.p (slots.Down down) (stage_of stores dev.old processes.old))

@@ -17,14 +17,14 @@ use dc_calls::Call;
 use dc_checkpoint::{CheckFault, Checkpoint};
 use dc_guest::Answer;
 use dc_model::{Mark, Visible};
-use dc_proc::Shown;
-use dc_processes::{Processes, hand_on, take_in};
+use dc_proc::Answered;
+use dc_processes::{Processes, take_in};
 
 /// Whether others hold a process to an event: it shows something, or it sends where each process recovers by itself.
-fn is_exposed(call: Option<Call>, done: &Option<Shown>) -> bool
-    ensures { result ≡ exposed_by call done.now }
+fn is_exposed(call: Option<Call>, shown: &Option<Visible>) -> bool
+    ensures { result ≡ exposed_by call shown.now }
 {
-    done.is_some() || matches!(call, Some(Call::Send(_, _, _)))
+    shown.is_some() || matches!(call, Some(Call::Send(_, _, _)))
 }
 
 /// Where the last commit of a process is another than that of this number, the others learn how much of theirs it had received by then.
@@ -96,19 +96,16 @@ pub fn take<C: Checkpoint>(
 {
     let acts = processes.acts.count_of(p);
     let commit = processes.commit_of(p);
+    let answered = Answered {
+        t: processes.entries,
+        answer: *answer,
+    };
     let slot = &mut processes.slots[p as usize];
-    match take_in(
-        slot,
-        store,
-        dev,
-        processes.entries,
-        answer,
-        &mut processes.acts,
-    ) {
-        Ok(done) => {
-            processes.note_exposed(p, acts, is_exposed(call, &done));
+    match take_in(slot, store, dev, &answered, &mut processes.acts, shown) {
+        Ok(mark) => {
+            processes.note_exposed(p, acts, is_exposed(call, shown));
             tell(processes, p, commit);
-            Ok(hand_on(done, p, shown))
+            Ok(mark)
         }
         Err(fault) => {
             fall(processes, p, store);

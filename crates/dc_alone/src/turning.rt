@@ -10,7 +10,7 @@ ghost use Rattle.dc_protocols.specs.Rules.{is_joint};
 ghost use Rattle.dc_processes.specs.Processes.{Hears, IsWell};
 ghost use Rattle.dc_processes.specs.Slots.{is_up, slot_at};
 ghost use Rattle.dc_processes.specs.Stages.{IsHandled, stage_of};
-ghost use Rattle.dc_processes.specs.Turns.{GoesOn, HasNoRun, WithStores, later, lines_of};
+ghost use Rattle.dc_processes.specs.Turns.{GoesOn, HasNoRun, IsRefused, WithStores, later, lines_of};
 
 use crate::recovering::recover;
 use crate::taking::take;
@@ -92,6 +92,7 @@ pub fn turn_alone<C: Checkpoint>(
     ensures whole { IfOk result (λ mark. mark ≡ marks.Stopped → ⊥) }
     ensures shows { IfOk result (λ mark. IfSome shown.new (λ visible. mark ≡ marks.Showed visible.k)) }
     ensures unshown { OnErr result (shown.new ≡ None) }
+    ensures content { (fault : faults.StoreFault) → IsErrOf result (CheckFault.Refused fault) → IsRefused C.Checkpoint processes.old.left store.new dev.new fault }
     ensures refused { (fault : faults.StoreFault) → IsErrOf result (CheckFault.Refused fault) → WithStores C.Checkpoint turn.now.p store.old (λ stores. HasNoRun C.Checkpoint (stage_of stores dev.old processes.old)
         (later 0 (stage_of (slice_set stores turn.now.p store.new) dev.new processes.new))) }
     ensures turned { IfOk result (λ mark. WithStores C.Checkpoint turn.now.p store.old (λ stores. GoesOn C.Checkpoint (stage_of stores dev.old processes.old)

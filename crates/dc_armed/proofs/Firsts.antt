@@ -53,17 +53,17 @@ waits-taken stops stop turn waiting of whole before = λ p.
     (λ (other : p ≢ stop.process). rw (get_or-set_other waiting stop.process p _ None other, first_stop-push_other stops stop turn p (is_of-other stop turn p other)) (before p))
     (cases_eq p stop.process)
 
-passed : (stops : List PlannedStop) (stop : PlannedStop) (turn p : ℕ) → is_of turn stop.process stop ≡ false → first_stop (stops ++ stop ∷ []) turn p ≡ first_stop stops turn p
-passed stops stop turn p other =
+other_turn : (stops : List PlannedStop) (stop : PlannedStop) (turn p : ℕ) → is_of turn stop.process stop ≡ false → first_stop (stops ++ stop ∷ []) turn p ≡ first_stop stops turn p
+other_turn stops stop turn p other =
     ⊎_elim
     (λ (same : p ≡ stop.process). rw same (first_stop-push_other stops stop turn stop.process other))
     (λ (ne : p ≢ stop.process). first_stop-push_other stops stop turn p (is_of-other stop turn p ne))
     (cases_eq p stop.process)
 
 -- a stop that does not come in the turn changes nothing
-pub waits-passed : (stops : List PlannedStop) (stop : PlannedStop) (turn : ℕ) (waiting : List (Option Waiting))
+pub waits-other_turn : (stops : List PlannedStop) (stop : PlannedStop) (turn : ℕ) (waiting : List (Option Waiting))
     → is_of turn stop.process stop ≡ false → WaitFirst stops turn waiting → WaitFirst (stops ++ stop ∷ []) turn waiting
-waits-passed stops stop turn waiting other before = λ p. before p ∙ ap (option_map waiting_of) (sym (passed stops stop turn p other))
+waits-other_turn stops stop turn waiting other before = λ p. before p ∙ ap (option_map waiting_of) (sym (other_turn stops stop turn p other))
 
 apart_ne : (t from until turn : ℕ) → (t < from) ⊎ (until ≤ t) → from ≤ turn → turn < until → turn ≢ t
 apart_ne t from until turn apart above below = omega arith

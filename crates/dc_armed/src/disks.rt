@@ -71,12 +71,12 @@ impl<D: Disks> Disks for Armed<D> {
         ensures waits { Waits p (after_answer result (waiting_for self.old.plan p)) self.old.plan self.new.plan }
     {
         let done = self.device.read(p, at, to);
-        self.plan.passed(p, done)
+        self.plan.heeded(p, done)
     }
 
     /// At a planned stop as many bytes are written as are kept, and the others stay or are filled; all of them are pending.
     ///
-    /// The answer is then `Stopped`, unless the device refuses a part, which is passed on.
+    /// The answer is then `Stopped`, unless the device refuses a part, which is handed on.
     #[tactic(auto, using(crate::proofs::Counting::capped_later))]
     fn write(&mut self, p: u32, at: u64, from: &[u8]) -> Result<(), DeviceFault>
         requires { at + length from.now ≤ D.extent self.old.device p }
@@ -98,7 +98,7 @@ impl<D: Disks> Disks for Armed<D> {
         match self.plan.call(p) {
             None => {
                 let done = self.device.write(p, at, from);
-                self.plan.passed(p, done)
+                self.plan.heeded(p, done)
             }
             Some(tear) => {
                 let done = torn_write(&mut self.device, tear, p, at, from);
@@ -126,7 +126,7 @@ impl<D: Disks> Disks for Armed<D> {
         match self.plan.call(p) {
             None => {
                 let done = self.device.sync(p);
-                self.plan.passed(p, done)
+                self.plan.heeded(p, done)
             }
             Some(_) => self.plan.comes(p, Ok(())),
         }

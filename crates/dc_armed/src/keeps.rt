@@ -58,7 +58,7 @@ impl<K: Keeps> Keeps for Armed<K> {
 
     /// At a planned stop the word stays where nothing is kept, and is set otherwise.
     ///
-    /// The answer is then `Stopped`, unless the device refuses the call, which is passed on.
+    /// The answer is then `Stopped`, unless the device refuses the call, which is handed on.
     fn store(&mut self, p: u32, i: u32, w: u32) -> Result<(), DeviceFault>
         requires { i < K.extent self.old.device p }
         ensures call { IsCall (armed (of_words K.Keeps)) p self.old self.new result }
@@ -80,7 +80,7 @@ impl<K: Keeps> Keeps for Armed<K> {
         match self.plan.call(p) {
             None => {
                 let done = self.device.store(p, i, w);
-                self.plan.passed(p, done)
+                self.plan.heeded(p, done)
             }
             Some(tear) => {
                 let done = torn_store(&mut self.device, tear, p, i, w);
@@ -116,12 +116,12 @@ impl<K: Keeps> Keeps for Armed<K> {
         }
         self.plan.call_in_row(p, count);
         let done = self.device.store_words(p, i, words);
-        self.plan.passed(p, done)
+        self.plan.heeded(p, done)
     }
 
     /// At a planned stop as many words are copied as are kept, one by one, or all of them by one call.
     ///
-    /// The answer is then `Stopped`, unless the device refuses a call, which is passed on.
+    /// The answer is then `Stopped`, unless the device refuses a call, which is handed on.
     fn copy_line(&mut self, p: u32, from: u32, to: u32) -> Result<(), DeviceFault>
         requires source { from + 16 ≤ K.extent self.old.device p }
         requires index { to + 16 ≤ K.extent self.old.device p }
@@ -145,7 +145,7 @@ impl<K: Keeps> Keeps for Armed<K> {
         match self.plan.call(p) {
             None => {
                 let done = self.device.copy_line(p, from, to);
-                self.plan.passed(p, done)
+                self.plan.heeded(p, done)
             }
             Some(tear) => {
                 let done = torn_copy(&mut self.device, tear, p, from, to);

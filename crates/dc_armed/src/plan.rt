@@ -219,7 +219,7 @@ impl StopPlan {
     }
 
     /// Heeds the answer of a device: nothing waits for a process that was stopped.
-    pub(crate) fn passed(
+    pub(crate) fn heeded(
         &mut self,
         p: u32,
         answer: Result<(), DeviceFault>,
@@ -264,6 +264,6 @@ impl StopPlan {
             self.count(p);
             return Err(DeviceFault::Stopped);
         }
-        self.passed(p, done)
+        self.heeded(p, done)
     }
 }

@@ -11,7 +11,7 @@ use dc_acts::Acts;
 use dc_checkpoint::{CheckFault, Checkpoint};
 use dc_guest::Answer;
 use dc_media::{Keeps, STORES};
-use dc_proc::Up;
+use dc_proc::{Answered, Up};
 use dc_protocols::Protocol;
 use std::alloc::Global;
 
@@ -85,7 +85,11 @@ fn turn<C: Checkpoint>(
     if !up.may_take(&Answer::Plain, store, dev) {
         return None;
     }
-    match up.turn(store, dev, t, &Answer::Plain, acts) {
+    let answered = Answered {
+        t,
+        answer: Answer::Plain,
+    };
+    match up.turn(store, dev, &answered, acts, &mut None) {
         Ok(_) => Some(()),
         Err(_) => None,
     }

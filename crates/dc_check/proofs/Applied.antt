@@ -8,7 +8,7 @@ use Rattle.dc_model.specs.Drawn.{draws}
 use Rattle.dc_model.specs.Guests.{Event, Answer, Guests}
 use Rattle.dc_model.specs.Guests.Event.{AtEnd, AtInternal, AtClock, AtRandom, AtInput, AtReceive, AtVisible, AtSend}
 use Rattle.dc_model.specs.Process.{moved, fits, shown, shows, comes, visible_of}
-use Rattle.dc_model.specs.World.{World, answer_for, apply, apply_answer, happened}
+use Rattle.dc_model.specs.FailureFree.{FailureFree, answer_for, apply, apply_answer, happened}
 use Rattle.dc_model.specs.declared.act.Act.{Act}
 use Rattle.dc_model.specs.declared.act.Act.TheVariants as act
 use Rattle.dc_model.specs.declared.act.Taken.{Taken}
@@ -16,14 +16,14 @@ use Rattle.dc_model.specs.declared.entry.Entry.{Entry}
 use Rattle.dc_model.specs.declared.visible.Visible.{Visible}
 
 -- records that were shown before
-abbrev pub behind : {Mc : Type 0} → List Visible → World Mc → World Mc
+abbrev pub behind : {Mc : Type 0} → List Visible → FailureFree Mc → FailureFree Mc
 behind front w = record { procs = w.procs; visibles = front ++ w.visibles }
 
 -- a world without its records
-abbrev pub bare : {Mc : Type 0} → World Mc → World Mc
+abbrev pub bare : {Mc : Type 0} → FailureFree Mc → FailureFree Mc
 bare w = record { procs = w.procs; visibles = [] }
 
-module _ {Mc : Type 0} (G : Guests Mc) (w : World Mc) (p : ℕ) where
+module _ {Mc : Type 0} (G : Guests Mc) (w : FailureFree Mc) (p : ℕ) where
   answers_same : (a : Act) → answer_for G w p a ≡ answer_for G (bare w) p a
   answers_same act.Plain = refl
   answers_same (act.Clock v) = refl
@@ -43,10 +43,10 @@ module _ {Mc : Type 0} (G : Guests Mc) (w : World Mc) (p : ℕ) where
   applied a = ap (apply_answer G w p) (answers_same a) ∙ answer_applied (answer_for G (bare w) p a)
 
   -- by what was played without them
-  pub taken : (a : Act) (played v : World Mc) → played ≡ bare w → apply G played p a ≡ Some v → apply G w p a ≡ Some (behind w.visibles v)
+  pub taken : (a : Act) (played v : FailureFree Mc) → played ≡ bare w → apply G played p a ≡ Some v → apply G w p a ≡ Some (behind w.visibles v)
   taken a played v is e = applied a ∙ ap (option_map (behind w.visibles)) (ap (λ u. apply G u p a) (sym is) ∙ e)
 
-  pub refused : (a : Act) (played : World Mc) → played ≡ bare w → apply G played p a ≡ None → apply G w p a ≡ None
+  pub refused : (a : Act) (played : FailureFree Mc) → played ≡ bare w → apply G played p a ≡ None → apply G w p a ≡ None
   refused a played is e = applied a ∙ ap (option_map (behind w.visibles)) (ap (λ u. apply G u p a) (sym is) ∙ e)
 
 one_shown : (p k : ℕ) (e : Event) → length (visible_of p k e) ≤ 1
@@ -71,11 +71,11 @@ one_event (AtVisible body) = omega arith
 one_event (AtSend to message) = omega arith
 
 -- an act shows one record at most
-pub record AtMostOne {Mc : Type 0} (w v : World Mc) : Type 0 where
+pub record AtMostOne {Mc : Type 0} (w v : FailureFree Mc) : Type 0 where
   pub records : length v.visibles ≤ suc (length w.visibles)
   pub each : (q : ℕ) → (v.procs q).visible ≤ suc ((w.procs q).visible)
 
-module _ {Mc : Type 0} (G : Guests Mc) (w : World Mc) (p : ℕ) where
+module _ {Mc : Type 0} (G : Guests Mc) (w : FailureFree Mc) (p : ℕ) where
   happens : (a : Answer) → AtMostOne w (happened G w p a)
   happens a = record {
     records = let one = one_shown p (w.procs p).visible (comes G (w.procs p) a) in omega (arith, one, length-append w.visibles (shown G p (w.procs p) a));
@@ -85,14 +85,14 @@ module _ {Mc : Type 0} (G : Guests Mc) (w : World Mc) (p : ℕ) where
         (cases_Bool (p == q));
   }
 
-  by_answer : (o : Option Answer) (v : World Mc) → apply_answer G w p o ≡ Some v → AtMostOne w v
+  by_answer : (o : Option Answer) (v : FailureFree Mc) → apply_answer G w p o ≡ Some v → AtMostOne w v
   by_answer None v e = absurd (let never : ⊥ = cc in never)
   by_answer (Some a) v e = ⊎_elim
-      (λ yes. let same : Some (happened G w p a) ≡ Some v = sym (rw yes refl) ∙ e in subst (λ (u : World Mc). AtMostOne w u) (let is : happened G w p a ≡ v = cc in is) (happens a))
+      (λ yes. let same : Some (happened G w p a) ≡ Some v = sym (rw yes refl) ∙ e in subst (λ (u : FailureFree Mc). AtMostOne w u) (let is : happened G w p a ≡ v = cc in is) (happens a))
       (λ no. let none : None ≡ Some v = sym (rw no refl) ∙ e in absurd (let never : ⊥ = cc in never))
       (cases_Bool (fits G p (w.procs p) a))
 
-  pub at_most_one : (a : Act) (v : World Mc) → apply G w p a ≡ Some v → AtMostOne w v
+  pub at_most_one : (a : Act) (v : FailureFree Mc) → apply G w p a ≡ Some v → AtMostOne w v
   at_most_one a v e = by_answer (answer_for G w p a) v e
 
 -- the lines of records behind others
@@ -115,10 +115,10 @@ all_rest n x acts rest is all = all_behind n x acts (subst (λ xs. All (λ y. y.
 abbrev pub is_drawn : ℕ → List Entry → ℕ → Taken → Bool
 is_drawn n schedule next x = nat_le next x.t && draws n (slice_get schedule x.t) x
 
-module _ {Mc : Type 0} (G : Guests Mc) (schedule : List Entry) (next position : ℕ) (w : World Mc) (x : Taken) (acts rest : List Taken) (told : Result (World Mc) ℕ)
+module _ {Mc : Type 0} (G : Guests Mc) (schedule : List Entry) (next position : ℕ) (w : FailureFree Mc) (x : Taken) (acts rest : List Taken) (told : Result (FailureFree Mc) ℕ)
     (is : rest ≡ x ∷ acts) (e : told ≡ played_from G schedule next position w rest) where
   -- one act more was played
-  pub played_on : (v : World Mc) → is_drawn G.count schedule next x ≡ true → apply G w x.p x.act ≡ Some v → told ≡ played_from G schedule (x.t + 1) (position + 1) v acts
+  pub played_on : (v : FailureFree Mc) → is_drawn G.count schedule next x ≡ true → apply G w x.p x.act ≡ Some v → told ≡ played_from G schedule (x.t + 1) (position + 1) v acts
   played_on v drawn there = e ∙ ap (played_from G schedule next position w) is ∙ rw (drawn, there, add-one x.t, add-one position) refl
 
   -- an act that does not apply, and one that was not drawn

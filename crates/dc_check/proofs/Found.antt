@@ -2,7 +2,7 @@
 use Rattle.std.proofs.Common.{◌≡◌, ◌↔◌, ℕ, List, Option, Some, None, Result, Ok, Err, sym, refl, length}
 use Rattle.dc_acts.specs.Lines.{text_of}
 use Rattle.dc_model.specs.Guests.{Guests}
-use Rattle.dc_model.specs.World.{World}
+use Rattle.dc_model.specs.FailureFree.{FailureFree}
 use Rattle.dc_model.specs.declared.act.Taken.{Taken}
 use Rattle.dc_model.specs.declared.entry.Entry.{Entry}
 use Rattle.dc_words.specs.Texts.{ended, lines_of}
@@ -14,7 +14,7 @@ use Rattle.dc_check.proofs.Drawing.{drawn_when_played, played_when_drawn}
 use Rattle.dc_check.proofs.Meaning.{passes_exactly}
 
 module _ {Mc : Type 0} (G : Guests Mc) (schedule : List Entry) (acts : List Taken) (out : List ℕ) (whole : out ≡ ended (lines_of out)) (visibles : ℕ) where
-  by_difference : (w : World Mc) → played G schedule acts ≡ Ok w → (d : Option Difference) → difference_of (text_of w.visibles) out ≡ d → compared (length w.visibles) d ≡ Passes visibles → IsPassing G schedule acts out visibles
+  by_difference : (w : FailureFree Mc) → played G schedule acts ≡ Ok w → (d : Option Difference) → difference_of (text_of w.visibles) out ≡ d → compared (length w.visibles) d ≡ Passes visibles → IsPassing G schedule acts out visibles
   by_difference w at (Some d) is e = absurd (let never : ⊥ = cc in never)
   by_difference w at None is e = let led = drawn_when_played G schedule acts w at in record {
     world = w;
@@ -24,7 +24,7 @@ module _ {Mc : Type 0} (G : Guests Mc) (schedule : List Entry) (acts : List Take
     count = let same : length w.visibles ≡ visibles = cc in sym same;
   }
 
-  by_played : (r : Result (World Mc) ℕ) → played G schedule acts ≡ r → finding_by r out ≡ Passes visibles → IsPassing G schedule acts out visibles
+  by_played : (r : Result (FailureFree Mc) ℕ) → played G schedule acts ≡ r → finding_by r out ≡ Passes visibles → IsPassing G schedule acts out visibles
   by_played (Err position) at e = absurd (let never : ⊥ = cc in never)
   by_played (Ok w) at e = by_difference w at (difference_of (text_of w.visibles) out) refl e
 

@@ -9,7 +9,7 @@ use Rattle.dc_acts.specs.Lines.{text_of}
 use Rattle.dc_model.specs.Drawn.{Drawn}
 use Rattle.dc_model.specs.Guests.{Guests}
 use Rattle.dc_model.specs.Repeats.{RepeatsAgree}
-use Rattle.dc_model.specs.World.{World, find, run, thin, thin_after}
+use Rattle.dc_model.specs.FailureFree.{FailureFree, find, run, thin, thin_after}
 use Rattle.dc_model.specs.declared.act.Taken.{Taken}
 use Rattle.dc_model.specs.declared.entry.Entry.{Entry}
 use Rattle.dc_model.specs.declared.visible.Body.{Body}
@@ -185,6 +185,6 @@ none_differs records visibles thinned agree all =
     ∙ ap (λ (l : List Visible). difference_from 1 (λ numbers. None) (map bare_of l) (map bare_of records ++ [] ∷ [])) (sym thinned)
     ∙ walked 1 (λ numbers. None) [] records (λ p k small few. refl) agrees written
 
-pub records_pass : {Mc : Type 0} (G : Guests Mc) (schedule : List Entry) (acts : List Taken) (w : World Mc) (records : List Visible) → Drawn G.count schedule acts → run G acts ≡ Some w
+pub records_pass : {Mc : Type 0} (G : Guests Mc) (schedule : List Entry) (acts : List Taken) (w : FailureFree Mc) (records : List Visible) → Drawn G.count schedule acts → run G acts ≡ Some w
     → thin records ≡ w.visibles → RepeatsAgree (reverse records) → AllByRecursion IsWritten w.visibles → finding_of G schedule acts (text_of records) ≡ Passes (length w.visibles)
 records_pass G schedule acts w records drawn ran thinned agree all = rw (played_when_drawn G schedule acts w drawn ran, none_differs records w.visibles thinned agree all) refl

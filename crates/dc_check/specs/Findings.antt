@@ -3,7 +3,7 @@ use Rattle.std.specs.Prelude.{◌≡◌, ℕ, List, Option, Some, None, Result, 
 use Rattle.dc_acts.specs.Lines.{text_of}
 use Rattle.dc_model.specs.Drawn.{Drawn}
 use Rattle.dc_model.specs.Guests.{Guests}
-use Rattle.dc_model.specs.World.{World, run}
+use Rattle.dc_model.specs.FailureFree.{FailureFree, run}
 use Rattle.dc_model.specs.declared.act.Taken.{Taken}
 use Rattle.dc_model.specs.declared.entry.Entry.{Entry}
 use Rattle.dc_words.specs.Texts.{lines_of}
@@ -25,7 +25,7 @@ compared visibles None = Passes visibles
 compared visibles (Some difference) = Differs difference
 
 -- by what the acts lead to
-abbrev pub finding_by : {Mc : Type 0} → Result (World Mc) ℕ → List ℕ → Finding
+abbrev pub finding_by : {Mc : Type 0} → Result (FailureFree Mc) ℕ → List ℕ → Finding
 finding_by (Err position) out = NotARun position
 finding_by (Ok w) out = compared (length w.visibles) (difference_of (text_of w.visibles) out)
 
@@ -45,7 +45,7 @@ seen_finding (found.Differs difference) = Differs (seen_difference difference)
 
 -- an output whose lines all end passes: the acts were drawn and lead to a world, and its lines are those of that world's records, but for repeats of the first
 pub record IsPassing {Mc : Type 0} (G : Guests Mc) (schedule : List Entry) (acts : List Taken) (out : List ℕ) (visibles : ℕ) : Type 0 where
-  pub world : World Mc
+  pub world : FailureFree Mc
   pub drawn : Drawn G.count schedule acts
   pub ran : run G acts ≡ Some world
   pub lines : AreLinesOf (lines_of out) (lines_of (text_of world.visibles))

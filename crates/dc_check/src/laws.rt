@@ -11,15 +11,15 @@ ghost use Rattle.dc_check.specs.Records.{CanShow, IsWritten, numbers_in};
 ghost use Rattle.dc_model.specs.Drawn.{Drawn};
 ghost use Rattle.dc_model.specs.Guests.{Guests};
 ghost use Rattle.dc_model.specs.Repeats.{RepeatsAgree};
-ghost use Rattle.dc_model.specs.World.{World, run, thin};
+ghost use Rattle.dc_model.specs.FailureFree.{FailureFree, run, thin};
 ghost use Rattle.dc_words.specs.Texts.{ended, lines_of};
 
 use dc_model::{Entry, Taken, Visible};
 
 /// Acts that are played are a failure-free run, each drawn at its turn of the schedule, in order; and such a run is played.
 pub fn passing_acts_are_a_drawn_run<M>()
-    ensures drawn { (G : Guests M) (schedule : List Entry) (acts : List Taken) (w : World M) → played G schedule acts ≡ Ok w → Drawn G.count schedule acts × (run G acts ≡ Some w) }
-    ensures plays { (G : Guests M) (schedule : List Entry) (acts : List Taken) (w : World M) → Drawn G.count schedule acts → run G acts ≡ Some w → played G schedule acts ≡ Ok w }
+    ensures drawn { (G : Guests M) (schedule : List Entry) (acts : List Taken) (w : FailureFree M) → played G schedule acts ≡ Ok w → Drawn G.count schedule acts × (run G acts ≡ Some w) }
+    ensures plays { (G : Guests M) (schedule : List Entry) (acts : List Taken) (w : FailureFree M) → Drawn G.count schedule acts → run G acts ≡ Some w → played G schedule acts ≡ Ok w }
 {}
 
 /// The line of a visible record is known for a record's, and its process and number are found in it as they are written.
@@ -42,7 +42,7 @@ pub fn passing_outputs_are_the_run()
 /// The lines of records with repeats pass the check of the run that shows the records without repeats, where repeats agree and each
 /// record can be written.
 pub fn shown_lines_pass<M>()
-    ensures { (G : Guests M) (schedule : List Entry) (acts : List Taken) (w : World M) (records : List Visible) → Drawn G.count schedule acts → run G acts ≡ Some w →
+    ensures { (G : Guests M) (schedule : List Entry) (acts : List Taken) (w : FailureFree M) (records : List Visible) → Drawn G.count schedule acts → run G acts ≡ Some w →
         thin records ≡ w.visibles → RepeatsAgree (reverse records) → AllByRecursion IsWritten w.visibles → finding_of G schedule acts (text_of records) ≡ Passes (length w.visibles) }
 {}
 

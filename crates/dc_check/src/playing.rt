@@ -3,7 +3,7 @@ ghost use Rattle.dc_acts.specs.Lines.{text_of};
 ghost use Rattle.dc_elf.specs.Images.{Image as Images};
 ghost use Rattle.dc_guest.specs.Guest.{Guest, guests_of};
 ghost use Rattle.dc_model.specs.Drawn.{draws, may_answer};
-ghost use Rattle.dc_model.specs.World.{World, apply};
+ghost use Rattle.dc_model.specs.FailureFree.{FailureFree, apply};
 ghost use Rattle.dc_model.specs.declared.visible.Visible.{Visible as Records};
 ghost use Rattle.dc_elf.specs.Loaded.{CanStart, seen_image};
 ghost use Rattle.dc_words.specs.Lists.{lists_of};
@@ -90,9 +90,9 @@ fn take(plain: &mut Plain, lines: &mut Lines, taken: &Taken) -> Result<(), Apply
     requires bare { plain.old.visibles ≡ [] }
     requires few { ((world_in plain.old).procs taken.now.p).visible < 2 ^ 32 - 1 }
     requires lines { lines.old.count < 2 ^ 32 - 1 }
-    ensures applied { OnOk result ((images : List Images) (w : World Guest) → Stands plain.old lines.old w →
-        (v : World Guest) × (apply (guests_of images plain.old.inputs) w taken.now.p taken.now.act ≡ Some v) × Stands plain.new lines.new v) }
-    ensures illegal { result ≡ Err ApplyFault.Illegal → (images : List Images) (w : World Guest) → Stands plain.old lines.old w →
+    ensures applied { OnOk result ((images : List Images) (w : FailureFree Guest) → Stands plain.old lines.old w →
+        (v : FailureFree Guest) × (apply (guests_of images plain.old.inputs) w taken.now.p taken.now.act ≡ Some v) × Stands plain.new lines.new v) }
+    ensures illegal { result ≡ Err ApplyFault.Illegal → (images : List Images) (w : FailureFree Guest) → Stands plain.old lines.old w →
         apply (guests_of images plain.old.inputs) w taken.now.p taken.now.act ≡ None }
     ensures count { length plain.new.processes ≡ length plain.old.processes }
     ensures inputs { plain.new.inputs ≡ plain.old.inputs }

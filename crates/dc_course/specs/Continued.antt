@@ -5,8 +5,8 @@ use Rattle.dc_media.specs.Told.{Becomes}
 use Rattle.dc_media.specs.declared.planned.PlannedStop.{PlannedStop}
 use Rattle.dc_model.proofs.Rising.{TurnsBelow}
 use Rattle.dc_model.specs.Drawn.{Drawn}
-use Rattle.dc_model.specs.World.{World, thin}
-use Rattle.dc_model.specs.World.{run as run_of}
+use Rattle.dc_model.specs.FailureFree.{FailureFree, thin}
+use Rattle.dc_model.specs.FailureFree.{run as run_of}
 use Rattle.dc_model.specs.declared.entry.Entry.{Entry}
 use Rattle.dc_model.specs.declared.visible.Visible.{Visible}
 use Rattle.dc_recovery.specs.Core.{Core}
@@ -25,7 +25,7 @@ setting_from setup schedule stops from = record (setting_of setup schedule stops
 -- What was reported is an earlier part of a run, and these are its lines: its acts are a run and were drawn at the entries that it took; the lines are as
 -- many as it counted, and without repeats the visible records of these acts.
 pub record IsEarlier (setting : Setting) (earlier : Earlier) (lines : List Visible) : Type 0 where
-  pub world : World Guest
+  pub world : FailureFree Guest
   pub acts_run : run_of (system_in setting).guests earlier.acts.now ≡ Some world
   pub acts_drawn : Drawn (length setting.images) setting.schedule earlier.acts.now
   pub before : TurnsBelow earlier.entries earlier.acts.now
@@ -36,7 +36,7 @@ pub record IsEarlier (setting : Setting) (earlier : Earlier) (lines : List Visib
 -- failure-free run of the same guests on the same inputs whose acts are listed; each act was drawn at its turn of the schedule, in order; a repeat in this
 -- part equals the first line of its number, in whichever part that is, and follows a recovery in this part.
 pub record IsContinued (setting : Setting) (lines : List Visible) (run : Account) (last : Last) (begun core : Core) (before after : Option (List ℕ)) : Type 0 where
-  pub world : World Guest
+  pub world : FailureFree Guest
   pub whole : List Visible
   pub acts_run : run_of (system_in setting).guests run.acts ≡ Some world
   pub acts_drawn : Drawn (length setting.images) setting.schedule run.acts

@@ -9,8 +9,8 @@ use Rattle.dc_guest.specs.Guest.{Guest}
 use Rattle.dc_media.specs.Told.{Becomes}
 use Rattle.dc_model.specs.Drawn.{Drawn}
 use Rattle.dc_model.specs.Repeats.{RepeatsEqual}
-use Rattle.dc_model.specs.World.{World, reported, thin}
-use Rattle.dc_model.specs.World.{run as run_of}
+use Rattle.dc_model.specs.FailureFree.{FailureFree, reported, thin}
+use Rattle.dc_model.specs.FailureFree.{run as run_of}
 use Rattle.dc_model.specs.declared.act.Taken.{Taken}
 use Rattle.dc_model.specs.declared.entry.Entry.{Entry}
 use Rattle.dc_model.specs.declared.entry.Entry.TheVariants as entry
@@ -97,7 +97,7 @@ pub record CoreLed (setting : Setting) (start : Start) (marks : List Mark) (core
 -- run of the same guests on the same inputs whose acts are listed; each act was drawn at its turn of the schedule, in order; a repeat
 -- equals its first line and follows a recovery. It is said of a run from its opening, at which these processes are up.
 pub record IsHeadline (setting : Setting) (run : Account) (last : Last) (up : ℕ → Bool) (core : Core) (before after : Option (List ℕ)) : Type 0 where
-  pub world : World Guest
+  pub world : FailureFree Guest
   pub whole : List Visible
   pub from_is : setting.from ≡ 0
   pub acts_run : run_of (system_in setting).guests run.acts ≡ Some world

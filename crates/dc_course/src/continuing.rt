@@ -10,7 +10,7 @@ ghost use Rattle.dc_course.specs.declared.ending.Ending.TheVariants as endings;
 ghost use Rattle.dc_elf.specs.declared.image.Image.{Image as Images};
 ghost use Rattle.dc_media.specs.Causes.{Rose};
 ghost use Rattle.dc_media.specs.Told.{TellsOn};
-ghost use Rattle.dc_model.specs.World.{run as run_of};
+ghost use Rattle.dc_model.specs.FailureFree.{run as run_of};
 ghost use Rattle.dc_model.specs.declared.visible.Visible.{Visible as Visibles};
 ghost use Rattle.dc_processes.specs.Stages.{KeepsTelling};
 ghost use Rattle.dc_protocols.specs.Rules.{is_causal};

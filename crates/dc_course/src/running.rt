@@ -94,7 +94,7 @@ impl<C: Planned + Drop> Running<C> {
         ensures lasts { C.lasts dev.old dev.new }
         ensures stops { (setting : Settings) (p : ℕ) → IsSettingOf self.old setting → setting.stops ≡ C.planned dev.old → slice_get setting.schedule (turn_after setting self.old.marks.items) ≡ Some entry.now → ((q : ℕ) → q < length setting.images → C.stops dev.new q < 2 ^ 64 - 1)
             → IsCountedOn setting p self.old.marks.items self.new.marks.items (C.unplanned dev.old) (C.unplanned dev.new) }
-        // Between the devices before and after: no stop that was planned was passed over, and none came sooner than at its call.
+        // Between the devices before and after: no stop that was planned was left out, and none came sooner than at its call.
         ensures come { IfOk result (λ mark. (p : ℕ) → is_stopped mark ≡ false → IsPartOf self.old.world p entry.now → C.stops dev.new p < 2 ^ 64 - 1 → C.faults dev.new p < 2 ^ 64 - 1
             → IfSome (first_stop (C.planned dev.old) (self.old.from + length self.old.marks.items) p) (λ stop. C.calls dev.new p < C.calls dev.old p + stop.call)) }
         ensures punctual { (p : ℕ) (stop : PlannedStops) → first_stop (C.planned dev.old) (self.old.from + length self.old.marks.items) p ≡ Some stop → C.faults dev.new p ≡ C.faults dev.old p → C.faults dev.new p < 2 ^ 64 - 1

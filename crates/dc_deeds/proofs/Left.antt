@@ -29,7 +29,7 @@ use Rattle.dc_proc.proofs.Ruling.{asked_is, event_is, replay_is}
 use Rattle.dc_proc.specs.Carried.{system}
 use Rattle.dc_proc.specs.Events.{IsSender}
 use Rattle.dc_proc.specs.Processes.{IsAt, IsGoing, answer_logged}
-use Rattle.dc_proc.specs.Turns.{shown_of, since_of}
+use Rattle.dc_proc.specs.Turns.{shown_of, since_of, taken_mark}
 use Rattle.dc_proc.specs.Ups.{IsFit, held}
 use Rattle.dc_proc.specs.declared.up.Up.{Up as Process}
 use Rattle.dc_processes.proofs.Beside.{some_there}
@@ -40,7 +40,6 @@ use Rattle.dc_processes.proofs.Telling.{told_at}
 use Rattle.dc_processes.specs.Answers.{HasCallRoom, IsTold as IsLogged, drawn_for, kind_by}
 use Rattle.dc_processes.specs.Slots.{slot_at}
 use Rattle.dc_processes.specs.Stages.{IsTold, IsWorld, Stage, store_of}
-use Rattle.dc_processes.specs.Turns.{taken_mark}
 use Rattle.dc_processes.specs.declared.slot.Slot.TheVariants.{Up}
 use Rattle.dc_protocols.specs.Rules.{at_inputs, rule_of}
 use Rattle.dc_protocols.specs.declared.protocol.Rule.{Rule}

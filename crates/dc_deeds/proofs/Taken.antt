@@ -8,8 +8,8 @@ use Rattle.dc_model.specs.Runs.{Given}
 use Rattle.dc_model.specs.declared.mark.Idle.{Idle}
 use Rattle.dc_model.specs.declared.mark.Mark.{Mark}
 use Rattle.dc_model.specs.declared.mark.Mark.TheVariants as mark
+use Rattle.dc_proc.specs.Turns.{taken_mark}
 use Rattle.dc_proc.specs.declared.shown.Shown.{Shown}
-use Rattle.dc_processes.specs.Turns.{taken_mark}
 use Rattle.dc_recovery.specs.Answers.{is_blocked}
 use Rattle.dc_recovery.specs.Core.{Core, stands}
 use Rattle.dc_recovery.specs.Parts.{Place}

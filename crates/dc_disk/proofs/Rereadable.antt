@@ -14,7 +14,7 @@ use Rattle.dc_media.specs.declared.disks.Disks as disks
 use Rattle.dc_media.specs.declared.planned.PlannedStop.{PlannedStop}
 use Rattle.dc_model.proofs.Reports.{reported_once, reported_run}
 use Rattle.dc_model.specs.Runs.{own}
-use Rattle.dc_model.specs.World.{run, world_of}
+use Rattle.dc_model.specs.FailureFree.{run, world_of}
 use Rattle.dc_model.specs.declared.act.Taken.{Taken}
 use Rattle.dc_model.specs.declared.entry.Entry.{Entry}
 use Rattle.dc_proc.proofs.Texts.{number_is, state_in}

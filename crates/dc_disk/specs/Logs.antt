@@ -13,7 +13,7 @@ use Rattle.dc_limits.specs.declared.bounds.TheConstants.{ENTRIES}
 use Rattle.dc_media.specs.Disk.{Disk}
 use Rattle.dc_media.specs.declared.disks.Disks as disks
 use Rattle.dc_model.specs.Runs.{Given, IsRun}
-use Rattle.dc_model.specs.World.{reported}
+use Rattle.dc_model.specs.FailureFree.{reported}
 use Rattle.dc_model.specs.declared.act.Taken.{Taken}
 use Rattle.dc_model.specs.declared.entry.Entry.{Entry}
 use Rattle.dc_proc.specs.Processes.{Stored, reading_of}

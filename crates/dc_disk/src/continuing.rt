@@ -12,7 +12,7 @@ ghost use Rattle.dc_disk.specs.Logs.{AreLeftAt, AreLogsRead, FirstLogHas, IsFirs
 ghost use Rattle.dc_media.specs.Causes.{Rose};
 ghost use Rattle.dc_media.specs.Devices.{of_disks};
 ghost use Rattle.dc_media.specs.Told.{TellsOn};
-ghost use Rattle.dc_model.specs.World.{run as run_of};
+ghost use Rattle.dc_model.specs.FailureFree.{run as run_of};
 ghost use Rattle.dc_model.specs.declared.visible.Visible.{Visible as Visibles};
 ghost use Rattle.dc_protocols.specs.Rules.{is_causal};
 ghost use Rattle.dc_recovery.specs.Recoveries.{resumed_core};

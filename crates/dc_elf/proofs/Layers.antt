@@ -109,11 +109,11 @@ module _ (file : List ℕ) (size : ℕ) (part : Part) (parts : List Part) where
         ∙ or_right (covers b part) (is_covered parts b) (filled.covered a b within from to))
         (λ high. ap (λ ps. is_covered ps b) (laid_high start a part parts high) ∙ filled.covered a b within from to)
         (cases_lt a start);
-    passed = λ a within is. ⊎_elim
-        (λ low. filled.passed a within
+    past = λ a within is. ⊎_elim
+        (λ low. filled.past a within
         (or_less (covers a part) (is_covered parts a) (ap (λ ps. is_covered ps a) (sym (laid_low start a part parts low)) ∙ is)
         (covers_low a part low)))
-        (λ high. filled.passed a within (ap (λ ps. is_covered ps a) (sym (laid_high start a part parts high)) ∙ is))
+        (λ high. filled.past a within (ap (λ ps. is_covered ps a) (sym (laid_high start a part parts high)) ∙ is))
         (cases_lt a start);
   }
 
@@ -133,9 +133,9 @@ module _ (file : List ℕ) (size : ℕ) (part : Part) (parts : List Part) where
         (λ high. or_right (covers b part) (is_covered parts b)
         (ap (λ ps. is_covered ps b) (sym (laid_high at a part parts high)) ∙ filled.covered a b within from to))
         (cases_lt a at);
-    passed = λ a within is. ⊎_elim
-        (λ low. filled.passed a within (ap (λ ps. is_covered ps a) (laid_low at a part parts low) ∙ is))
-        (λ high. filled.passed a within
+    past = λ a within is. ⊎_elim
+        (λ low. filled.past a within (ap (λ ps. is_covered ps a) (laid_low at a part parts low) ∙ is))
+        (λ high. filled.past a within
         (ap (λ ps. is_covered ps a) (laid_high at a part parts high)
         ∙ or_less (covers a part) (is_covered parts a) is (covers_high a part (omega (arith, past, high)))))
         (cases_lt a at);
@@ -159,8 +159,8 @@ module _ (file : List ℕ) (size : ℕ) (part : Part) (parts : List Part) where
     covered_on : (a b : ℕ) → a < size → at ≤ a → a ≤ b → b < slice_index next a → is_covered parts b ≡ true
     covered_on a b within on up down = ap (λ ps. is_covered ps b) (sym (laid_high at a part parts on)) ∙ filled.covered a b within up down
 
-    passed_on : (a : ℕ) → a < size → at ≤ a → is_covered parts a ≡ true → a < slice_index next a
-    passed_on a within on is = filled.passed a within (ap (λ ps. is_covered ps a) (laid_high at a part parts on) ∙ is)
+    past_on : (a : ℕ) → a < size → at ≤ a → is_covered parts a ≡ true → a < slice_index next a
+    past_on a within on is = filled.past a within (ap (λ ps. is_covered ps a) (laid_high at a part parts on) ∙ is)
 
     -- what stands before is that of this part too
     bytes_back : (a : ℕ) → a < size → a < at → slice_index memory a ≡ byte_of file (part ∷ parts) a
@@ -170,8 +170,8 @@ module _ (file : List ℕ) (size : ℕ) (part : Part) (parts : List Part) where
     covered_back a b within back up down = ap (λ ps. is_covered ps b) (sym (laid_low at a part parts back))
         ∙ filled.covered a b within up down
 
-    passed_back : (a : ℕ) → a < size → a < at → is_covered (part ∷ parts) a ≡ true → a < slice_index next a
-    passed_back a within back is = filled.passed a within (ap (λ ps. is_covered ps a) (laid_low at a part parts back) ∙ is)
+    past_back : (a : ℕ) → a < size → a < at → is_covered (part ∷ parts) a ≡ true → a < slice_index next a
+    past_back a within back is = filled.past a within (ap (λ ps. is_covered ps a) (laid_low at a part parts back) ∙ is)
 
     -- the part covers what is up to its end
     covered_new : (b : ℕ) → at ≤ b → b < end → is_covered (part ∷ parts) b ≡ true
@@ -209,11 +209,11 @@ module _ (file : List ℕ) (size : ℕ) (part : Part) (parts : List Part) where
 
       passed_before : (a : ℕ) → a < size → a < at → is_covered (part ∷ parts) a ≡ true → a < slice_index (set next at reach) a
       passed_before a within back is =
-          subst (λ n. a < n) (sym (set_there reach a (λ e. omega (arith, e, back)))) (passed_back a within back is)
+          subst (λ n. a < n) (sym (set_there reach a (λ e. omega (arith, e, back)))) (past_back a within back is)
 
       passed_after : (a : ℕ) → a < size → at < a → is_covered parts a ≡ true → a < slice_index (set next at reach) a
       passed_after a within on is =
-          subst (λ n. a < n) (sym (set_there reach a (λ e. omega (arith, e, on)))) (passed_on a within (omega (arith, on)) is)
+          subst (λ n. a < n) (sym (set_there reach a (λ e. omega (arith, e, on)))) (past_on a within (omega (arith, on)) is)
 
       passed_at : (a : ℕ) → a ≡ at → end ≤ reach → a < slice_index (set next at reach) a
       passed_at a is far = subst (λ n. a < n) (sym (ap (slice_index (set next at reach)) is ∙ set_here reach)) (omega (arith, is, to, far))
@@ -252,7 +252,7 @@ module _ (file : List ℕ) (size : ℕ) (part : Part) (parts : List Part) where
               (λ high. ap (λ ps. is_covered ps b) (laid_high past a part parts high)
               ∙ covered_after a b within (omega (arith, over, high)) up down)
               (cases_lt a past);
-          passed = λ a within is. ⊎_elim
+          past = λ a within is. ⊎_elim
               (λ low. passed_hopped a within low (ap (λ ps. is_covered ps a) (sym (laid_low past a part parts low)) ∙ is))
               (λ high. passed_after a within (omega (arith, over, high))
               (ap (λ ps. is_covered ps a) (sym (laid_high past a part parts high)) ∙ is))
@@ -263,7 +263,7 @@ module _ (file : List ℕ) (size : ℕ) (part : Part) (parts : List Part) where
       module _ (free : past ≤ at) (far : end ≤ reach) (byte : ℕ) (byte_is : byte ≡ byte_in file at (Some part)) where
         not_covered : is_covered parts at ≡ false
         not_covered = ⊎_elim
-            (λ was. absurd (omega (arith, free, past_is, passed_on at here (omega arith) was)))
+            (λ was. absurd (omega (arith, free, past_is, past_on at here (omega arith) was)))
             (λ not. not)
             (cases_Bool (is_covered parts at))
 
@@ -302,7 +302,7 @@ module _ (file : List ℕ) (size : ℕ) (part : Part) (parts : List Part) where
               (λ high. ap (λ ps. is_covered ps b) (laid_high (at + 1) a part parts high)
               ∙ covered_after a b within (omega (arith, high)) up down)
               (cases_lt a (at + 1));
-          passed = λ a within is. ⊎_elim
+          past = λ a within is. ⊎_elim
               (λ low. passed_written a within (omega (arith, low))
               (ap (λ ps. is_covered ps a) (sym (laid_low (at + 1) a part parts low)) ∙ is))
               (λ high. passed_after a within (omega (arith, high))
@@ -318,7 +318,7 @@ aside file size part parts memory next unseen filled = record {
   next_long = filled.next_long;
   bytes = λ a within. filled.bytes a within ∙ sym (byte_aside file part parts a (unseen a));
   covered = λ a b within up down. or_right (covers b part) (is_covered parts b) (filled.covered a b within up down);
-  passed = λ a within is. filled.passed a within (or_less (covers a part) (is_covered parts a) is (unseen a));
+  past = λ a within is. filled.past a within (or_less (covers a part) (is_covered parts a) is (unseen a));
 }
 
 pub not_loaded : (part : Part) → is_loaded part ≡ false → (a : ℕ) → covers a part ≡ false
@@ -337,7 +337,7 @@ empty file size memory next memory_is next_is = record {
   bytes = λ a within. ap (λ xs. slice_index xs a) memory_is ∙ get_or-replicate size a 0 0 within;
   covered = λ a b within up down. absurd
       (omega (arith, subst (λ n. b < n) (ap (λ xs. slice_index xs a) next_is ∙ get_or-replicate size a 0 0 within) down));
-  passed = λ a within is. absurd (true≢false (sym is));
+  past = λ a within is. absurd (true≢false (sym is));
 }
 
 -- all parts

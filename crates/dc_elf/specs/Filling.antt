@@ -15,7 +15,7 @@ pub record Filled (file : List ℕ) (size : ℕ) (laid : ℕ → List Part) (mem
   pub next_long : length next ≡ size
   pub bytes : (a : ℕ) → a < size → slice_index memory a ≡ byte_of file (laid a) a
   pub covered : (a b : ℕ) → a < size → a ≤ b → b < slice_index next a → is_covered (laid a) b ≡ true
-  pub passed : (a : ℕ) → a < size → is_covered (laid a) a ≡ true → a < slice_index next a
+  pub past : (a : ℕ) → a < size → is_covered (laid a) a ≡ true → a < slice_index next a
 
 -- the parts everywhere
 abbrev pub everywhere : List Part → ℕ → List Part

@@ -9,13 +9,13 @@ use Rattle.dc_model.specs.Process.{moved, fits, is_next_input, visible_of, comes
 use Rattle.dc_model.specs.Runs.{Given, state, IsRun, IsMail, visibles}
 use Rattle.dc_model.specs.Guests.Event.{AtVisible}
 use Rattle.dc_model.specs.Guests.Answer.{Plain, Clock, Random, InputNone, InputNext, InputEnd, ReceiveNone, ReceiveFrom}
-use Rattle.dc_model.specs.World.{World, put, answer_for, happened, apply, run_from, run, opened, act_of, reported, world_of}
+use Rattle.dc_model.specs.FailureFree.{FailureFree, put, answer_for, happened, apply, run_from, run, opened, act_of, reported, world_of}
 use Rattle.dc_model.specs.declared.act.Taken.{Taken}
 use Rattle.dc_model.specs.declared.visible.Visible.{Visible}
 use Rattle.dc_model.proofs.Own.{own_yes, own_no, put_self, put_other}
 
 -- a run with one act more at its end
-run_more : {Mc : Type 0} (G : Guests Mc) (o : Option (World Mc)) (w : World Mc) (acts : List Taken) (x : Taken)
+run_more : {Mc : Type 0} (G : Guests Mc) (o : Option (FailureFree Mc)) (w : FailureFree Mc) (acts : List Taken) (x : Taken)
     → run_from G o acts ≡ Some w → run_from G o (acts ++ x ∷ []) ≡ apply G w x.p x.act
 run_more G o w [] x e = ap (λ v. run_from G v (x ∷ [])) e
 run_more G None w (y ∷ acts) x e = cc
@@ -67,7 +67,7 @@ reported_run G (x ∷ acts) is_run =
     let last : Taken = record { t = x.t; p = x.p; act = act_of x.answer } in
     let again = answer_again G acts x.p x.answer is_run.1.fitting is_run.1.mail in
     run_more G (Some (opened G)) (world_of G acts) (reported acts) last (reported_run G acts is_run.0)
-    ∙ rw (again, is_run.1.fitting) (ap (λ (w : World _). Some w) (happened_next G acts x))
+    ∙ rw (again, is_run.1.fitting) (ap (λ (w : FailureFree _). Some w) (happened_next G acts x))
 
 -- lists that end alike
 ends_alike : {A : Type 0} (xs ys : List A) (x y : A) → xs ++ x ∷ [] ≡ ys ++ y ∷ [] → (xs ≡ ys) × (x ≡ y)

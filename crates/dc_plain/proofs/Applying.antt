@@ -8,7 +8,7 @@ use Rattle.std.proofs.lemmas.Option.{slice_get-map, slice_get_read}
 use Rattle.dc_elf.specs.Images.{Image}
 use Rattle.dc_elf.specs.declared.image.Image as loaded
 use Rattle.dc_guest.specs.Guest.{Guest, guests_of}
-use Rattle.dc_model.specs.World.{World, apply, apply_answer, happened, opened, answer_for}
+use Rattle.dc_model.specs.FailureFree.{FailureFree, apply, apply_answer, happened, opened, answer_for}
 use Rattle.dc_elf.specs.Loaded.{seen_image}
 use Rattle.dc_words.specs.Lists.{lists_of}
 use Rattle.dc_plain.specs.Playing.{AreAmong, Happens, answer_to, if_fits, local_at, local_in, local_of, Played, played, procs_of, standing_of, world_at, world_in}
@@ -20,7 +20,7 @@ use Rattle.dc_plain.specs.declared.applied.Applied.{Applied}
 use Rattle.dc_plain.specs.declared.process.Process.{Process}
 use Rattle.dc_model.specs.declared.visible.Visible.{Visible}
 
-module _ {Mc : Type 0} (G : Guests Mc) (w : World Mc) (p : ℕ) where
+module _ {Mc : Type 0} (G : Guests Mc) (w : FailureFree Mc) (p : ℕ) where
   by_fit : (b : Bool) (a : Answer) → (if b then Some (happened G w p a) else None) ≡ option_map (happened G w p) (if b then Some a else None)
   by_fit true a = refl
   by_fit false a = refl
@@ -44,7 +44,7 @@ world_is processes inputs visibles = λ i. record { procs = λ p. proc p i; visi
     proc p = ap (λ n. local_in n p (slice_get (map standing_of processes) p)) (length-map processes standing_of)
         ∙ ap (local_in (length processes) p) (slice_get-map standing_of processes p) ∙ local_is (length processes) p (slice_get processes p)
 
-module _ {Mc : Type 0} (G : Guests Mc) (w : World Mc) (p : ℕ) (b : Act) where
+module _ {Mc : Type 0} (G : Guests Mc) (w : FailureFree Mc) (p : ℕ) (b : Act) where
   pub refused : None ≡ answer_to G w p b → apply G w p b ≡ None
   refused none = applied_by G w p b ∙ ap (option_map (happened G w p)) (sym none)
 
@@ -87,7 +87,7 @@ opens images lists processes inputs visibles begins none = world_is processes in
 pub local_there : (w : Played) (processes : List Process) (inputs : List (Vec (List ℕ) Global)) (visibles : List Visible) (p : ℕ) (l : Process) → played processes inputs visibles ≡ w
     → p < length w.processes → l ≡ slice_index_or processes p l → local_of l ≡ (world_in w).procs p
 local_there w processes inputs visibles p l view_is within at = sym (ap (local_at (length processes) p) there)
-    ∙ ap (λ (x : World Guest). x.procs p) (sym (world_is processes inputs visibles) ∙ ap world_in view_is)
+    ∙ ap (λ (x : FailureFree Guest). x.procs p) (sym (world_is processes inputs visibles) ∙ ap world_in view_is)
   where
     inside : p < length processes
     inside = subst (λ n. p < n) (ap (λ (x : Played). length x.processes) (sym view_is) ∙ length-map processes standing_of) within
@@ -109,7 +109,7 @@ count_there w processes inputs visibles p l view_is within at each = ap (λ (x :
 pub visible_is : (w : Played) (processes : List Process) (inputs : List (Vec (List ℕ) Global)) (visibles : List Visible) (p : ℕ) (l : Process) → played processes inputs visibles ≡ w
     → p < length w.processes → l ≡ slice_index_or processes p l → l.visible ≡ ((world_in w).procs p).visible
 visible_is w processes inputs visibles p l view_is within at = ap (λ (x : Local Guest). x.visible) (sym (ap (local_at (length processes) p) there))
-    ∙ ap (λ (x : World Guest). (x.procs p).visible) (sym (world_is processes inputs visibles) ∙ ap world_in view_is)
+    ∙ ap (λ (x : FailureFree Guest). (x.procs p).visible) (sym (world_is processes inputs visibles) ∙ ap world_in view_is)
   where
     inside : p < length processes
     inside = subst (λ n. p < n) (ap (λ (x : Played). length x.processes) (sym view_is) ∙ length-map processes standing_of) within

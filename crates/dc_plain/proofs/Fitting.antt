@@ -12,7 +12,7 @@ use Rattle.dc_events.specs.declared.event.Next.{Next}
 use Rattle.dc_guest.specs.Answers.{may_answer}
 use Rattle.dc_guest.specs.Guest.{Guest, coming, event_of, guests_of, next_of}
 use Rattle.dc_guest.proofs.Coming.{by_kind, kind_at, not_ended}
-use Rattle.dc_model.specs.World.{World, answer_for}
+use Rattle.dc_model.specs.FailureFree.{FailureFree, answer_for}
 use Rattle.dc_words.specs.Lists.{items_of, lists_of}
 use Rattle.dc_plain.specs.Playing.{answer_to, can_be, ends_well, local_at, local_of, procs_of}
 use Rattle.dc_model.specs.Guests.{Answer, Event, Guests, is_clock, is_input, is_random, is_receive, is_sure}
@@ -150,7 +150,7 @@ module _ (images : List Image) (inputs : List (List (List ℕ))) where
   next_is None a is = cc
   next_is (Some bytes) a is = λ taken same. let one : bytes ≡ taken = cc in ap (λ (xs : List ℕ). Some xs) one
 
-  answer_hands : (w : World Guest) (p : ℕ) (b : Act) (a : Answer) → answer_for G w p b ≡ Some a → Hands a (slice_get (G.inputs p) (w.procs p).inputs_taken)
+  answer_hands : (w : FailureFree Guest) (p : ℕ) (b : Act) (a : Answer) → answer_for G w p b ≡ Some a → Hands a (slice_get (G.inputs p) (w.procs p).inputs_taken)
   answer_hands w p act.Plain a is = λ bytes same. absurd cc
   answer_hands w p (act.Clock v) a is = λ bytes same. absurd cc
   answer_hands w p (act.Random v) a is = λ bytes same. absurd cc
@@ -166,7 +166,7 @@ module _ (images : List Image) (inputs : List (List (List ℕ))) where
       from false (Some message) sent = λ bytes same. absurd cc
 
   -- the answer of an act, where it fits
-  pub fits_answer : (w : World Guest) (p : ℕ) (b : Act) (a : Answer) (fit : Bool) → answer_for G w p b ≡ Some a
+  pub fits_answer : (w : FailureFree Guest) (p : ℕ) (b : Act) (a : Answer) (fit : Bool) → answer_for G w p b ≡ Some a
       → fit ≡ (can_be (w.procs p).machine a && ends_well a (slice_get (G.inputs p) (w.procs p).inputs_taken)) → answer_to G w p b ≡ (if fit then Some a else None)
   fits_answer w p b a fit is tests = rw is (ap (λ (c : Bool). if c then Some a else None) (fits_by p (w.procs p) a (answer_hands w p b a is) ∙ sym tests))
 
@@ -183,7 +183,7 @@ module _ (images : List Image) (inputs : List (Vec (List ℕ) Global)) (processe
   abbrev G' : Guests Guest
   G' = guests_of images (lists_of inputs)
 
-  abbrev w' : World Guest
+  abbrev w' : FailureFree Guest
   w' = record { procs = procs_of processes; visibles = visibles }
 
   pub no_answer : answer_for G' w' p b ≡ None → None ≡ answer_to G' w' p b

@@ -5,7 +5,7 @@ use Rattle.std.proofs.lemmas.List.{length-set}
 use Rattle.std.proofs.lemmas.Option.{slice_get_within}
 use Rattle.dc_elf.specs.Images.{Image}
 use Rattle.dc_guest.specs.Guest.{Guest, coming, guests_of}
-use Rattle.dc_model.specs.World.{happened, put}
+use Rattle.dc_model.specs.FailureFree.{happened, put}
 use Rattle.dc_plain.specs.Playing.{body_of, local_at, local_of, procs_of, world_at}
 use Rattle.dc_model.specs.Guests.{Answer, Event, Guests}
 use Rattle.dc_model.specs.Process.{Local, moved, visible_of}

@@ -9,7 +9,7 @@ use Rattle.dc_events.specs.Kinds.{kind_of}
 use Rattle.dc_guest.specs.Answers.{answer_of, may_answer}
 use Rattle.dc_guest.specs.Guest.{Guest, coming, next_of, started}
 use Rattle.dc_isa.specs.declared.regs.Regs.{Regs}
-use Rattle.dc_model.specs.World.{World, answer_for, happened}
+use Rattle.dc_model.specs.FailureFree.{FailureFree, answer_for, happened}
 use Rattle.dc_model.specs.Guests.{Answer, Event, Guests, is_send, is_visible}
 use Rattle.dc_model.specs.Process.{Local, fits}
 use Rattle.dc_model.specs.Guests.Answer.{InputEnd, InputNext, ReceiveFrom}
@@ -53,12 +53,12 @@ abbrev pub AreAmong : ℕ → List Process → Type 0
 AreAmong n processes = All (λ (l : Process). l.guest.count ≡ n) processes
 
 -- the answer that an act of a process gives, if it fits
-abbrev pub if_fits : {Mc : Type 0} → Guests Mc → World Mc → ℕ → Option Answer → Option Answer
+abbrev pub if_fits : {Mc : Type 0} → Guests Mc → FailureFree Mc → ℕ → Option Answer → Option Answer
 if_fits G w p None = None
 if_fits G w p (Some a) = if fits G p (w.procs p) a then Some a else None
 
 -- the answer that an act gives, where it fits
-abbrev pub answer_to : {Mc : Type 0} → Guests Mc → World Mc → ℕ → Act → Option Answer
+abbrev pub answer_to : {Mc : Type 0} → Guests Mc → FailureFree Mc → ℕ → Act → Option Answer
 answer_to G w p act = if_fits G w p (answer_for G w p act)
 
 -- no input is left, where an answer says so
@@ -99,7 +99,7 @@ body_of (AtVisible body) = Some body
 body_of _ = None
 
 -- the world of a list of processes
-abbrev pub world_at : List Process → List Visible → World Guest
+abbrev pub world_at : List Process → List Visible → FailureFree Guest
 world_at processes visibles = record { procs = procs_of processes; visibles = visibles }
 
 -- what a process has come to, as lists: its guest, how many inputs it took, how many messages it received from each, all that it sent to each, and how many visible events it had
@@ -130,7 +130,7 @@ local_in n p None = started_at p n None
 local_in n p (Some s) = record { machine = s.guest; inputs_taken = s.inputs_taken; received = λ q. slice_index s.received q; sent = λ q. unwrap_or (slice_get s.sent q) []; visible = s.visible }
 
 -- the world that they have come to
-abbrev pub world_in : Played → World Guest
+abbrev pub world_in : Played → FailureFree Guest
 world_in w = record { procs = λ p. local_in (length w.processes) p (slice_get w.processes p); visibles = w.visibles }
 
 -- the registers of a guest
@@ -147,7 +147,7 @@ sends_by (Some (Send to from count)) = true
 sends_by _ = false
 
 -- what an act was to a process: the answer that it gives and that fits, the world after it, and whether others see the event
-pub record Happens {Mc : Type 0} (G : Guests Mc) (old : World Mc) (p : ℕ) (act : Act) (applied : Applied) (new : World Mc) : Type 0 where
+pub record Happens {Mc : Type 0} (G : Guests Mc) (old : FailureFree Mc) (p : ℕ) (act : Act) (applied : Applied) (new : FailureFree Mc) : Type 0 where
   pub answered : answer_to G old p act ≡ Some (answer_of applied.answer)
   pub new_is : new ≡ happened G old p (answer_of applied.answer)
   pub shows : applied.shows ≡ is_visible (G.next (old.procs p).machine)

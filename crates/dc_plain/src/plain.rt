@@ -4,7 +4,7 @@ ghost use Rattle.dc_elf.specs.Images.{Image as Images};
 ghost use Rattle.dc_guest.specs.Answers.{answer_of};
 ghost use Rattle.dc_guest.specs.Guest.{coming, guests_of};
 ghost use Rattle.dc_model.specs.Guests.{is_send, is_visible};
-ghost use Rattle.dc_model.specs.World.{apply, happened, opened, answer_for};
+ghost use Rattle.dc_model.specs.FailureFree.{apply, happened, opened, answer_for};
 ghost use Rattle.dc_elf.specs.Loaded.{CanStart, seen_image};
 ghost use Rattle.dc_words.specs.Lists.{items_of, lists_of};
 ghost use Rattle.dc_words.specs.Words.{bytes_in};

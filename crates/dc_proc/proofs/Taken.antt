@@ -18,11 +18,13 @@ use Rattle.dc_links.specs.Links.{link_to, trimmed, with_sent}
 use Rattle.dc_model.specs.Guests.{Answer}
 use Rattle.dc_model.specs.Guests.Answer.{InputNext, ReceiveFrom}
 use Rattle.dc_model.specs.declared.act.Taken.{Taken}
+use Rattle.dc_model.specs.declared.mark.Mark.{Mark}
+use Rattle.dc_model.specs.declared.visible.Visible.{Visible}
 use Rattle.dc_proc.proofs.Happening.{answer_rest, effect_rest}
 use Rattle.dc_proc.proofs.Moving.{running}
 use Rattle.dc_proc.specs.Events.{kernel_after, status_after, with_answer, with_effect}
 use Rattle.dc_proc.specs.Processes.{Held, committed_held, has_ended}
-use Rattle.dc_proc.specs.Turns.{acts_with, shown_of}
+use Rattle.dc_proc.specs.Turns.{IsShown, acts_with, shown_of}
 use Rattle.dc_proc.specs.Ups.{IsWhole, held}
 use Rattle.dc_proc.specs.declared.shown.Shown.{Shown}
 use Rattle.dc_proc.specs.declared.up.Up.{Up}
@@ -110,11 +112,16 @@ waiting (next.Trap cause) fact waits is = is
 waiting (next.Call call) fact waits is = is
 
 -- what is shown is of the event that comes
-pub shown_found : (r : Result (Option Shown) CheckFault) (o : Option (List ℕ)) (n : Next) (g : Bare) (k : ℕ) → IfSome o (λ w. n ≡ next_of (over g w))
-    → IfOk r (λ s. IfSome o (λ w. s ≡ shown_of (effect_of (event_of n (machine_over g w))) k)) → IfOk r (λ s. IfSome o (λ w. s ≡ shown_of (effect_of (event_of (next_of (over g w)) (machine_over g w))) k))
-shown_found (Err why) o n g k found is = tt
-shown_found (Ok s) None n g k found is = tt
-shown_found (Ok s) (Some w) n g k found is = is ∙ ap (λ m. shown_of (effect_of (event_of m (machine_over g w))) k) found
+shows_found : (o : Option (List ℕ)) (n : Next) (g : Bare) (k : ℕ) (what : Option Shown) → IfSome o (λ w. n ≡ next_of (over g w))
+    → IfSome o (λ w. what ≡ shown_of (effect_of (event_of n (machine_over g w))) k) → IfSome o (λ w. what ≡ shown_of (effect_of (event_of (next_of (over g w)) (machine_over g w))) k)
+shows_found None n g k what found is = tt
+shows_found (Some w) n g k what found is = is ∙ ap (λ m. shown_of (effect_of (event_of m (machine_over g w))) k) found
+
+pub shown_found : (r : Result Mark CheckFault) (o : Option (List ℕ)) (n : Next) (g : Bare) (k p : ℕ) (s : Option Visible) → IfSome o (λ w. n ≡ next_of (over g w))
+    → IfOk r (λ mark. IsShown p mark s (λ done. IfSome o (λ w. done ≡ shown_of (effect_of (event_of n (machine_over g w))) k)))
+    → IfOk r (λ mark. IsShown p mark s (λ done. IfSome o (λ w. done ≡ shown_of (effect_of (event_of (next_of (over g w)) (machine_over g w))) k)))
+shown_found (Err why) o n g k p s found is = tt
+shown_found (Ok mark) o n g k p s found is = record { done = is.done; mark_is = is.mark_is; shown_is = is.shown_is; showed = shows_found o n g k is.done found is.showed }
 
 -- what holds holds where the memory is told
 pub told_also : {A : Type 0} (o : Option A) {P : Type 0} → P → IfSome o (λ w. P)

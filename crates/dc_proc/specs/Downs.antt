@@ -4,12 +4,17 @@ use Rattle.dc_limits.specs.declared.bounds.TheConstants.{LOGGED_EVENTS}
 use Rattle.dc_checkpoint.specs.States.{Gives, Reading}
 use Rattle.dc_elf.specs.Images.{Image}
 use Rattle.dc_guest.specs.Guest.{Guest}
+use Rattle.dc_checkpoint.specs.declared.faults.StoreFault.{StoreFault}
+use Rattle.dc_checkpoint.specs.declared.faults.StoreFault.TheVariants as faults
+use Rattle.dc_kernel.specs.Kernels.{Kernel}
 use Rattle.dc_kernel.specs.Layout.{kernel_words}
+use Rattle.dc_kernel.specs.Texts.{text_of}
 use Rattle.dc_checkpoint.specs.declared.faults.CheckFault.{CheckFault}
 use Rattle.dc_kernel.specs.declared.saved.Saved.{Saved}
 use Rattle.dc_model.specs.Guests.{Answer}
 use Rattle.dc_model.specs.Process.{oldest}
 use Rattle.dc_proc.specs.Carried.{system}
+use Rattle.dc_proc.specs.Events.{HasCountsFor}
 use Rattle.dc_proc.specs.Processes.{Held, IsOver, IsProcess, IsSavedAs, Stands}
 use Rattle.dc_proc.specs.declared.down.Down.{Down}
 use Rattle.dc_protocols.specs.declared.protocol.Protocol.{Protocol}
@@ -54,6 +59,16 @@ abbrev pub RisesAt : Saved → Held → Type 0
 RisesAt saved held = (images : List Image) (inputs : List (List (List ℕ))) (protocol : Protocol) (p : ℕ) (answers : List Answer) (others : ℕ → ℕ) (s : Save) (memory : Option (List ℕ)) (r : Reading)
     → Gives memory saved r → IsSavedAs (system images inputs protocol).guests p answers others s r → reach (system images inputs protocol) p answers s ≤ length answers
     → IsProcess (system images inputs protocol) p (oldest (reach (system images inputs protocol) p answers s) answers) (risen s) memory held × ((q : ℕ) → q < (system images inputs protocol).guests.count → slice_index held.others q ≤ others q)
+
+-- what is read is a state with this kernel
+abbrev pub HasKernel : Kernel → Reading → Type 0
+HasKernel kernel (Ok state) = state.kernel ≡ text_of kernel
+HasKernel kernel (Err fault) = ⊥
+
+-- what is read is a reason to refuse its store so: it is refused itself, or its counts have no room for so many turns, which is a fault of its kernel
+abbrev pub IsReason : ℕ → StoreFault → Reading → Type 0
+IsReason turns fault (Err why) = why ≡ fault
+IsReason turns fault (Ok state) = (fault ≡ faults.Kernel) × ((kernel : Kernel) × (state.kernel ≡ text_of kernel) × (HasCountsFor turns kernel → ⊥))
 
 -- the fault alone
 abbrev pub fault_only : {A B : Type 0} → Result A (B × CheckFault) → Result (Unit {0}) CheckFault

@@ -14,8 +14,11 @@ use Rattle.dc_kernel.specs.declared.records.LogRecord.{LogRecord}
 use Rattle.dc_model.specs.Guests.{Answer}
 use Rattle.dc_model.specs.Guests.Answer.{ReceiveFrom}
 use Rattle.dc_model.specs.Process.{at_position}
-use Rattle.dc_model.specs.World.{act_of}
+use Rattle.dc_model.specs.FailureFree.{act_of}
 use Rattle.dc_model.specs.declared.act.Taken.{Taken}
+use Rattle.dc_model.specs.declared.mark.Mark.{Mark}
+use Rattle.dc_model.specs.declared.mark.Mark.TheVariants as marks
+use Rattle.dc_model.specs.declared.visible.Visible.{Visible}
 use Rattle.dc_proc.specs.Carried.{IsIn, Process, system}
 use Rattle.dc_proc.specs.Processes.{Stands}
 use Rattle.dc_proc.specs.Ups.{held}
@@ -56,6 +59,23 @@ since_of u kind a any = record {
 abbrev pub shown_of : Effect → ℕ → Option Shown
 shown_of (Shows body) k = Some (record { k = k; body = body })
 shown_of _ k = None
+
+-- the mark of a turn that was taken, by what it showed
+abbrev pub taken_mark : Option Shown → Mark
+taken_mark None = marks.Stepped
+taken_mark (Some shown) = marks.Showed shown.k
+
+-- what process p showed, as a record that all see
+abbrev pub visible_shown : ℕ → Option Shown → Option Visible
+visible_shown p None = None
+visible_shown p (Some shown) = Some (record { p = p; k = shown.k; body = shown.body })
+
+-- the mark of a turn that process p took, and what all see of it, are of one thing that it showed, or of nothing, of which this is said
+pub record IsShown (p : ℕ) (mark : Mark) (shown : Option Visible) (says : Option Shown → Type 0) : Type 0 where
+  pub done : Option Shown
+  pub mark_is : mark ≡ taken_mark done
+  pub shown_is : shown ≡ visible_shown p done
+  pub showed : says done
 
 -- the acts with the act of a turn that was answered so, where it is new: where the process has taken as many events as it has acts
 abbrev pub acts_with : List Taken → Kernel → ℕ → Answer → List Taken

@@ -7,7 +7,7 @@ ghost use Rattle.dc_checkpoint.specs.States.{Gives, Reading};
 ghost use Rattle.dc_kernel.specs.Kernels.{IsKernel};
 ghost use Rattle.dc_checkpoint.specs.declared.faults.StoreFault as faults;
 ghost use Rattle.dc_links.specs.Links.{link_to, number_of_first};
-ghost use Rattle.dc_proc.specs.Downs.{IsDown, IsOf, Rises, RisesAt, based_of, fault_only};
+ghost use Rattle.dc_proc.specs.Downs.{HasKernel, IsDown, IsOf, Rises, RisesAt, based_of, fault_only};
 ghost use Rattle.dc_proc.specs.Processes.{IsCopied, IsNumbered, IsPaired};
 ghost use Rattle.dc_proc.specs.Ups.{IsWhole, held};
 
@@ -133,6 +133,7 @@ impl Down {
         ensures number { IfOk result (λ up. IfSome (C.contents store.new dev.new) (λ words. (most : ℕ) → IsNumbered most (C.leaves store.old dev.old 0) → (held up).kernel.commit ≤ most)) }
         ensures floor { OnOk result (C.floor store.new ≤ 0) }
         ensures stands { (reading : Reading) → C.leaves store.new dev.new 0 reading → C.leaves store.old dev.old 0 reading }
+        ensures kernel { IfOk result (λ up. (reading : Reading) → C.leaves store.new dev.new 0 reading → HasKernel (held up).kernel reading) }
         ensures refused { (fault : faults.StoreFault) → IsErrOf (fault_only result) (CheckFault.Refused fault) → (reading : Reading) → C.leaves store.new dev.new 0 reading → reading ≡ Err fault }
         ensures no_higher { AreNoHigher (C.numbers store.old dev.old) (C.numbers store.new dev.new) }
         ensures goes { IfOk result (λ up. IfSome (C.contents store.new dev.new) (λ words. Rises (C.leaves store.old dev.old 0) (C.contents store.new dev.new) (held up) (C.leaves store.new dev.new 0))) }

@@ -1,6 +1,6 @@
 //! A turn of one process: the commit before, the act, the log record, the event, the commit after.
 
-ghost use Rattle.std.specs.Prelude.{◌≡◌, ◌<◌, ◌≤◌, ◌+◌, ◌*◌, ◌-◌, ◌^◌, ◌&&◌, not, ℕ, List, false, true, IfOk, IfSome, IfErr, OnErr, OnOk, length, slice_index};
+ghost use Rattle.std.specs.Prelude.{◌≡◌, ◌<◌, ◌≤◌, ◌+◌, ◌*◌, ◌-◌, ◌^◌, ◌&&◌, not, ℕ, List, false, true, None, IfOk, IfSome, IfErr, OnErr, OnOk, length, slice_index};
 ghost use Rattle.dc_checkpoint.specs.Calls.{AreAmong, IsCall, Narrows, on};
 ghost use Rattle.dc_events.specs.Kinds.{kind_of};
 ghost use Rattle.dc_guest.specs.Answers.{answer_of, effect_of, may_answer};
@@ -12,12 +12,13 @@ ghost use Rattle.dc_checkpoint.specs.Handles.{showing_of};
 ghost use Rattle.dc_proc.specs.Carried.{process};
 ghost use Rattle.dc_proc.specs.Events.{HasCounts, HasCountsFor, HasNextReceiver, HasNextRoom, IsSender};
 ghost use Rattle.dc_proc.specs.Processes.{IsNumbered, IsPaired};
-ghost use Rattle.dc_proc.specs.Turns.{StopsTurn, TakesTurn, acts_with, is_none, makes_eight, shown_of, since_of};
+ghost use Rattle.dc_proc.specs.Turns.{IsShown, StopsTurn, TakesTurn, acts_with, is_none, makes_eight, shown_of, since_of};
 ghost use Rattle.dc_proc.specs.Ups.{IsSameUp, IsWhole, held};
 ghost use Rattle.dc_protocols.specs.Rules.{at_inputs, is_joint, rule_of};
 ghost use Rattle.dc_recovery.specs.Alone.{without_commits};
 
-use crate::shown::Shown;
+use crate::answered::Answered;
+use crate::shown::hand_on;
 use crate::up::Up;
 use dc_acts::Acts;
 use dc_calls::Call;
@@ -26,7 +27,7 @@ use dc_events::{Kind, Next};
 use dc_guest::Answer;
 use dc_kernel::Kernel;
 use dc_limits::KEPT_MESSAGES;
-use dc_model::Taken;
+use dc_model::{Mark, Taken, Visible};
 use dc_protocols::{Rule, Since, is_joint, rule};
 
 /// Whether an answer makes eight uncommitted receipts from one sender.
@@ -106,10 +107,10 @@ impl Up {
     }
 
     /// Adds the act of a turn, where the event is one that the process has no act of.
-    fn add_act(&self, t: u32, answer: &Answer, acts: &mut Acts)
+    fn add_act(&self, answered: &Answered, acts: &mut Acts)
         requires room { length acts.old.items < acts.old.room }
         requires few { length acts.old.items < 2 ^ 32 - 1 }
-        ensures acts { acts.new.items ≡ acts_with acts.old.items self.now.kernel t (answer_of answer.now) }
+        ensures acts { acts.new.items ≡ acts_with acts.old.items self.now.kernel answered.now.t (answer_of answered.now.answer) }
         ensures room { acts.old.room ≤ acts.new.room }
         ensures grown { length acts.new.items ≤ length acts.old.items + 1 }
     {
@@ -118,9 +119,9 @@ impl Up {
         let _n = self.kernel.n();
         if self.kernel.position() == acts.count_of(p) {
             acts.push(Taken {
-                t,
+                t: answered.t,
                 p,
-                act: answer.act(),
+                act: answered.answer.act(),
             });
         }
     }
@@ -131,10 +132,10 @@ impl Up {
         next: &Next,
         store: &mut C,
         dev: &mut C::Device,
-        t: u32,
-        answer: &Answer,
+        answered: &Answered,
         acts: &mut Acts,
-    ) -> Result<Option<Shown>, CheckFault>
+        shown: &mut Option<Visible>,
+    ) -> Result<Mark, CheckFault>
         requires lent { C.lent store.old dev.old }
         requires ready { C.ready store.old dev.old }
         requires sized { self.old.size ≡ 4 * C.size store.old }
@@ -145,12 +146,13 @@ impl Up {
         requires fits { NextFits (4 * C.size store.old) self.old.guest.number self.old.guest.count next.now }
         requires found { IfSome (C.contents store.old dev.old) (λ words. next.now ≡ next_of (over self.old.guest words)) }
         requires free { HasNextRoom self.old.kernel next.now }
-        requires kind { IfSome (C.contents store.old dev.old) (λ words. may_answer (answer_of answer.now) (kind_of next.now) ≡ true) }
-        requires sender { IsSender self.old.kernel (answer_of answer.now) }
+        requires kind { IfSome (C.contents store.old dev.old) (λ words. may_answer (answer_of answered.now.answer) (kind_of next.now) ≡ true) }
+        requires sender { IsSender self.old.kernel (answer_of answered.now.answer) }
         requires counts { HasCounts self.old.kernel }
         requires number { self.old.kernel.commit < 2 ^ 32 - 2 }
         requires room { length acts.old.items < acts.old.room }
         requires few { length acts.old.items < 2 ^ 32 - 1 }
+        requires nothing { shown.old ≡ None }
         ensures call { IsCall (showing_of C.Checkpoint) (on store.old dev.old) (on store.new dev.new) result }
         ensures ready { OnOk result (C.ready store.new dev.new) }
         ensures paired { OnOk result (IsPaired (held self.new) (C.form store.new) (C.number store.new) (C.logged store.new)) }
@@ -164,31 +166,33 @@ impl Up {
         ensures same { IsSameUp self.old self.new }
         ensures room { acts.old.room ≤ acts.new.room }
         ensures grown { length acts.new.items ≤ length acts.old.items + 1 }
-        ensures goes { OnOk result (TakesTurn C.Checkpoint self.old.protocol (answer_of answer.now) (process store.old dev.old (held self.old)) (process store.new dev.new (held self.new))) }
-        ensures acts { OnOk result (acts.new.items ≡ acts_with acts.old.items self.old.kernel t (answer_of answer.now)) }
-        ensures shown { IfOk result (λ shown. IfSome (C.contents store.old dev.old) (λ words. shown ≡ shown_of (effect_of (event_of next.now (machine_over self.old.guest words))) self.old.kernel.visible)) }
-        ensures stopped { OnErr result (StopsTurn C.Checkpoint self.old.protocol (answer_of answer.now) (process store.old dev.old (held self.old)) (process store.new dev.new (held self.new)) (record {
+        ensures goes { OnOk result (TakesTurn C.Checkpoint self.old.protocol (answer_of answered.now.answer) (process store.old dev.old (held self.old)) (process store.new dev.new (held self.new))) }
+        ensures acts { OnOk result (acts.new.items ≡ acts_with acts.old.items self.old.kernel answered.now.t (answer_of answered.now.answer)) }
+        ensures showed { IfOk result (λ mark. IsShown self.old.kernel.p mark shown.new (λ done. IfSome (C.contents store.old dev.old) (λ words. done ≡ shown_of (effect_of (event_of next.now (machine_over self.old.guest words))) self.old.kernel.visible))) }
+        ensures unshown { OnErr result (shown.new ≡ None) }
+        ensures stopped { OnErr result (StopsTurn C.Checkpoint self.old.protocol (answer_of answered.now.answer) (process store.old dev.old (held self.old)) (process store.new dev.new (held self.new)) (record {
           before = acts.old.items;
-          more = acts_with acts.old.items self.old.kernel t (answer_of answer.now);
+          more = acts_with acts.old.items self.old.kernel answered.now.t (answer_of answered.now.answer);
           after = acts.new.items;
         })) }
     {
         let effect = self.effect(next, store, dev);
         let kind = next.kind();
         let replay = self.replays(kind);
+        let answer = &answered.answer;
         let asked = self.rule(kind, answer);
         self.commit_if(asked.before, store, dev)?;
-        self.add_act(t, answer, acts);
+        self.add_act(answered, acts);
         let rec = self.record_of(answer);
         self.append_if(asked.log, &rec, store, dev)?;
         self.advance(next, answer, store, dev)?;
-        let shown = self.note_event(next, answer, effect, replay, asked.log);
+        let done = self.note_event(next, answer, effect, replay, asked.log);
         self.commit_if(asked.after, store, dev)?;
-        Ok(shown)
+        Ok(hand_on(done, self.kernel.p(), shown))
     }
 
     /// Takes the next event with this answer, with all that the protocol asks for: a commit before it, its act, where the process has
-    /// none of it yet, a log record of the answer, the event, a commit after it. What it shows is told once all of it was done.
+    /// none of it yet, a log record of the answer, the event, a commit after it. What it shows is handed on once all of it was done.
     ///
     /// Stopped or failed, it was so in one of these, and only `fall` may follow. Where all processes fall together no commit is made.
     /// Where the memory is not told a send may find that it has no room: then nothing is done.
@@ -196,10 +200,10 @@ impl Up {
         &mut self,
         store: &mut C,
         dev: &mut C::Device,
-        t: u32,
-        answer: &Answer,
+        answered: &Answered,
         acts: &mut Acts,
-    ) -> Result<Option<Shown>, CheckFault>
+        shown: &mut Option<Visible>,
+    ) -> Result<Mark, CheckFault>
         requires lent { C.lent store.old dev.old }
         requires ready { C.ready store.old dev.old }
         requires sized { self.old.size ≡ 4 * C.size store.old }
@@ -207,12 +211,13 @@ impl Up {
         requires whole { IsWhole self.old }
         requires runs { self.old.guest.ended ≡ false }
         requires free { IfSome (C.contents store.old dev.old) (λ words. HasNextRoom self.old.kernel (next_of (over self.old.guest words))) }
-        requires kind { IfSome (C.contents store.old dev.old) (λ words. may_answer (answer_of answer.now) (kind_of (next_of (over self.old.guest words))) ≡ true) }
-        requires sender { IsSender self.old.kernel (answer_of answer.now) }
+        requires kind { IfSome (C.contents store.old dev.old) (λ words. may_answer (answer_of answered.now.answer) (kind_of (next_of (over self.old.guest words))) ≡ true) }
+        requires sender { IsSender self.old.kernel (answer_of answered.now.answer) }
         requires counts { HasCounts self.old.kernel }
         requires number { self.old.kernel.commit < 2 ^ 32 - 2 }
         requires room { length acts.old.items < acts.old.room }
         requires few { length acts.old.items < 2 ^ 32 - 1 }
+        requires nothing { shown.old ≡ None }
         ensures call { IsCall (showing_of C.Checkpoint) (on store.old dev.old) (on store.new dev.new) result }
         ensures ready { OnOk result (C.ready store.new dev.new) }
         ensures paired { OnOk result (IsPaired (held self.new) (C.form store.new) (C.number store.new) (C.logged store.new)) }
@@ -226,29 +231,30 @@ impl Up {
         ensures same { IsSameUp self.old self.new }
         ensures room { acts.old.room ≤ acts.new.room }
         ensures grown { length acts.new.items ≤ length acts.old.items + 1 }
-        ensures goes { OnOk result (TakesTurn C.Checkpoint self.old.protocol (answer_of answer.now) (process store.old dev.old (held self.old)) (process store.new dev.new (held self.new))) }
-        ensures acts { OnOk result (IfSome (C.contents store.old dev.old) (λ words. acts.new.items ≡ acts_with acts.old.items self.old.kernel t (answer_of answer.now))) }
-        ensures shown { IfOk result (λ shown. IfSome (C.contents store.old dev.old) (λ words. shown ≡ shown_of (effect_of (event_of (next_of (over self.old.guest words)) (machine_over self.old.guest words))) self.old.kernel.visible)) }
-        ensures stopped { OnErr result (StopsTurn C.Checkpoint self.old.protocol (answer_of answer.now) (process store.old dev.old (held self.old)) (process store.new dev.new (held self.new)) (record {
+        ensures goes { OnOk result (TakesTurn C.Checkpoint self.old.protocol (answer_of answered.now.answer) (process store.old dev.old (held self.old)) (process store.new dev.new (held self.new))) }
+        ensures acts { OnOk result (IfSome (C.contents store.old dev.old) (λ words. acts.new.items ≡ acts_with acts.old.items self.old.kernel answered.now.t (answer_of answered.now.answer))) }
+        ensures showed { IfOk result (λ mark. IsShown self.old.kernel.p mark shown.new (λ done. IfSome (C.contents store.old dev.old) (λ words. done ≡ shown_of (effect_of (event_of (next_of (over self.old.guest words)) (machine_over self.old.guest words))) self.old.kernel.visible))) }
+        ensures unshown { OnErr result (shown.new ≡ None) }
+        ensures stopped { OnErr result (StopsTurn C.Checkpoint self.old.protocol (answer_of answered.now.answer) (process store.old dev.old (held self.old)) (process store.new dev.new (held self.new)) (record {
           before = acts.old.items;
-          more = acts_with acts.old.items self.old.kernel t (answer_of answer.now);
+          more = acts_with acts.old.items self.old.kernel answered.now.t (answer_of answered.now.answer);
           after = acts.new.items;
         })) }
     {
         match self.step(store, dev) {
             Ok(Next::Retire) => {
-                self.add_act(t, answer, acts);
+                self.add_act(answered, acts);
                 self.note_retired();
-                Ok(None)
+                Ok(Mark::Stepped)
             }
             Ok(next) => {
                 if self.is_blocked(&next) {
-                    return Ok(None);
+                    return Ok(Mark::Stepped);
                 }
-                self.take(&next, store, dev, t, answer, acts)
+                self.take(&next, store, dev, answered, acts, shown)
             }
             Err(fault) => {
-                self.add_act(t, answer, acts);
+                self.add_act(answered, acts);
                 Err(fault)
             }
         }

@@ -18,7 +18,7 @@ use dc_media::{DeviceFault, Tear};
 use dc_memmedia::{ListedCall, MemKeeps};
 use dc_model::{Act, Body, Taken, Visible};
 use dc_plain::Plain;
-use dc_proc::{Down, Shown, Up, processes_stand};
+use dc_proc::{Answered, Down, Up, processes_stand};
 use dc_protocols::Protocol;
 use dc_vista::Segment;
 use dc_words::bytes_of;
@@ -132,18 +132,18 @@ impl Course {
     }
 
     /// Notes what was shown: the next record, or one that was shown before.
-    fn note(&mut self, shown: Option<Shown>, position: u32) -> Option<()> {
-        let Some(Shown { k, body }) = shown else {
+    fn note(&mut self, shown: Option<Visible>, position: u32) -> Option<()> {
+        let Some(shown) = shown else {
             return Some(());
         };
         self.exposed = self.exposed.max(position);
-        if let Some(line) = self.lines.get(k as usize) {
-            return is_same(&line.body, &body).then_some(());
+        if let Some(line) = self.lines.get(shown.k as usize) {
+            return is_same(&line.body, &shown.body).then_some(());
         }
-        if k as usize != self.lines.len() {
+        if shown.p != 0 || shown.k as usize != self.lines.len() {
             return None;
         }
-        self.lines.push(Visible { p: 0, k, body }).ok()
+        self.lines.push(shown).ok()
     }
 }
 
@@ -191,8 +191,15 @@ fn step<C: Checkpoint>(
     }
     course.acts.reserve(1).ok()?;
     let mut up = up;
-    match up.turn(store, dev, t, &answer, &mut course.acts) {
-        Ok(shown) => {
+    let mut shown = None;
+    match up.turn(
+        store,
+        dev,
+        &Answered { t, answer },
+        &mut course.acts,
+        &mut shown,
+    ) {
+        Ok(_) => {
             course.note(shown, up.kernel().position())?;
             Some(up)
         }

@@ -17,13 +17,12 @@ use Rattle.dc_model.specs.declared.visible.Visible.{Visible}
 use Rattle.dc_proc.specs.Carried.{process}
 use Rattle.dc_proc.specs.Events.{HasCounts, HasCountsFor, HasNextRoom, IsSender}
 use Rattle.dc_proc.specs.Processes.{IsNumbered, IsPaired}
-use Rattle.dc_proc.specs.Turns.{StopsTurn, TakesTurn, acts_with, shown_of}
+use Rattle.dc_proc.specs.Turns.{IsShown, StopsTurn, TakesTurn, acts_with, shown_of}
 use Rattle.dc_proc.specs.Ups.{IsFit, IsSameUp, IsWhole, held}
 use Rattle.dc_proc.specs.declared.shown.Shown.{Shown}
 use Rattle.dc_proc.specs.declared.up.Up.{Up as Process}
 use Rattle.dc_protocols.specs.Rules.{is_joint}
 use Rattle.dc_processes.specs.Answers.{HasCallRoom}
-use Rattle.dc_processes.specs.Turns.{taken_mark, visible_shown}
 use Rattle.dc_processes.specs.declared.slot.Slot.{Slot}
 use Rattle.dc_processes.specs.declared.slot.Slot.TheVariants.{Down, Up}
 
@@ -68,19 +67,20 @@ MayTake g c dev a None = ⊥
 MayTake g c dev a (Some (Up u)) = MayTurn g c dev a u
 MayTake g c dev a (Some (Down d)) = ⊥
 
--- an attempt of a process at its next event: the number of the entry, the answer, and the acts before and after it
+-- an attempt of a process at its next event: the number of the entry, the answer, the acts before and after it, and what all see of it
 pub record Attempt : Type 0 where
   pub t : ℕ
   pub answer : Answer
   pub before : List Taken
   pub after : List Taken
+  pub shown : Option Visible
 
 -- such an attempt
-abbrev pub attempt : ℕ → Answer → List Taken → List Taken → Attempt
-attempt t answer before after = record { t = t; answer = answer; before = before; after = after }
+abbrev pub attempt : ℕ → Answer → List Taken → List Taken → Option Visible → Attempt
+attempt t answer before after shown = record { t = t; answer = answer; before = before; after = after; shown = shown }
 
 -- what became of process u in its slot, whole or refused: it is up still
-pub record HasTaken {C D : Type 0} (g : checkpoint.Ghosts C D) (old new : OnDevice C D) (e : Attempt) (result : Result (Option Shown) CheckFault) (u : Process) (slot : Option Slot) : Type 0 where
+pub record HasTaken {C D : Type 0} (g : checkpoint.Ghosts C D) (old new : OnDevice C D) (e : Attempt) (result : Result Mark CheckFault) (u : Process) (slot : Option Slot) : Type 0 where
   pub up : Process
   pub there : slot ≡ Some (Up up)
   pub same : IsSameUp u up
@@ -91,7 +91,7 @@ pub record HasTaken {C D : Type 0} (g : checkpoint.Ghosts C D) (old new : OnDevi
   pub counts : OnOk result ((turns : ℕ) → HasCountsFor (turns + 1) u.kernel → HasCountsFor turns up.kernel)
   pub goes : OnOk result (TakesTurn g u.protocol e.answer (process old.store old.dev (held u)) (process new.store new.dev (held up)))
   pub acts : OnOk result (IfSome (g.contents old.store old.dev) (λ words. e.after ≡ acts_with e.before u.kernel e.t e.answer))
-  pub shown : IfOk result (λ shown. IfSome (g.contents old.store old.dev) (λ words. shown ≡ shown_of (effect_of (event_of (next_of (over u.guest words)) (machine_over u.guest words))) u.kernel.visible))
+  pub showed : IfOk result (λ mark. IsShown u.kernel.p mark e.shown (λ done. IfSome (g.contents old.store old.dev) (λ words. done ≡ shown_of (effect_of (event_of (next_of (over u.guest words)) (machine_over u.guest words))) u.kernel.visible)))
   pub stopped : OnErr result (StopsTurn g u.protocol e.answer (process old.store old.dev (held u)) (process new.store new.dev (held up))
       (record { before = e.before; more = acts_with e.before u.kernel e.t e.answer; after = e.after }))
   pub steady : is_joint u.protocol ≡ true → g.steady old.store old.dev → g.steady new.store new.dev × AreAmong (g.numbers old.store old.dev) (g.numbers new.store new.dev)
@@ -103,8 +103,5 @@ abbrev pub ShowsNext : {C D : Type 0} → checkpoint.Ghosts C D → C → D → 
 ShowsNext g c dev slot done = (u : Process) → slot ≡ Some (Up u) → IfSome (g.contents c dev) (λ words. done ≡ shown_of (effect_of (event_of (next_of (over u.guest words)) (machine_over u.guest words))) u.kernel.visible)
 
 -- the mark of a turn that process p took, and what all see of it
-pub record Shows {C D : Type 0} (g : checkpoint.Ghosts C D) (c : C) (dev : D) (slot : Option Slot) (p : ℕ) (mark : Mark) (shown : Option Visible) : Type 0 where
-  pub done : Option Shown
-  pub mark_is : mark ≡ taken_mark done
-  pub shown_is : shown ≡ visible_shown p done
-  pub showed : ShowsNext g c dev slot done
+abbrev pub Shows : {C D : Type 0} → checkpoint.Ghosts C D → C → D → Option Slot → ℕ → Mark → Option Visible → Type 0
+Shows g c dev slot p mark shown = IsShown p mark shown (ShowsNext g c dev slot)

@@ -1,16 +1,19 @@
 -- What one entry does to a world of the code.
-use Rattle.std.specs.Prelude.{◌≡◌, ◌≢◌, ◌<◌, ◌+◌, ◌-◌, ◌++◌, ◌∷◌, ℕ, List, [], Option, None, Some, false, true, slice_get, slice_set}
+use Rattle.std.specs.Prelude.{◌≡◌, ◌≢◌, ◌<◌, ◌+◌, ◌*◌, ◌-◌, ◌++◌, ◌∷◌, ℕ, List, [], Option, None, Some, false, true, if◌then◌else◌, slice_get, slice_set}
+use Rattle.dc_checkpoint.specs.States.{Reading}
 use Rattle.dc_checkpoint.specs.declared.checkpoint.Checkpoint as checkpoint
+use Rattle.dc_checkpoint.specs.declared.faults.StoreFault.{StoreFault}
 use Rattle.dc_elf.specs.Images.{Image}
 use Rattle.dc_model.specs.declared.entry.Entry.{Entry}
 use Rattle.dc_model.specs.declared.mark.Mark.{Mark}
-use Rattle.dc_model.specs.declared.mark.Mark.TheVariants as marks
 use Rattle.dc_model.specs.declared.visible.Visible.{Visible}
 use Rattle.dc_model.specs.Guests.{Answer}
 use Rattle.dc_model.specs.Process.{comes}
 use Rattle.dc_model.specs.Runs.{own}
+use Rattle.dc_proc.specs.Downs.{IsReason}
 use Rattle.dc_proc.specs.declared.shown.Shown.{Shown}
 use Rattle.dc_protocols.specs.Rules.{is_joint}
+use Rattle.dc_protocols.specs.declared.protocol.Protocol.{Protocol}
 use Rattle.dc_recovery.proofs.Given.{IsGiven}
 use Rattle.dc_recovery.specs.Answers.{rule_at, stores_at}
 use Rattle.dc_recovery.specs.Core.{Core, stands}
@@ -61,6 +64,18 @@ abbrev pub HasNoRun : {C D : Type 0} → checkpoint.Ghosts C D → Stage C D →
 HasNoRun g old new = (images : List Image) (schedule : List Entry) (c : Core) → IsTold g old → IsTold g new
     → IfCome g images schedule c old ⊥
 
+-- a store is refused so for its content: under some decided number all that it stands for is a reason, where so many turns are left
+abbrev pub IsRefused : {C D : Type 0} → checkpoint.Ghosts C D → ℕ → C → D → StoreFault → Type 0
+IsRefused g turns c dev fault = (d : ℕ) × ((reading : Reading) → g.leaves c dev d reading → IsReason turns fault reading)
+
+-- the store of process p is
+abbrev pub RefusesOne : {C D : Type 0} → checkpoint.Ghosts C D → ℕ → List C → D → ℕ → StoreFault → Type 0
+RefusesOne g turns stores dev p fault = (c : _) × (slice_get stores p ≡ Some c) × IsRefused g turns c dev fault
+
+-- for how many turns counts need room where so many are left: where all commit together, for two commits each that comes behind the recovery
+abbrev pub turns_owed : Protocol → ℕ → ℕ
+turns_owed protocol left = if is_joint protocol then 2 * (left - 1) else left
+
 -- whatever stores there are, each that of its slot, among them this one of process p
 abbrev pub WithStores : {C D : Type 0} → checkpoint.Ghosts C D → ℕ → C → (List C → Type 0) → Type 0
 WithStores g p c says = (stores : List _) → slice_get stores p ≡ Some c → ((q : ℕ) (x : _) → slice_get stores q ≡ Some x → g.index x ≡ q) → says stores
@@ -69,16 +84,6 @@ WithStores g p c says = (stores : List _) → slice_get stores p ≡ Some c → 
 abbrev pub line_count : Option Shown → ℕ
 line_count None = 0
 line_count (Some shown) = 1
-
--- the mark of a turn that was taken, by what it showed
-abbrev pub taken_mark : Option Shown → Mark
-taken_mark None = marks.Stepped
-taken_mark (Some shown) = marks.Showed shown.k
-
--- what process p showed, as a record that all see
-abbrev pub visible_shown : ℕ → Option Shown → Option Visible
-visible_shown p None = None
-visible_shown p (Some shown) = Some (record { p = p; k = shown.k; body = shown.body })
 
 -- after the entry, with so many lines more
 abbrev pub later : {C D : Type 0} → ℕ → Stage C D → Stage C D

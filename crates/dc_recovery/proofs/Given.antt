@@ -7,7 +7,7 @@ use Rattle.dc_model.specs.Guests.Answer.{InputNone, ReceiveFrom, ReceiveNone}
 use Rattle.dc_model.specs.Guests.Event.{AtClock, AtEnd, AtInput, AtInternal, AtRandom, AtReceive, AtSend, AtVisible}
 use Rattle.dc_model.specs.Process.{comes, fits}
 use Rattle.dc_model.specs.Runs.{own}
-use Rattle.dc_model.specs.World.{act_of}
+use Rattle.dc_model.specs.FailureFree.{act_of}
 use Rattle.dc_model.proofs.Draws.{input_answers, input_drawn, receive_answers, receive_drawn}
 use Rattle.dc_model.specs.Drawn.{draws, may_answer}
 use Rattle.dc_model.specs.declared.entry.Entry.{Entry}

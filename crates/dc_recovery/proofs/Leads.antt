@@ -8,7 +8,7 @@ use Rattle.dc_model.specs.Process.{Local, at_position, comes, fits, moved, shows
 use Rattle.dc_model.specs.Repeats.{NotSince, Note, RepeatsFirst, RepeatsFollow, noted, notes, numbers}
 use Rattle.dc_model.specs.Repeats.Note.{Recovers}
 use Rattle.dc_model.specs.Runs.{own, state, visibles}
-use Rattle.dc_model.specs.World.{find}
+use Rattle.dc_model.specs.FailureFree.{find}
 use Rattle.dc_model.specs.declared.entry.Entry.{Entry}
 use Rattle.dc_model.specs.declared.entry.Entry.TheVariants.{Turn}
 use Rattle.dc_model.specs.declared.mark.Mark.{Mark}

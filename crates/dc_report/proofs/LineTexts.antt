@@ -26,9 +26,9 @@ choose true x y z e = inl (refl, e)
 choose false x y z e = inr (refl, e)
 
 -- a test that went well, where the other way is a fault
-passed : {A : Type 0} (b : Bool) (x : Result A ReportKind) (kind : ReportKind) (z : A) → (if b then x else Err kind) ≡ Ok z → (b ≡ true) × (x ≡ Ok z)
-passed true x kind z e = (refl, e)
-passed false x kind z e = absurd (let never : ⊥ = cc in never)
+went_well : {A : Type 0} (b : Bool) (x : Result A ReportKind) (kind : ReportKind) (z : A) → (if b then x else Err kind) ≡ Ok z → (b ≡ true) × (x ≡ Ok z)
+went_well true x kind z e = (refl, e)
+went_well false x kind z e = absurd (let never : ⊥ = cc in never)
 
 -- the value of two in a row
 bound : {A B : Type 0} (first : Result A ReportKind) (f : A → Result B ReportKind) (z : B) → (first >>= f) ≡ Ok z → (x : A) × (first ≡ Ok x) × (f x ≡ Ok z)
@@ -75,7 +75,7 @@ small_sender n s few low = let h = ltb-true s n low in omega arith
 
 told_number : (act : ℕ → Act) (b : ℕ) (name what : List ℕ) (z : Act) (n : ℕ) → b ≤ 2 ^ 64 → ((v : ℕ) → v < b → (act_text (act v) ≡ name ++ 32 ∷ decimal v) × IsAct n (act v))
     → bounded act b what ≡ Ok z → IsTold z (name ∷ what ∷ []) n
-told_number act b name what z n large is e = let done = passed (is_below b what) (Ok (act (value what))) Form z e in
+told_number act b name what z n large is e = let done = went_well (is_below b what) (Ok (act (value what))) Form z e in
     let low = is_below_parts b what done.0 in
     let fits = is (value what) low.1 in
     let same : act (value what) ≡ z = cc in
@@ -97,7 +97,7 @@ told_input name what z n named e = ⊎_elim
     (λ d. told_word InputNone z (name ∷ what ∷ []) n (two name what (codes "input") (codes "none") named d.0) (omega arith) tt d.1)
     (λ d. ⊎_elim
     (λ d. told_word InputNext z (name ∷ what ∷ []) n (two name what (codes "input") (codes "next") named d.0) (omega arith) tt d.1)
-    (λ d. let f = passed (bytes_eq what (codes "end")) (Ok InputEnd) Form z d.1 in
+    (λ d. let f = went_well (bytes_eq what (codes "end")) (Ok InputEnd) Form z d.1 in
     told_word InputEnd z (name ∷ what ∷ []) n (two name what (codes "input") (codes "end") named f.0) (omega arith) tt f.1)
     (choose (bytes_eq what (codes "next")) _ _ _ d.1))
     (choose (bytes_eq what (codes "none")) _ _ _ e)
@@ -114,7 +114,7 @@ told_two name what z n e = ⊎_elim
     (λ d. told_bounded Random (2 ^ 32) name (codes "random") what z n d.0 (omega arith) (λ v low. (refl, low)) d.1)
     (λ d. ⊎_elim
     (λ d. told_input name what z n d.0 d.1)
-    (λ d. let f = passed (bytes_eq name (codes "receive") && bytes_eq what (codes "none")) (Ok ReceiveNone) Form z d.1 in
+    (λ d. let f = went_well (bytes_eq name (codes "receive") && bytes_eq what (codes "none")) (Ok ReceiveNone) Form z d.1 in
     let g = and_parts (bytes_eq name (codes "receive")) (bytes_eq what (codes "none")) f.0 in
     told_word ReceiveNone z (name ∷ what ∷ []) n (two name what (codes "receive") (codes "none") g.0 g.1) (omega arith) tt f.1)
     (choose (bytes_eq name (codes "input")) _ _ _ d.1))
@@ -130,7 +130,7 @@ told_three name from s z n few e low = subst (λ (x : Act). IsTold x (name ∷ f
 }
   where
     f : ((bytes_eq name (codes "receive") && (bytes_eq from (codes "from") && is_number s)) ≡ true) × (◌≡◌ {A = Result Act ReportKind} (Ok (ReceiveFrom (value s))) (Ok z))
-    f = passed (bytes_eq name (codes "receive") && (bytes_eq from (codes "from") && is_number s)) (Ok (ReceiveFrom (value s))) Form z e
+    f = went_well (bytes_eq name (codes "receive") && (bytes_eq from (codes "from") && is_number s)) (Ok (ReceiveFrom (value s))) Form z e
 
     g : (bytes_eq name (codes "receive") ≡ true) × ((bytes_eq from (codes "from") && is_number s) ≡ true)
     g = and_parts (bytes_eq name (codes "receive")) (bytes_eq from (codes "from") && is_number s) f.0
@@ -146,7 +146,7 @@ told_three name from s z n few e low = subst (λ (x : Act). IsTold x (name ∷ f
 
 told_is : (told : List (List ℕ)) (z : Act) (n : ℕ) → n ≤ 8 → act_by told ≡ Ok z → has_sender n z ≡ true → IsTold z told n
 told_is [] z n few e low = absurd (let never : ⊥ = cc in never)
-told_is (name ∷ []) z n few e low = let f = passed (bytes_eq name (codes "plain")) (Ok Plain) Form z e in
+told_is (name ∷ []) z n few e low = let f = went_well (bytes_eq name (codes "plain")) (Ok Plain) Form z e in
     told_word Plain z (name ∷ []) n (sym (is_text name (codes "plain") f.0)) (omega arith) tt f.1
 told_is (name ∷ what ∷ []) z n few e low = told_two name what z n e
 told_is (name ∷ from ∷ s ∷ []) z n few e low = told_three name from s z n few e low
@@ -179,7 +179,7 @@ taken_is n next t p told x few e = subst (λ (y : Taken). IsLine n next y (joine
 }
   where
     form : ((is_number t && is_number p) ≡ true) × ((act_by told >>= (λ act. admitted n next (record { t = value t; p = value p; act = act }))) ≡ Ok x)
-    form = passed (is_number t && is_number p) (act_by told >>= (λ act. admitted n next (record { t = value t; p = value p; act = act }))) Form x e
+    form = went_well (is_number t && is_number p) (act_by told >>= (λ act. admitted n next (record { t = value t; p = value p; act = act }))) Form x e
 
     numbers : (is_number t ≡ true) × (is_number p ≡ true)
     numbers = and_parts (is_number t) (is_number p) form.0
@@ -188,7 +188,7 @@ taken_is n next t p told x few e = subst (λ (y : Taken). IsLine n next y (joine
     read = bound (act_by told) (λ act. admitted n next (record { t = value t; p = value p; act = act })) x form.1
 
     in_place : ((nat_lt (value p) n && has_sender n read.0) ≡ true) × ((if nat_le next (value t) && nat_lt (value t) ENTRIES then Ok (record { t = value t; p = value p; act = read.0 }) else Err Turn) ≡ Ok x)
-    in_place = passed (nat_lt (value p) n && has_sender n read.0) (if nat_le next (value t) && nat_lt (value t) ENTRIES then Ok (record { t = value t; p = value p; act = read.0 }) else Err Turn) Process x read.2
+    in_place = went_well (nat_lt (value p) n && has_sender n read.0) (if nat_le next (value t) && nat_lt (value t) ENTRIES then Ok (record { t = value t; p = value p; act = read.0 }) else Err Turn) Process x read.2
 
     process : value p < n
     process = ltb-true (value p) n (and_parts (nat_lt (value p) n) (has_sender n read.0) in_place.0).0
@@ -197,7 +197,7 @@ taken_is n next t p told x few e = subst (λ (y : Taken). IsLine n next y (joine
     kept = told_is told read.0 n few read.1 (and_parts (nat_lt (value p) n) (has_sender n read.0) in_place.0).1
 
     in_turn : ((nat_le next (value t) && nat_lt (value t) ENTRIES) ≡ true) × (◌≡◌ {A = Result Taken ReportKind} (Ok (record { t = value t; p = value p; act = read.0 })) (Ok x))
-    in_turn = passed (nat_le next (value t) && nat_lt (value t) ENTRIES) (Ok (record { t = value t; p = value p; act = read.0 })) Turn x in_place.1
+    in_turn = went_well (nat_le next (value t) && nat_lt (value t) ENTRIES) (Ok (record { t = value t; p = value p; act = read.0 })) Turn x in_place.1
 
     turns : (nat_le next (value t) ≡ true) × (nat_lt (value t) ENTRIES ≡ true)
     turns = and_parts (nat_le next (value t)) (nat_lt (value t) ENTRIES) in_turn.0
@@ -249,7 +249,7 @@ closed_is next acts s e c l r few done = subst (λ (y : Report). IsClosed next a
 
     form : ((is_number s && (is_status (value s) && (is_number e && (is_number c && is_number l)))) ≡ true)
         × ((if value c == length acts && (nat_le (value e) 1000000 && (nat_le (value l) (value e) && is_past (value s) next (value e))) then Ok made else Err Count) ≡ Ok r)
-    form = passed (is_number s && (is_status (value s) && (is_number e && (is_number c && is_number l))))
+    form = went_well (is_number s && (is_status (value s) && (is_number e && (is_number c && is_number l))))
         (if value c == length acts && (nat_le (value e) 1000000 && (nat_le (value l) (value e) && is_past (value s) next (value e))) then Ok made else Err Count) Form r done
 
     status : (is_number s ≡ true) × ((is_status (value s) && (is_number e && (is_number c && is_number l))) ≡ true)
@@ -265,7 +265,7 @@ closed_is next acts s e c l r few done = subst (λ (y : Report). IsClosed next a
     form_c = and_parts (is_number c) (is_number l) form_e.1
 
     sums : ((value c == length acts && (nat_le (value e) 1000000 && (nat_le (value l) (value e) && is_past (value s) next (value e)))) ≡ true) × (◌≡◌ {A = Result Report ReportKind} (Ok made) (Ok r))
-    sums = passed (value c == length acts && (nat_le (value e) 1000000 && (nat_le (value l) (value e) && is_past (value s) next (value e)))) (Ok made) Count r form.1
+    sums = went_well (value c == length acts && (nat_le (value e) 1000000 && (nat_le (value l) (value e) && is_past (value s) next (value e)))) (Ok made) Count r form.1
 
     count : value c ≡ length acts
     count = eqb-true (value c) (length acts) (and_parts (value c == length acts) (nat_le (value e) 1000000 && (nat_le (value l) (value e) && is_past (value s) next (value e))) sums.0).0
@@ -316,7 +316,7 @@ read_named n next acts name fields l few count e = ⊎_elim
     (λ d. let f = bound (close_fields next acts fields) close_line_of l d.1 in
     let same : CloseLine f.0 ≡ l = let g = f.2 in cc in
     subst (IsRead n next acts (joined 32 (name ∷ fields))) same (close_fields_are next acts name fields f.0 count (is_text name (codes "close") d.0) f.1))
-    (λ d. let h = passed (bytes_eq name (codes "act")) (act_fields n next fields >>= act_line_of) Form l d.1 in
+    (λ d. let h = went_well (bytes_eq name (codes "act")) (act_fields n next fields >>= act_line_of) Form l d.1 in
     let f = bound (act_fields n next fields) act_line_of l h.1 in
     let same : ActLine f.0 ≡ l = let g = f.2 in cc in
     subst (IsRead n next acts (joined 32 (name ∷ fields))) same (act_fields_are n next name fields f.0 few (is_text name (codes "act") h.0) f.1))

@@ -3,7 +3,7 @@ ghost use Rattle.std.specs.declared.alloc.Global.{Global};
 ghost use Rattle.dc_checkpoint.specs.Handles.{IsSame};
 ghost use Rattle.dc_elf.specs.Loaded.{CanStart};
 ghost use Rattle.dc_model.specs.Runs.{Given};
-ghost use Rattle.dc_model.specs.World.{run};
+ghost use Rattle.dc_model.specs.FailureFree.{run};
 ghost use Rattle.dc_retrace.specs.Read.{AreReadOf};
 ghost use Rattle.dc_twophase.specs.Commits.{AllOld};
 ghost use Rattle.dc_twophase.specs.Counts.{IsJoint};

@@ -11,7 +11,7 @@ use Rattle.dc_links.specs.Links.{Link, link_to}
 use Rattle.dc_model.specs.Guests.{Answer, Guests}
 use Rattle.dc_model.specs.Process.{at_position, oldest}
 use Rattle.dc_model.specs.Runs.{Given, IsRun, own, state, visibles}
-use Rattle.dc_model.specs.World.{thin}
+use Rattle.dc_model.specs.FailureFree.{thin}
 use Rattle.dc_model.specs.declared.entry.Entry.{Entry}
 use Rattle.dc_model.specs.declared.visible.Visible.{Visible}
 use Rattle.dc_proc.specs.Carried.{system}

@@ -10,7 +10,7 @@ use Rattle.dc_model.specs.Guests.{Answer, Guests}
 use Rattle.dc_model.specs.Guests.Answer.{Plain, Clock, Random, InputNone, InputNext, InputEnd, ReceiveNone, ReceiveFrom}
 use Rattle.dc_model.specs.Process.{fits}
 use Rattle.dc_model.specs.Runs.{Given, IsMail, IsRun, state}
-use Rattle.dc_model.specs.World.{World, act_of, answer_for, apply_answer, happened, reported, run, run_from, world_of}
+use Rattle.dc_model.specs.FailureFree.{FailureFree, act_of, answer_for, apply_answer, happened, reported, run, run_from, world_of}
 use Rattle.dc_model.specs.declared.act.Act.{Act}
 use Rattle.dc_model.specs.declared.act.Act.TheVariants as act
 use Rattle.dc_model.specs.declared.act.Taken.{Taken}
@@ -40,19 +40,19 @@ module _ {Mc : Type 0} (G : Guests Mc) where
       let x = mapped (ReceiveFrom s) (slice_get ((state G acts s).sent p) ((state G acts p).received s)) a some in subst (IsTold acts p (act.ReceiveFrom s)) x.2 (refl, (other, x.1)))
       (cases_eq s p)
 
-  no_run : (acts : List Taken) (w : World Mc) → run_from G None acts ≡ Some w → ⊥
+  no_run : (acts : List Taken) (w : FailureFree Mc) → run_from G None acts ≡ Some w → ⊥
   no_run [] w e = let off : ⊥ = cc in off
   no_run (x ∷ acts) w e = let off : ⊥ = cc in off
 
   -- answers that were given, with the report that they have and the world that they make
-  pub record IsGivenAs (acts : List Taken) (w : World Mc) : Type 0 where
+  pub record IsGivenAs (acts : List Taken) (w : FailureFree Mc) : Type 0 where
     pub given : List Given
     pub reports : reported given ≡ acts
     pub is_run : IsRun G given
     pub world : world_of G given ≡ w
 
   -- with one act more, by the answer that it gives
-  given_by : (given : List Given) (x : Taken) (acts : List Taken) (w : World Mc) → IsRun G given
+  given_by : (given : List Given) (x : Taken) (acts : List Taken) (w : FailureFree Mc) → IsRun G given
       → ((more : List Given) → IsRun G more → run_from G (Some (world_of G more)) acts ≡ Some w → IsGivenAs (reported more ++ acts) w)
       → (o : Option Answer) → answer_for G (world_of G given) x.p x.act ≡ o → run_from G (apply_answer G (world_of G given) x.p o) acts ≡ Some w → IsGivenAs (reported given ++ x ∷ acts) w
   given_by given x acts w is_run next None is e = absurd (no_run acts w e)
@@ -61,18 +61,18 @@ module _ {Mc : Type 0} (G : Guests Mc) where
       let told = told_is given x.p x.act a is in
       let y : Given = record { t = x.t; p = x.p; answer = a } in
       let goes : run_from G (Some (happened G (world_of G given) x.p a)) acts ≡ Some w = rw fit at e in
-      let here : run_from G (Some (world_of G (y ∷ given))) acts ≡ Some w = subst (λ (v : World Mc). run_from G (Some v) acts ≡ Some w) (happened_next G given y) goes in
+      let here : run_from G (Some (world_of G (y ∷ given))) acts ≡ Some w = subst (λ (v : FailureFree Mc). run_from G (Some v) acts ≡ Some w) (happened_next G given y) goes in
       let same : record { t = x.t; p = x.p; act = act_of a } ≡ x = ap (λ (t : Act). record { t = x.t; p = x.p; act = t }) told.0 in
       let all : reported (y ∷ given) ++ acts ≡ reported given ++ x ∷ acts = append_assoc (reported given) (record { t = x.t; p = x.p; act = act_of a } ∷ []) acts ∙ ap (λ (z : Taken). reported given ++ z ∷ acts) same in
       subst (λ (xs : List Taken). IsGivenAs xs w) all (next (y ∷ given) (is_run, record { fitting = fit; mail = told.1 }) here))
       (λ (unfit : fits G x.p (state G given x.p) a ≡ false). absurd (no_run acts w (rw unfit at e)))
       (cases_Bool (fits G x.p (state G given x.p) a))
 
-  given_from : (given : List Given) (acts : List Taken) (w : World Mc) → IsRun G given → run_from G (Some (world_of G given)) acts ≡ Some w → IsGivenAs (reported given ++ acts) w
+  given_from : (given : List Given) (acts : List Taken) (w : FailureFree Mc) → IsRun G given → run_from G (Some (world_of G given)) acts ≡ Some w → IsGivenAs (reported given ++ acts) w
   given_from given [] w is_run e = record { given = given; reports = sym (append-nil (reported given)); is_run = is_run; world = let same : world_of G given ≡ w = cc in same }
   given_from given (x ∷ acts) w is_run e = given_by given x acts w is_run (λ more. given_from more acts w) (answer_for G (world_of G given) x.p x.act) refl e
 
-  pub given_as : (acts : List Taken) (w : World Mc) → run G acts ≡ Some w → IsGivenAs acts w
+  pub given_as : (acts : List Taken) (w : FailureFree Mc) → run G acts ≡ Some w → IsGivenAs acts w
   given_as acts w e = given_from [] acts w tt e
 
 -- acts that were drawn, taken apart at the end

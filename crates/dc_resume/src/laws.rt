@@ -9,7 +9,7 @@ ghost use Rattle.dc_model.proofs.Rising.{TurnsBelow};
 ghost use Rattle.dc_model.specs.Drawn.{Drawn};
 ghost use Rattle.dc_model.specs.Guests.{Answer, Guests};
 ghost use Rattle.dc_model.specs.Runs.{Given, IsRun, visibles};
-ghost use Rattle.dc_model.specs.World.{World, reported, run, thin, world_of};
+ghost use Rattle.dc_model.specs.FailureFree.{FailureFree, reported, run, thin, world_of};
 ghost use Rattle.dc_model.specs.declared.act.Taken.{Taken};
 ghost use Rattle.dc_model.specs.declared.entry.Entry.{Entry};
 ghost use Rattle.dc_model.specs.declared.mark.Mark.{Mark};
@@ -61,7 +61,7 @@ pub fn runs_resume<M>()
     ensures well { (S : System M) (schedule : List Entry) (start : Start) (marks : List Mark) (c : Core) → IsSound S
         → Holds S schedule start.entries start.core → ((q : ℕ) → (start.core.procs q).up ≡ false) → LeadsTo S schedule start marks c
         → GoesOnWell S schedule start marks c }
-    ensures told { (G : Guests M) (schedule : List Entry) (turn : ℕ) (acts : List Taken) (w : World M) → run G acts ≡ Some w
+    ensures told { (G : Guests M) (schedule : List Entry) (turn : ℕ) (acts : List Taken) (w : FailureFree M) → run G acts ≡ Some w
         → Drawn G.count schedule acts → TurnsBelow turn acts
         → (given : List Given) × (reported given ≡ acts) × IsRun G given × DrawnBelow G.count schedule turn given × (world_of G given ≡ w) }
 {}

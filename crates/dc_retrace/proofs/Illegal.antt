@@ -8,7 +8,7 @@ use Rattle.dc_model.proofs.Reports.{reported_run}
 use Rattle.dc_model.specs.Guests.{Answer, Guests}
 use Rattle.dc_model.specs.Process.{Local, fits}
 use Rattle.dc_model.specs.Runs.{Given}
-use Rattle.dc_model.specs.World.{World, answer_for, apply, apply_answer, happened, opened, reported, run, run_from, world_of}
+use Rattle.dc_model.specs.FailureFree.{FailureFree, answer_for, apply, apply_answer, happened, opened, reported, run, run_from, world_of}
 use Rattle.dc_model.specs.declared.act.Act.{Act}
 use Rattle.dc_model.specs.declared.act.Taken.{Taken}
 use Rattle.dc_plain.specs.Playing.{Played, world_in}
@@ -23,13 +23,13 @@ module _ {Mc : Type 0} (G : Guests Mc) where
   from_none [] = refl
   from_none (x ∷ acts) = refl
 
-  in_two : (o : Option (World Mc)) (xs ys : List Taken) → run_from G o (xs ++ ys) ≡ run_from G (run_from G o xs) ys
+  in_two : (o : Option (FailureFree Mc)) (xs ys : List Taken) → run_from G o (xs ++ ys) ≡ run_from G (run_from G o xs) ys
   in_two o [] ys = refl
   in_two None (x ∷ xs) ys = sym (from_none ys)
   in_two (Some w) (x ∷ xs) ys = in_two (apply G w x.p x.act) xs ys
 
   -- whether an act applies is seen of the processes alone
-  none_given : (w v : World Mc) (p : ℕ) (o : Option Answer) → w.procs p ≡ v.procs p → apply_answer G w p o ≡ None → apply_answer G v p o ≡ None
+  none_given : (w v : FailureFree Mc) (p : ℕ) (o : Option Answer) → w.procs p ≡ v.procs p → apply_answer G w p o ≡ None → apply_answer G v p o ≡ None
   none_given w v p None same none = refl
   none_given w v p (Some a) same none = by (fits G p (v.procs p) a) (subst (λ (l : Local Mc). (if fits G p l a then Some (happened G w p a) else None) ≡ None) same none)
     where
@@ -37,7 +37,7 @@ module _ {Mc : Type 0} (G : Guests Mc) where
       by true some = absurd (let off : ⊥ = cc in off)
       by false none = refl
 
-  none_applies : (w v : World Mc) (p : ℕ) (b : Act) → ((q : ℕ) → w.procs q ≡ v.procs q) → apply G w p b ≡ None → apply G v p b ≡ None
+  none_applies : (w v : FailureFree Mc) (p : ℕ) (b : Act) → ((q : ℕ) → w.procs q ≡ v.procs q) → apply G w p b ≡ None → apply G v p b ≡ None
   none_applies w v p b same none = subst (λ (o : Option Answer). apply_answer G v p o ≡ None) (answer_by G w v p b same) (none_given w v p (answer_for G w p b) (same p) none)
 
 -- the acts so far, one that does not apply, and whatever comes behind it

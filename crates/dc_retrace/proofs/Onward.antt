@@ -13,7 +13,7 @@ use Rattle.dc_model.specs.Guests.{Answer, Event, Guests, is_send, is_visible}
 use Rattle.dc_model.specs.Guests.Event.{AtEnd, AtInternal, AtClock, AtRandom, AtInput, AtReceive, AtVisible, AtSend}
 use Rattle.dc_model.specs.Process.{Local, comes, fits, local, moved, shows}
 use Rattle.dc_model.specs.Runs.{CanCome, Given, IsMail, own, state}
-use Rattle.dc_model.specs.World.{World, act_of, answer_for, put, reported, world_of}
+use Rattle.dc_model.specs.FailureFree.{FailureFree, act_of, answer_for, put, reported, world_of}
 use Rattle.dc_model.specs.declared.act.Act.{Act}
 use Rattle.dc_model.specs.declared.act.Act.TheVariants as act
 use Rattle.dc_model.specs.declared.act.Taken.{Taken}
@@ -29,7 +29,7 @@ use Rattle.dc_retrace.specs.declared.trail.Trail.{Trail}
 
 module _ {Mc : Type 0} (G : Guests Mc) where
   -- what an act gives, by the processes alone
-  pub answer_by : (w v : World Mc) (p : ℕ) (t : Act) → ((q : ℕ) → w.procs q ≡ v.procs q) → answer_for G w p t ≡ answer_for G v p t
+  pub answer_by : (w v : FailureFree Mc) (p : ℕ) (t : Act) → ((q : ℕ) → w.procs q ≡ v.procs q) → answer_for G w p t ≡ answer_for G v p t
   answer_by w v p act.Plain same = refl
   answer_by w v p (act.Clock x) same = refl
   answer_by w v p (act.Random x) same = refl
@@ -40,7 +40,7 @@ module _ {Mc : Type 0} (G : Guests Mc) where
   answer_by w v p (act.ReceiveFrom s) same = λ i. answer_for G (record { procs = λ q. same q i; visibles = [] }) p (act.ReceiveFrom s)
 
   -- an answer that fits was given, and fits
-  fit_some : (w : World Mc) (p : ℕ) (o : Option Answer) (a : Answer) → if_fits G w p o ≡ Some a → (o ≡ Some a) × (fits G p (w.procs p) a ≡ true)
+  fit_some : (w : FailureFree Mc) (p : ℕ) (o : Option Answer) (a : Answer) → if_fits G w p o ≡ Some a → (o ≡ Some a) × (fits G p (w.procs p) a ≡ true)
   fit_some w p None a is = absurd (let off : ⊥ = cc in off)
   fit_some w p (Some b) a is = ⊎_elim
       (λ (yes : fits G p (w.procs p) b ≡ true). let same : Some b ≡ Some a = sym (rw yes refl) ∙ is in let e : b ≡ a = cc in (ap (λ x. Some x) e, subst (λ x. fits G p (w.procs p) x ≡ true) e yes))
@@ -48,16 +48,16 @@ module _ {Mc : Type 0} (G : Guests Mc) where
       (cases_Bool (fits G p (w.procs p) b))
 
   -- what happened is one answer more
-  pub record OneMore (acts : List Given) (t p : ℕ) (b : Act) (a : Answer) (new : World Mc) : Type 0 where
+  pub record OneMore (acts : List Given) (t p : ℕ) (b : Act) (a : Answer) (new : FailureFree Mc) : Type 0 where
     pub act_is : act_of a ≡ b
     pub can_come : CanCome G acts (record { t = t; p = p; answer = a })
     pub procs_are : (q : ℕ) → new.procs q ≡ state G (record { t = t; p = p; answer = a } ∷ acts) q
 
-  pub one_more : (acts : List Given) (t p : ℕ) (b : Act) (applied : Applied) (old new : World Mc) → ((q : ℕ) → old.procs q ≡ state G acts q) → Happens G old p b applied new → OneMore acts t p b (answer_of applied.answer) new
+  pub one_more : (acts : List Given) (t p : ℕ) (b : Act) (applied : Applied) (old new : FailureFree Mc) → ((q : ℕ) → old.procs q ≡ state G acts q) → Happens G old p b applied new → OneMore acts t p b (answer_of applied.answer) new
   one_more acts t p b applied old new same is = record {
     act_is = told.0;
     can_come = record { fitting = subst (λ (l : Local Mc). fits G p l a ≡ true) (same p) given.1; mail = told.1 };
-    procs_are = λ q. ap (λ (w : World Mc). w.procs q) is.new_is ∙ (λ i. put p (moved G (same p i) a) (λ r. same r i) q) ∙ procs_next G acts (record { t = t; p = p; answer = a }) q;
+    procs_are = λ q. ap (λ (w : FailureFree Mc). w.procs q) is.new_is ∙ (λ i. put p (moved G (same p i) a) (λ r. same r i) q) ∙ procs_next G acts (record { t = t; p = p; answer = a }) q;
   }
     where
       a : Answer
@@ -108,7 +108,7 @@ module _ (images : List Image) (inputs : List (List (List ℕ))) (protocol : Pro
 
   -- where it then is
   pub procs_next_are : (q : ℕ) → (world_in plain2).procs q ≡ state G (x ∷ acts) q
-  procs_next_are q = ap (λ (w : World Guest). w.procs q) forgot ∙ more.procs_are q
+  procs_next_are q = ap (λ (w : FailureFree Guest). w.procs q) forgot ∙ more.procs_are q
 
   pub local_next : (world_in plain2).procs p ≡ local G p (a ∷ own p acts)
   local_next = procs_next_are p ∙ ap (local G p) (own_yes x acts p refl)

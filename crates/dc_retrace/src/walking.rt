@@ -9,7 +9,7 @@ ghost use Rattle.dc_kernel.specs.Kernels.{IsKernel};
 ghost use Rattle.dc_model.specs.Guests.{Answer as Answers};
 ghost use Rattle.dc_model.specs.Process.{local};
 ghost use Rattle.dc_model.specs.Runs.{Given, IsRun};
-ghost use Rattle.dc_model.specs.World.{act_of, apply, reported, run};
+ghost use Rattle.dc_model.specs.FailureFree.{act_of, apply, reported, run};
 ghost use Rattle.dc_plain.specs.Playing.{world_in};
 ghost use Rattle.dc_proc.specs.Carried.{system};
 ghost use Rattle.dc_proc.specs.Processes.{Stored};

@@ -9,7 +9,7 @@ use Rattle.dc_course.specs.Headline.{Setting}
 use Rattle.dc_course.specs.Lent.{TellsStores}
 use Rattle.dc_disk.specs.Logs.{AreLeftAt, comes_of_content}
 use Rattle.dc_guest.specs.Guest.{Guest}
-use Rattle.dc_model.specs.World.{World}
+use Rattle.dc_model.specs.FailureFree.{FailureFree}
 use Rattle.dc_model.specs.declared.act.Taken.{Taken}
 use Rattle.dc_plan.specs.Plans.{Plan}
 use Rattle.dc_report.specs.Reading.{IsReport, Report}
@@ -65,16 +65,16 @@ pub asked_for_report : (files : Files) (names : Halted) (setting : Setting) (w :
 asked_for_report files names setting w opens is there = subst (AsksToResume files names) (sym is) (rw opens there)
 
 -- acts that are a run
-pub none_stray : (halt : Option ℕ) (setting : Setting) (report : Report) (r : Result (World Guest) ℕ) → None ≡ first_stray r → going_by halt setting report r ≡ Ok (record { setting = setting; report = report; halt = halt_behind report.entries halt })
+pub none_stray : (halt : Option ℕ) (setting : Setting) (report : Report) (r : Result (FailureFree Guest) ℕ) → None ≡ first_stray r → going_by halt setting report r ≡ Ok (record { setting = setting; report = report; halt = halt_behind report.entries halt })
 none_stray halt setting report (Ok w) e = refl
 none_stray halt setting report (Err i) e = absurd (let never : ⊥ = cc in never)
 
 -- and acts that are none
-pub some_stray : (halt : Option ℕ) (setting : Setting) (report : Report) (i : ℕ) (r : Result (World Guest) ℕ) → Some i ≡ first_stray r → going_by halt setting report r ≡ Err (NotARun i)
+pub some_stray : (halt : Option ℕ) (setting : Setting) (report : Report) (i : ℕ) (r : Result (FailureFree Guest) ℕ) → Some i ≡ first_stray r → going_by halt setting report r ≡ Err (NotARun i)
 some_stray halt setting report i (Ok w) e = absurd (let never : ⊥ = cc in never)
 some_stray halt setting report i (Err j) e = let same : j ≡ i = cc in ap (λ k. Err (NotARun k)) same
 
-pub played_run : (setting : Setting) (acts : List Taken) (r : Result (World Guest) ℕ) → played (guests setting) setting.schedule acts ≡ r → None ≡ first_stray r → IsRunOf setting acts
+pub played_run : (setting : Setting) (acts : List Taken) (r : Result (FailureFree Guest) ℕ) → played (guests setting) setting.schedule acts ≡ r → None ≡ first_stray r → IsRunOf setting acts
 played_run setting acts (Ok w) is e = let both = drawn_when_played (guests setting) setting.schedule acts w is in record { world = w; run_is = both.1; drawn = both.0 }
 played_run setting acts (Err i) is e = absurd (let never : ⊥ = cc in never)
 

@@ -17,8 +17,8 @@ use Rattle.dc_model.proofs.Reports.{reported_once, reported_run}
 use Rattle.dc_model.proofs.Rising.{TurnsBelow}
 use Rattle.dc_model.specs.Drawn.{Drawn}
 use Rattle.dc_model.specs.Runs.{Given, visibles}
-use Rattle.dc_model.specs.World.{World, thin, world_of}
-use Rattle.dc_model.specs.World.{run as run_of}
+use Rattle.dc_model.specs.FailureFree.{FailureFree, thin, world_of}
+use Rattle.dc_model.specs.FailureFree.{run as run_of}
 use Rattle.dc_model.specs.declared.visible.Visible.{Visible}
 use Rattle.dc_recovery.proofs.Ends.{leads_follow}
 use Rattle.dc_recovery.proofs.Sound.{sound_system}
@@ -74,7 +74,7 @@ module _ {D : Type 0} (disk : disks.Ghosts D) (going : Going) (run : Account) (e
       let found : run_of S.guests going.report.acts ≡ Some (world_of S.guests left.core.acts) = ap (run_of S.guests) (sym left.acts_are) ∙ reported_run S.guests left.core.acts left.come.run in
       let same : Some (world_of S.guests left.core.acts) ≡ Some ran.world = sym found ∙ ran.run_is in
       let world : world_of S.guests left.core.acts ≡ ran.world = cc in
-      left.come.shown ∙ ap (λ (w : World Guest). w.visibles) world
+      left.come.shown ∙ ap (λ (w : FailureFree Guest). w.visibles) world
 
   abbrev goes : GoesOnFrom disk setting images going.report.acts lines run e out lent
   goes = kept.1 tells lines ran.world ran.run_is count thinned

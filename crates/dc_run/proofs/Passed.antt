@@ -30,7 +30,7 @@ use Rattle.dc_course.specs.declared.ending.Ending.TheVariants as ending
 use Rattle.dc_media.specs.Causes.{Rose}
 use Rattle.dc_run.specs.Media.{Devices}
 use Rattle.dc_model.specs.Repeats.{RepeatsAgree, notes, numbers}
-use Rattle.dc_model.specs.World.{thin}
+use Rattle.dc_model.specs.FailureFree.{thin}
 use Rattle.dc_model.specs.declared.mark.Mark.{Mark}
 use Rattle.dc_model.specs.declared.visible.Visible.{Visible}
 use Rattle.dc_recovery.specs.Core.{Core, opening}

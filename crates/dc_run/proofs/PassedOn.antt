@@ -12,7 +12,7 @@ use Rattle.dc_media.specs.Devices.{of_disks}
 use Rattle.dc_media.specs.declared.disks.Disks as disks
 use Rattle.dc_model.specs.Drawn.{Drawn}
 use Rattle.dc_model.specs.Repeats.{RepeatsAgree, RepeatsFirst}
-use Rattle.dc_model.specs.World.{thin}
+use Rattle.dc_model.specs.FailureFree.{thin}
 use Rattle.dc_model.specs.declared.act.Taken.{Taken}
 use Rattle.dc_model.specs.declared.visible.Visible.{Visible}
 use Rattle.dc_recovery.proofs.Lines.{agree_behind}

@@ -6,7 +6,7 @@ use Rattle.dc_audit.specs.Reading.{Journal, journal_of}
 use Rattle.dc_course.specs.Headline.{Setting}
 use Rattle.dc_guest.specs.Guest.{Guest}
 use Rattle.dc_model.specs.Repeats.{RepeatsAgree}
-use Rattle.dc_model.specs.World.{World, run, thin}
+use Rattle.dc_model.specs.FailureFree.{FailureFree, run, thin}
 use Rattle.dc_model.specs.declared.act.Taken.{Taken}
 use Rattle.dc_model.specs.declared.visible.Visible.{Visible}
 use Rattle.dc_run.specs.Checking.{checked_in}
@@ -39,7 +39,7 @@ IsGoneOnWith setting listed entries o = (files : Files) (names : Names') → ope
 -- lines that a run of this setting may have shown which reports these acts and so many lines: as many, without repeats the visible records of the acts, and
 -- each repeat equal to what it repeats
 pub record AreShown (setting : Setting) (acts : List Taken) (count : ℕ) (lines : List Visible) : Type 0 where
-  pub world : World Guest
+  pub world : FailureFree Guest
   pub acts_run : run (guests setting) acts ≡ Some world
   pub count_is : length lines ≡ count
   pub thinned : thin lines ≡ world.visibles

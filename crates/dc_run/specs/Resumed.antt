@@ -13,8 +13,8 @@ use Rattle.dc_elf.specs.declared.image.Image.{Image}
 use Rattle.dc_guest.specs.Guest.{Guest}
 use Rattle.dc_media.specs.Devices.{of_disks}
 use Rattle.dc_media.specs.declared.disks.Disks as disks
-use Rattle.dc_model.specs.World.{World, thin}
-use Rattle.dc_model.specs.World.{run as run_of}
+use Rattle.dc_model.specs.FailureFree.{FailureFree, thin}
+use Rattle.dc_model.specs.FailureFree.{run as run_of}
 use Rattle.dc_model.specs.declared.act.Taken.{Taken}
 use Rattle.dc_model.specs.declared.visible.Visible.{Visible}
 use Rattle.dc_recovery.specs.Recoveries.{resumed_core}
@@ -43,7 +43,7 @@ GoesOnFrom {D} disk setting images acts lines run ending out lent = (read : D) �
 -- acts, they and the lines of this part are those of one run.
 abbrev pub GoesOnKept : {D : Type 0} → disks.Ghosts D → Going → Account → Ending → Output → Loan D → Type 0
 GoesOnKept disk going run ending out lent = (i : ImagesOf going) × (TellsStores (of_disks disk) (length going.setting.images) lent.before lent.after
-    → (lines : List Visible) (world : World Guest) → run_of (system_in going.setting).guests going.report.acts ≡ Some world → length lines ≡ going.report.lines → thin lines ≡ world.visibles
+    → (lines : List Visible) (world : FailureFree Guest) → run_of (system_in going.setting).guests going.report.acts ≡ Some world → length lines ≡ going.report.lines → thin lines ≡ world.visibles
     → GoesOnFrom disk (onward_of going) i.images going.report.acts lines run ending out lent)
 
 -- a run that went on and kept the promise, with its report, of both parts: the status is that of the verdict before the report. One that was halted again left

@@ -6,7 +6,7 @@ use Rattle.dc_command.specs.declared.command.Ledger.TheVariants as ledger
 use Rattle.dc_course.specs.Headline.{Setting}
 use Rattle.dc_guest.specs.Guest.{Guest}
 use Rattle.dc_model.specs.Drawn.{Drawn}
-use Rattle.dc_model.specs.World.{World, run}
+use Rattle.dc_model.specs.FailureFree.{FailureFree, run}
 use Rattle.dc_model.specs.declared.act.Taken.{Taken}
 use Rattle.dc_model.specs.declared.entry.Entry.{Entry}
 use Rattle.dc_report.specs.Reading.{Report}
@@ -44,12 +44,12 @@ was_halted schedule report = report.status == 15 && nat_lt report.entries (lengt
 
 -- acts that are a run of the setting's guests, each drawn at its turn of the schedule
 pub record IsRunOf (setting : Setting) (acts : List Taken) : Type 0 where
-  pub world : World Guest
+  pub world : FailureFree Guest
   pub run_is : run (guests setting) acts ≡ Some world
   pub drawn : Drawn (length setting.images) setting.schedule acts
 
 -- with what the acts of the report lead to, or the position of the first that leads nowhere
-abbrev pub going_by : Option ℕ → Setting → Report → Result (World Guest) ℕ → Result Going Verdict
+abbrev pub going_by : Option ℕ → Setting → Report → Result (FailureFree Guest) ℕ → Result Going Verdict
 going_by halt setting report (Ok world) = Ok (record { setting = setting; report = report; halt = halt_behind report.entries halt })
 going_by halt setting report (Err position) = Err (NotARun position)
 

@@ -13,7 +13,7 @@ use Rattle.dc_limits.specs.declared.bounds.TheConstants.{ENTRIES}
 use Rattle.dc_limits.specs.declared.sizes.TheConstants.{PROCESSES}
 use Rattle.dc_model.specs.Drawn.{Drawn}
 use Rattle.dc_model.specs.Repeats.{RepeatsAgree}
-use Rattle.dc_model.specs.World.{World, run, thin}
+use Rattle.dc_model.specs.FailureFree.{FailureFree, run, thin}
 use Rattle.dc_model.specs.declared.act.Taken.{Taken}
 use Rattle.dc_model.specs.declared.entry.Entry.{Entry}
 use Rattle.dc_model.specs.declared.visible.Visible.{Visible}
@@ -33,13 +33,13 @@ module _ (images : List Image) (inputs : List (List (List ℕ))) (schedule : Lis
   few : length images < 2 ^ 32
   few = let h = is.few in omega (arith, h)
 
-  pub listed : (report : Report) (w : World Guest) → Drawn (length images) schedule report.acts → run (guests_of images inputs) report.acts ≡ Some w
+  pub listed : (report : Report) (w : FailureFree Guest) → Drawn (length images) schedule report.acts → run (guests_of images inputs) report.acts ≡ Some w
       → is_status report.status ≡ true → report.entries ≤ ENTRIES → report.lines ≤ report.entries
       → (report.status ≡ 15 → All (λ x. x.t < report.entries) report.acts) → report_of (length images) (text_of_report report) ≡ Ok report
   listed report w drawn ran status entries lines halted = report_again (length images) report is.few
       (record { status = status; acts = (run_written images inputs few is.images_are is.inputs_are schedule is.schedule_is report.acts w drawn ran).1; entries = entries; lines = lines; halted = halted })
 
-  pub shown : (acts : List Taken) (w : World Guest) (records : List Visible) → Drawn (length images) schedule acts → run (guests_of images inputs) acts ≡ Some w
+  pub shown : (acts : List Taken) (w : FailureFree Guest) (records : List Visible) → Drawn (length images) schedule acts → run (guests_of images inputs) acts ≡ Some w
       → thin records ≡ w.visibles → RepeatsAgree (reverse records) → finding_of (guests_of images inputs) schedule acts (text_of records) ≡ Passes (length w.visibles)
   shown acts w records drawn ran thinned agree =
       let all = run_written images inputs few is.images_are is.inputs_are schedule is.schedule_is acts w drawn ran in

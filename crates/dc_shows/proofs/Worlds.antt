@@ -12,7 +12,7 @@ use Rattle.dc_model.specs.Guests.{Answer, Event}
 use Rattle.dc_model.specs.Guests.{Answer as answer}
 use Rattle.dc_model.specs.Guests.Event.{AtEnd, AtInternal, AtClock, AtRandom, AtInput, AtReceive, AtVisible, AtSend}
 use Rattle.dc_model.specs.Process.{Local, fits, moved, posted, visible_of}
-use Rattle.dc_model.specs.World.{World, answer_for, apply, apply_answer, happened, opened, run, run_from}
+use Rattle.dc_model.specs.FailureFree.{FailureFree, answer_for, apply, apply_answer, happened, opened, run, run_from}
 use Rattle.dc_model.specs.declared.act.Act.{Act}
 use Rattle.dc_model.specs.declared.act.Act.TheVariants as act
 use Rattle.dc_model.specs.declared.act.Taken.{Taken}
@@ -111,7 +111,7 @@ module _ (images : List Image) (inputs : List (List (List ℕ))) (few : length i
       by_option None e = tt
       by_option (Some all) e = all_get (AllByRecursion IsHanded) inputs p all handed e
 
-  module _ (most left : ℕ) (w : World Guest) (p : ℕ) (one : p < length images) (is : IsTyped (length images) most (suc left) w) where
+  module _ (most left : ℕ) (w : FailureFree Guest) (p : ℕ) (one : p < length images) (is : IsTyped (length images) most (suc left) w) where
     received : (s : ℕ) (a : Answer) (o : Option (List ℕ)) → slice_get ((w.procs s).sent p) ((w.procs p).received s) ≡ o → option_map (answer.ReceiveFrom s) o ≡ Some a → IsTold a × (s < length images)
     received s a None e f = absurd (let never : ⊥ = cc in never)
     received s a (Some message) e f = let same : answer.ReceiveFrom s message ≡ a = cc in ⊎_elim
@@ -151,7 +151,7 @@ module _ (images : List Image) (inputs : List (List (List ℕ))) (few : length i
           (writes (length images) most p (w.procs p).visible (coming (w.procs p).machine) one (let c = is.count p one in omega (arith, c)) (comes_on (w.procs p).machine here.machine here.number here.count));
     }
 
-    by_answer : (x : Act) (o : Option Answer) (v : World Guest) → IsGiven x → answer_for (guests_of images inputs) w p x ≡ o → apply_answer (guests_of images inputs) w p o ≡ Some v
+    by_answer : (x : Act) (o : Option Answer) (v : FailureFree Guest) → IsGiven x → answer_for (guests_of images inputs) w p x ≡ o → apply_answer (guests_of images inputs) w p o ≡ Some v
         → IsTyped (length images) most left v × HasSender (length images) x
     by_answer x None v given e f = absurd (let never : ⊥ = cc in never)
     by_answer x (Some a) v given e f = let told = told_by x a given e in ⊎_elim
@@ -160,7 +160,7 @@ module _ (images : List Image) (inputs : List (List (List ℕ))) (few : length i
         (λ no. let none : None ≡ Some v = sym (rw no refl) ∙ f in absurd (let never : ⊥ = cc in never))
         (cases_Bool (fits (guests_of images inputs) p (w.procs p) a))
 
-    applied : (x : Act) (v : World Guest) → IsGiven x → apply (guests_of images inputs) w p x ≡ Some v → IsTyped (length images) most left v × HasSender (length images) x
+    applied : (x : Act) (v : FailureFree Guest) → IsGiven x → apply (guests_of images inputs) w p x ≡ Some v → IsTyped (length images) most left v × HasSender (length images) x
     applied x v given e = by_answer x (answer_for (guests_of images inputs) w p x) v given refl e
 
   module _ (schedule : List Entry) (is_schedule : IsSchedule (length images) schedule) where
@@ -168,13 +168,13 @@ module _ (images : List Image) (inputs : List (List (List ℕ))) (few : length i
     from_none [] = refl
     from_none (x ∷ acts) = refl
 
-    run_on : (most from : ℕ) (acts : List Taken) (w v : World Guest) → IsTyped (length images) most (length acts) w → DrawnFrom (length images) schedule from acts
+    run_on : (most from : ℕ) (acts : List Taken) (w v : FailureFree Guest) → IsTyped (length images) most (length acts) w → DrawnFrom (length images) schedule from acts
         → run_from (guests_of images inputs) (Some w) acts ≡ Some v → IsTyped (length images) most 0 v × AreActs (length images) from acts
     run_on most from [] w v is drawn e = let same : w ≡ v = cc in (subst (λ u. IsTyped (length images) most 0 u) same is, tt)
     run_on most from (x ∷ acts) w v is drawn e = by_apply (λ u typed on. run_on most (suc x.t) acts u v typed drawn.2 on) (apply (guests_of images inputs) w x.p x.act) refl e
       where
-        by_apply : ((u : World Guest) → IsTyped (length images) most (length acts) u → run_from (guests_of images inputs) (Some u) acts ≡ Some v → IsTyped (length images) most 0 v × AreActs (length images) (suc x.t) acts)
-            → (o : Option (World Guest)) → apply (guests_of images inputs) w x.p x.act ≡ o → run_from (guests_of images inputs) o acts ≡ Some v → IsTyped (length images) most 0 v × AreActs (length images) from (x ∷ acts)
+        by_apply : ((u : FailureFree Guest) → IsTyped (length images) most (length acts) u → run_from (guests_of images inputs) (Some u) acts ≡ Some v → IsTyped (length images) most 0 v × AreActs (length images) (suc x.t) acts)
+            → (o : Option (FailureFree Guest)) → apply (guests_of images inputs) w x.p x.act ≡ o → run_from (guests_of images inputs) o acts ≡ Some v → IsTyped (length images) most 0 v × AreActs (length images) from (x ∷ acts)
         by_apply rest None at on = let never : None ≡ Some v = sym (from_none acts) ∙ on in absurd (let no_way : ⊥ = cc in no_way)
         by_apply rest (Some u) at on = let by = drawn_by (length images) schedule x (slice_get schedule x.t) is_schedule.1 refl drawn.1 in
             let next = applied most (length acts) w x.p by.0 is x.act u by.1 at in
@@ -193,7 +193,7 @@ module _ (images : List Image) (inputs : List (List (List ℕ))) (few : length i
           sent = λ q. tt;
         }
 
-    pub run_written : (acts : List Taken) (w : World Guest) → Drawn (length images) schedule acts → run (guests_of images inputs) acts ≡ Some w
+    pub run_written : (acts : List Taken) (w : FailureFree Guest) → Drawn (length images) schedule acts → run (guests_of images inputs) acts ≡ Some w
         → AllByRecursion (CanWrite (length images) (length acts)) w.visibles × AreActs (length images) 0 acts
     run_written acts w drawn e = let all = run_on (length acts) 0 acts (opened (guests_of images inputs)) w (record { each = begins; count = λ p below. omega arith; silent = λ p above q. refl; visibles = tt }) drawn e in
         (all.0.visibles, all.1)

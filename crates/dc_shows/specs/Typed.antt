@@ -9,7 +9,7 @@ use Rattle.dc_model.specs.Guests.{Answer, Event}
 use Rattle.dc_model.specs.Guests.Answer.{Clock, Random, InputNext, ReceiveFrom}
 use Rattle.dc_model.specs.Guests.Event.{AtVisible, AtSend}
 use Rattle.dc_model.specs.Process.{Local}
-use Rattle.dc_model.specs.World.{World}
+use Rattle.dc_model.specs.FailureFree.{FailureFree}
 use Rattle.dc_model.specs.declared.entry.Entry.{Entry}
 use Rattle.dc_model.specs.declared.visible.Visible.{Visible}
 use Rattle.dc_rv32.specs.Machine.{IsCause, Machine}
@@ -65,7 +65,7 @@ pub record CanWrite (n most : ℕ) (x : Visible) : Type 0 where
   pub shown : CanShow x.body
 
 -- a world of n guests of numbers of their types, where so many acts are left and at most so many records can come in all; others are silent
-pub record IsTyped (n most left : ℕ) (w : World Guest) : Type 0 where
+pub record IsTyped (n most left : ℕ) (w : FailureFree Guest) : Type 0 where
   pub each : (p : ℕ) → p < n → IsLocal (w.procs p)
   pub count : (p : ℕ) → p < n → (w.procs p).visible + left ≤ most
   pub silent : (p : ℕ) → n ≤ p → (q : ℕ) → (w.procs p).sent q ≡ []

@@ -17,7 +17,7 @@ use Rattle.dc_model.specs.Guests.Answer.{Plain, Clock, Random, InputNone, InputN
 use Rattle.dc_model.specs.Guests.Event.{AtEnd}
 use Rattle.dc_model.specs.Process.{Local, fits, is_next_input, local, oldest}
 use Rattle.dc_model.specs.Runs.{Given, IsRun, own, state}
-use Rattle.dc_model.specs.World.{reported}
+use Rattle.dc_model.specs.FailureFree.{reported}
 use Rattle.dc_model.specs.declared.entry.Entry.{Entry}
 use Rattle.dc_model.specs.declared.entry.Entry.TheVariants as entry
 use Rattle.dc_model.specs.declared.entry.Turn.{Turn}

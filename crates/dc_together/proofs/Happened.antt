@@ -11,7 +11,7 @@ use Rattle.dc_model.proofs.Own.{put_other, put_self}
 use Rattle.dc_model.specs.Guests.{Answer, Event}
 use Rattle.dc_model.specs.Process.{at_position, comes, local}
 use Rattle.dc_model.specs.Runs.{own}
-use Rattle.dc_model.specs.World.{reported}
+use Rattle.dc_model.specs.FailureFree.{reported}
 use Rattle.dc_processes.proofs.Together.{event_together}
 use Rattle.dc_proc.specs.Carried.{IsIn, process, system}
 use Rattle.dc_proc.specs.Processes.{IsAt, IsProcess}

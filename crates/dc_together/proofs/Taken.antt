@@ -9,7 +9,7 @@ use Rattle.dc_events.specs.Kinds.{kind_of}
 use Rattle.dc_guest.specs.Answers.{effect_of, may_answer}
 use Rattle.dc_guest.specs.Nexts.{called_by}
 use Rattle.dc_model.specs.Runs.{own}
-use Rattle.dc_model.specs.World.{reported}
+use Rattle.dc_model.specs.FailureFree.{reported}
 use Rattle.dc_words.specs.Lists.{lists_of}
 use Rattle.dc_proc.proofs.Ruling.{event_is}
 use Rattle.dc_proc.specs.Carried.{process, system}
@@ -64,7 +64,9 @@ use Rattle.dc_recovery.specs.Core.{Core}
 use Rattle.std.proofs.Common.{OnOk, OnErr}
 use Rattle.std.proofs.Common.{Result, Ok, Err, IfOk, IsSome, max}
 use Rattle.dc_model.specs.declared.act.Taken.{Taken}
-use Rattle.dc_proc.specs.declared.shown.Shown.{Shown}
+use Rattle.dc_model.specs.declared.mark.Mark.{Mark}
+use Rattle.dc_model.specs.declared.visible.Visible.{Visible}
+use Rattle.dc_processes.proofs.Marking.{some_shown}
 use Rattle.dc_proc.specs.declared.up.Up.{Up as Process}
 use Rattle.dc_checkpoint.specs.declared.faults.CheckFault.{CheckFault}
 use Rattle.dc_checkpoint.specs.Calls.{IsCall, FallsStore}
@@ -78,10 +80,10 @@ use Rattle.dc_recovery.specs.Parts.{may_store}
 use Rattle.dc_recovery.specs.Answers.{stores_at}
 use Rattle.dc_recovery.specs.Core.{stands}
 use Rattle.dc_model.specs.Process.{comes}
-use Rattle.dc_proc.specs.Turns.{IsStopped, Written}
+use Rattle.dc_proc.specs.Turns.{IsShown, IsStopped, Written}
 
 -- what the call needs, and what it says
-pub record Takes {C D : Type 0} (g : checkpoint.Ghosts C D) (one : One C D) (w : Processes) (a : Answer) (slot : Option Slot) (acts : List Taken) (result : Result (Option Shown) CheckFault) : Type 0 where
+pub record Takes {C D : Type 0} (g : checkpoint.Ghosts C D) (one : One C D) (w : Processes) (a : Answer) (slot : Option Slot) (acts : List Taken) (shown : Option Visible) (result : Result Mark CheckFault) : Type 0 where
   pub laws : Laws g
   pub well : IsWell w
   pub process : one.k < length w.slots.items
@@ -90,10 +92,10 @@ pub record Takes {C D : Type 0} (g : checkpoint.Ghosts C D) (one : One C D) (w :
   pub fit : AreFit g one.stores one.old w.slots.items
   pub stood : Stood one
   pub may : MayAt g one.before one.old a (slot_at w.slots.items one.k)
-  pub taken : HasTaken g (on one.before one.old) (on one.after one.new) (attempt w.entries a w.acts.items acts) result may.up slot
+  pub taken : HasTaken g (on one.before one.old) (on one.after one.new) (attempt w.entries a w.acts.items acts shown) result may.up slot
   pub call : IsCall (showing_of g) (on one.before one.old) (on one.after one.new) result
 
-module _ {C D : Type 0} {g : checkpoint.Ghosts C D} {one : One C D} {w : Processes} {a : Answer} {slot : Option Slot} {acts : List Taken} {result : Result (Option Shown) CheckFault} (is : Takes g one w a slot acts result) where
+module _ {C D : Type 0} {g : checkpoint.Ghosts C D} {one : One C D} {w : Processes} {a : Answer} {slot : Option Slot} {acts : List Taken} {shown : Option Visible} {result : Result Mark CheckFault} (is : Takes g one w a slot acts shown result) where
   abbrev slots1 : List (Option Slot)
   slots1 = slice_set w.slots.items one.k slot
 
@@ -148,11 +150,11 @@ module _ {C D : Type 0} {g : checkpoint.Ghosts C D} {one : One C D} {w : Process
       down_at g b.0 x one.new (slot_at slots1 q) (slot_at slots2 q) (falls q less) (up_there (slot_at slots1 q) ready.1) (fell q b.0 x b.1 at) ready.0 ready.2
 
   -- what is said of an Ok
-  so : {X : Type 0} (done : Option Shown) → result ≡ Ok done → OnOk result X → X
+  so : {X : Type 0} (mark : Mark) → result ≡ Ok mark → OnOk result X → X
   so {X} _ is_ok = subst (λ r. OnOk r X) is_ok
 
   -- so each is fit, with one count less
-  module _ (done : Option Shown) (is_ok : result ≡ Ok done) (slots2 : List (Option Slot)) (slots_are : slots2 ≡ slots1) where
+  module _ (mark : Mark) (is_ok : result ≡ Ok mark) (slots2 : List (Option Slot)) (slots_are : slots2 ≡ slots1) where
     now_self : slot_at slots2 one.k ≡ Some (Up u1)
     now_self = ap (λ xs. slot_at xs one.k) slots_are ∙ slot_self
 
@@ -161,12 +163,12 @@ module _ {C D : Type 0} {g : checkpoint.Ghosts C D} {one : One C D} {w : Process
 
     pub fit_taken : g.ready one.after one.new → AreFit g (stores_after one) one.new slots2
     fit_taken ready = each_set one.stores one.k one.after (λ q x. IsFitAt g x one.new (slot_at slots2 q))
-        (fit_at g one.after one.new (slot_at slots2 one.k) u1 now_self (record { lent = is.call.touches.lent; ready = ready; sized = sized; paired = so done is_ok is.taken.paired; whole = is.taken.whole }))
+        (fit_at g one.after one.new (slot_at slots2 one.k) u1 now_self (record { lent = is.call.touches.lent; ready = ready; sized = sized; paired = so mark is_ok is.taken.paired; whole = is.taken.whole }))
         (λ q x at ne. subst (IsFitAt g x one.new) (sym (now_other q ne)) (fit_still g is.laws x one.old one.new (slot_at w.slots.items q) (beside q x at ne) (is.fit q x at)))
 
     pub counts_taken : (m : ℕ) → HaveCounts (m + 1) w.slots.items → HaveCounts m slots2
     counts_taken m have q less = by_other one.k (λ y. y < length w.slots.items → HasCountsFor m (held_in (slot_at slots2 y)).kernel)
-        (λ there. subst (λ s. HasCountsFor m (held_in s).kernel) (sym now_self) (counts_up u1 m (so done is_ok is.taken.counts m (counts_held u0 (m + 1) (subst (λ s. HasCountsFor (m + 1) (held_in s).kernel) is.may.there (have one.k there))))))
+        (λ there. subst (λ s. HasCountsFor m (held_in s).kernel) (sym now_self) (counts_up u1 m (so mark is_ok is.taken.counts m (counts_held u0 (m + 1) (subst (λ s. HasCountsFor (m + 1) (held_in s).kernel) is.may.there (have one.k there))))))
         (λ y ne there. subst (λ s. HasCountsFor m (held_in s).kernel) (sym (now_other y ne)) (counts_less (m + 1) m (held_in (slot_at w.slots.items y)).kernel (omega arith) (have y there)))
         q (subst (λ k. q < k) (ap (λ xs. length xs) slots_are ∙ slots_long) less)
 
@@ -212,23 +214,25 @@ module _ {C D : Type 0} {g : checkpoint.Ghosts C D} {one : One C D} {w : Process
     steady = steady_stays g is.laws old mid one.k one.before one.after refl index_of is.stood is.call.touches.others (λ on. (is.taken.steady joint on).0) (world.decided together).steady
 
     -- Ok, the world stands for the core after it
-    pub happened : (done : Option Shown) → result ≡ Ok done → g.ready one.after one.new → (w2 : Processes) → w2 ≡ record w { slots = w2.slots; acts = w2.acts; exposed = w2.exposed } → w2.slots.items ≡ slots1 → w2.acts.items ≡ acts
-        → w2.exposed.items ≡ (if is_some done && nat_lt (acts_of one.k w.acts.items) (acts_of one.k w2.acts.items) then slice_set w.exposed.items one.k (acts_of one.k w2.acts.items) else w.exposed.items)
+    pub happened : (mark : Mark) → result ≡ Ok mark → g.ready one.after one.new → (w2 : Processes) → w2 ≡ record w { slots = w2.slots; acts = w2.acts; exposed = w2.exposed } → w2.slots.items ≡ slots1 → w2.acts.items ≡ acts
+        → w2.exposed.items ≡ (if is_some shown && nat_lt (acts_of one.k w.acts.items) (acts_of one.k w2.acts.items) then slice_set w.exposed.items one.k (acts_of one.k w2.acts.items) else w.exposed.items)
         → IsWorld g S (after_event S w.entries core one.k a) (stage_of (stores_after one) one.new w2)
-    happened done is_ok ready w2 rest slots acts_are exposed =
-        let calm = so done is_ok is.call.touches.counts.calm in
+    happened mark is_ok ready w2 rest slots acts_are exposed =
+        let calm = so mark is_ok is.call.touches.counts.calm in
         let now = subst (g.told one.new) (sym is.call.touches.same.index_same) (is.call.touches.counts.tells (omega (arith, calm.0, device.1)) (omega (arith, calm.1, device.2)) device.0) in
         let words1 = some_there (g.contents one.after one.new) (told_contents one.after one.new ready now) in
-        let showed = told_at (λ ws. done ≡ shown_of (effect_of (event_of (next_of (over u0.guest ws)) (machine_over u0.guest ws))) u0.kernel.visible) (g.contents one.before one.old) words.0 words.1
-        (subst (λ r. IfOk r (λ shown. IfSome (g.contents one.before one.old) (λ ws. shown ≡ shown_of (effect_of (event_of (next_of (over u0.guest ws)) (machine_over u0.guest ws))) u0.kernel.visible))) is_ok is.taken.shown) in
+        let shows = subst (λ r. IfOk r (λ m. IsShown u0.kernel.p m shown (λ done. IfSome (g.contents one.before one.old) (λ ws. done ≡ shown_of (effect_of (event_of (next_of (over u0.guest ws)) (machine_over u0.guest ws))) u0.kernel.visible)))) is_ok is.taken.showed in
+        let done = shows.done in
+        let showed = told_at (λ ws. done ≡ shown_of (effect_of (event_of (next_of (over u0.guest ws)) (machine_over u0.guest ws))) u0.kernel.visible) (g.contents one.before one.old) words.0 words.1 shows.showed in
+        let some_is : is_some shown ≡ is_some done = ap (λ (v : Option Visible). is_some v) shows.shown_is ∙ some_shown u0.kernel.p done in
         world_happened g is.laws images old.inputs w.protocol together w.entries core old (stage_of (stores_after one) one.new w2) world go one.k inside one.before one.after is.stood u0 u1 is.may.there words.0 words1.0 words.1 words1.1 a given number.0 number.1
         refl index_of is.call.touches.others (is.taken.narrows joint) fewer
-        (subst (λ pr. TakesTurn g pr a (process one.before one.old (held u0)) (process one.after one.new (held u1))) is_of.3 (so done is_ok is.taken.goes))
-        (now_self done is_ok w2.slots.items slots) (λ q ne. now_other done is_ok w2.slots.items slots q (λ e. ne (sym e))) is.taken.same.others_same
+        (subst (λ pr. TakesTurn g pr a (process one.before one.old (held u0)) (process one.after one.new (held u1))) is_of.3 (so mark is_ok is.taken.goes))
+        (now_self mark is_ok w2.slots.items slots) (λ q ne. now_other mark is_ok w2.slots.items slots q (λ e. ne (sym e))) is.taken.same.others_same
         (ap (λ xs. length xs) slots ∙ slots_long) (ap (λ (v : Processes). v.protocol) rest) (ap (λ (v : Processes). lists_of v.inputs.items) rest)
-        (acts_are ∙ told_at (λ ws. acts ≡ acts_with w.acts.items u0.kernel w.entries a) (g.contents one.before one.old) words.0 words.1 (so done is_ok is.taken.acts)) (is_some done)
-        (λ _. exposes_shown images old.inputs w.protocol one.k (own one.k core.acts) (core.procs one.k) words.0 u0 is_of.0 here is.may.may.runs a (called_by (next_of (over u0.guest words.0))) done refl showed together)
-        is.well.exposed_long exposed (ap (λ (v : Processes). v.lines) rest) (so done is_ok (is.taken.uncommitted joint)) is.call.floor steady
+        (acts_are ∙ told_at (λ ws. acts ≡ acts_with w.acts.items u0.kernel w.entries a) (g.contents one.before one.old) words.0 words.1 (so mark is_ok is.taken.acts)) (is_some shown)
+        (λ _. exposes_shown images old.inputs w.protocol one.k (own one.k core.acts) (core.procs one.k) words.0 u0 is_of.0 here is.may.may.runs a (called_by (next_of (over u0.guest words.0))) done refl showed together ∙ sym some_is)
+        is.well.exposed_long exposed (ap (λ (v : Processes). v.lines) rest) (so mark is_ok (is.taken.uncommitted joint)) is.call.floor steady
 
     -- refused, it was stopped in a part of its turn
     abbrev acts_by : Written

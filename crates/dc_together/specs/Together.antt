@@ -9,7 +9,7 @@ use Rattle.dc_model.specs.Runs.{IsRun, own}
 use Rattle.dc_model.specs.declared.mark.Mark.{Mark}
 use Rattle.dc_model.specs.declared.visible.Visible.{Visible}
 use Rattle.dc_proc.specs.Processes.{IsGoing}
-use Rattle.dc_proc.specs.declared.shown.Shown.{Shown}
+use Rattle.dc_proc.specs.Turns.{IsShown}
 use Rattle.dc_protocols.specs.Rules.{is_joint}
 use Rattle.dc_recovery.specs.Alone.{IsAnswerAlone}
 use Rattle.dc_protocols.specs.declared.protocol.Rule.{Rule}
@@ -21,7 +21,6 @@ use Rattle.dc_recovery.specs.Turned.{with_act}
 use Rattle.dc_processes.specs.Slots.{slot_at}
 use Rattle.dc_processes.specs.Stages.{IsTold, IsWorld, Stage, store_of, system_at}
 use Rattle.dc_processes.specs.Taking.{ShowsNext}
-use Rattle.dc_processes.specs.Turns.{taken_mark, visible_shown}
 
 -- after a commit of all
 abbrev pub all_committed : Core → Core
@@ -77,8 +76,5 @@ IsAskedAt g p a x rule = (images : List Image) (c : Core) → is_joint x.protoco
     → p < (system_at images x).guests.count → IsWorld g (system_at images x) c x → rule ≡ rule_at (system_at images x) c p a
 
 -- the mark of a turn that process p took, and what all see of it: where the devices are told, that is what its next event shows
-pub record ShowsTold {C D : Type 0} (g : checkpoint.Ghosts C D) (old : Stage C D) (p : ℕ) (mark : Mark) (shown : Option Visible) : Type 0 where
-  pub done : Option Shown
-  pub mark_is : mark ≡ taken_mark done
-  pub shown_is : shown ≡ visible_shown p done
-  pub showed : IsTold g old → (c : C) → store_of old p ≡ Some c → ShowsNext g c old.dev (slot_at old.slots p) done
+abbrev pub ShowsTold : {C D : Type 0} → checkpoint.Ghosts C D → Stage C D → ℕ → Mark → Option Visible → Type 0
+ShowsTold g old p mark shown = IsShown p mark shown (λ done. IsTold g old → (c : _) → store_of old p ≡ Some c → ShowsNext g c old.dev (slot_at old.slots p) done)

@@ -20,7 +20,7 @@ ghost use Rattle.dc_together.specs.Joints.{AreCut, AreDown, AreFit, AllBelong, A
 ghost use Rattle.dc_processes.specs.Processes.{IsWell};
 ghost use Rattle.dc_processes.specs.Slots.{held_in, is_up, slot_at};
 ghost use Rattle.dc_processes.specs.Stages.{stage_of};
-ghost use Rattle.dc_processes.specs.Turns.{GoesOn, HasNoRun, later};
+ghost use Rattle.dc_processes.specs.Turns.{GoesOn, HasNoRun, RefusesOne, later};
 
 use dc_checkpoint::{Checkpoint, StoreFault};
 use dc_limits::ENTRIES;
@@ -150,6 +150,7 @@ pub fn recover_together<C: Checkpoint>(
     ensures others { (q : ℕ) → IsNoIndex C.Checkpoint stores.old q → C.untouched dev.old dev.new q }
     ensures continues { C.continues dev.old dev.new }
     ensures whole { IfOk result (λ mark. mark ≡ marks.Stopped → ⊥) }
+    ensures content { (i : ℕ) (fault : faults.StoreFault) → IsErrOf result (joint.Refused i fault) → RefusesOne C.Checkpoint (2 * (processes.old.left - 1)) stores.new dev.new i fault }
     ensures refused { (i : ℕ) (fault : faults.StoreFault) → IsErrOf result (joint.Refused i fault) → HasNoRun C.Checkpoint (stage_of stores.old dev.old processes.old) (later 0 (stage_of stores.new dev.new processes.new)) }
     ensures turned { IfOk result (λ mark. GoesOn C.Checkpoint (stage_of stores.old dev.old processes.old) (later 0 (stage_of stores.new dev.new processes.new)) (entries.Turn turn.now) mark None) }
     ensures stopped { OnErr result (GoesOn C.Checkpoint (stage_of stores.old dev.old processes.old) (later 0 (stage_of stores.new dev.new processes.new)) (entries.Turn turn.now) marks.Stopped None) }

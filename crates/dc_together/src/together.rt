@@ -7,6 +7,7 @@ ghost use Rattle.dc_guest.specs.Answers.{answer_of, may_answer};
 ghost use Rattle.dc_model.specs.Guests.Answer.{Plain};
 ghost use Rattle.dc_model.specs.declared.entry.Entry.TheVariants as entries;
 ghost use Rattle.dc_model.specs.declared.mark.Mark.TheVariants as marks;
+ghost use Rattle.dc_proc.specs.Turns.{IsShown};
 ghost use Rattle.dc_protocols.specs.Rules.{is_joint};
 ghost use Rattle.dc_twophase.specs.Commits.{IsSameMemory};
 ghost use Rattle.dc_twophase.specs.Counts.{IsJoint, IsUnrefused};
@@ -19,7 +20,7 @@ ghost use Rattle.dc_processes.specs.Slots.{is_up, slot_at};
 ghost use Rattle.dc_processes.specs.Stages.{stage_of};
 ghost use Rattle.dc_processes.specs.Taking.{MakesCall, MayTake, ShowsNext};
 ghost use Rattle.dc_together.specs.Together.{Breaks, Happens, IsAskedAt, Makes, ShowsTold, after_event, all_torn, commit_core};
-ghost use Rattle.dc_processes.specs.Turns.{FellTogether, GoesOn, HasNoRun, WentTogether, later, lines_of};
+ghost use Rattle.dc_processes.specs.Turns.{FellTogether, GoesOn, HasNoRun, RefusesOne, WentTogether, later, lines_of};
 
 use crate::committing::commit_together;
 use crate::rejoining::recover_together;
@@ -28,8 +29,8 @@ use dc_checkpoint::Checkpoint;
 use dc_guest::Answer;
 use dc_limits::ENTRIES;
 use dc_model::{Mark, Turn, Visible};
-use dc_proc::Shown;
-use dc_processes::{Processes, Slot, hand_on, next_call, take_in};
+use dc_proc::Answered;
+use dc_processes::{Processes, Slot, next_call, take_in};
 use dc_protocols::Rule;
 use dc_twophase::{JointFault, joint_fault};
 
@@ -109,14 +110,15 @@ fn commit_if<C: Checkpoint>(
     Ok(())
 }
 
-/// Process `p` takes its next event: what it shows. Refused, all are down.
+/// Process `p` takes its next event: what it shows is handed on. Refused, all are down.
 fn take_event<C: Checkpoint>(
     processes: &mut Processes,
     p: u32,
     answer: &Answer,
     stores: &mut [C],
     dev: &mut C::Device,
-) -> Result<Option<Shown>, JointFault>
+    shown: &mut Option<Visible>,
+) -> Result<Mark, JointFault>
     requires well { IsWell processes.old }
     requires together { is_joint processes.old.protocol ≡ true }
     requires process { p < length processes.old.slots.items }
@@ -126,6 +128,7 @@ fn take_event<C: Checkpoint>(
     requires may { At p stores.old (λ c. MayTake C.Checkpoint c dev.old (answer_of answer.now) (slot_at processes.old.slots.items p)) }
     requires acts { (length processes.old.acts.items < processes.old.acts.room) × (length processes.old.acts.items < 2 ^ 32 - 1) }
     requires left { 0 < processes.old.left }
+    requires nothing { shown.old ≡ None }
     ensures well { IsWell processes.new }
     ensures rest { processes.new ≡ record processes.old { slots = processes.new.slots; acts = processes.new.acts; exposed = processes.new.exposed } }
     ensures long { length processes.new.slots.items ≡ length processes.old.slots.items }
@@ -140,25 +143,23 @@ fn take_event<C: Checkpoint>(
     ensures unrefused { IsUnrefused result }
     ensures others { (q : ℕ) → IsNoIndex C.Checkpoint stores.old q → C.untouched dev.old dev.new q }
     ensures continues { C.continues dev.old dev.new }
-    ensures shown { IfOk result (λ done. At p stores.old (λ c. ShowsNext C.Checkpoint c dev.old (slot_at processes.old.slots.items p) done)) }
+    ensures showed { IfOk result (λ mark. IsShown p mark shown.new (λ done. At p stores.old (λ c. ShowsNext C.Checkpoint c dev.old (slot_at processes.old.slots.items p) done))) }
+    ensures unshown { OnErr result (shown.new ≡ None) }
     ensures happens { OnOk result (Happens C.Checkpoint p (answer_of answer.now) (λ S c. after_event S processes.old.entries c p (answer_of answer.now)) (stage_of stores.old dev.old processes.old) (stage_of stores.new dev.new processes.new)) }
     ensures broken { OnErr result (HaveCounts (2 * processes.old.left - 1) processes.old.slots.items
         → Breaks C.Checkpoint p (answer_of answer.now) (stage_of stores.old dev.old processes.old) (later 0 (stage_of stores.new dev.new processes.new))) }
 {
     let acts = processes.acts.count_of(p);
+    let answered = Answered {
+        t: processes.entries,
+        answer: *answer,
+    };
     let slot = &mut processes.slots[p as usize];
     let store = &mut stores[p as usize];
-    match take_in(
-        slot,
-        store,
-        dev,
-        processes.entries,
-        answer,
-        &mut processes.acts,
-    ) {
-        Ok(done) => {
-            processes.note_exposed(p, acts, done.is_some());
-            Ok(done)
+    match take_in(slot, store, dev, &answered, &mut processes.acts, shown) {
+        Ok(mark) => {
+            processes.note_exposed(p, acts, shown.is_some());
+            Ok(mark)
         }
         Err(fault) => {
             processes.power(stores);
@@ -214,9 +215,14 @@ fn take_together<C: Checkpoint>(
 {
     let asked = asked(processes, p, stores, dev, answer);
     commit_if(processes, asked.before, stores, dev)?;
-    let done = take_event(processes, p, answer, stores, dev)?;
-    commit_if(processes, asked.after, stores, dev)?;
-    Ok(hand_on(done, p, shown))
+    let mark = take_event(processes, p, answer, stores, dev, shown)?;
+    match commit_if(processes, asked.after, stores, dev) {
+        Ok(()) => Ok(mark),
+        Err(fault) => {
+            *shown = None;
+            Err(fault)
+        }
+    }
 }
 
 /// A turn of a process that is up where all commit together: what it did, and what it showed. Refused, all are down.
@@ -305,6 +311,7 @@ pub fn turn_together<C: Checkpoint>(
     ensures whole { IfOk result (λ mark. mark ≡ marks.Stopped → ⊥) }
     ensures shows { IfOk result (λ mark. IfSome shown.new (λ visible. mark ≡ marks.Showed visible.k)) }
     ensures unshown { OnErr result (shown.new ≡ None) }
+    ensures content { (i : ℕ) (fault : faults.StoreFault) → IsErrOf result (joint.Refused i fault) → RefusesOne C.Checkpoint (2 * (processes.old.left - 1)) stores.new dev.new i fault }
     ensures refused { (i : ℕ) (fault : faults.StoreFault) → IsErrOf result (joint.Refused i fault) → HasNoRun C.Checkpoint (stage_of stores.old dev.old processes.old) (later 0 (stage_of stores.new dev.new processes.new)) }
     ensures turned { IfOk result (λ mark. GoesOn C.Checkpoint (stage_of stores.old dev.old processes.old) (later (length (lines_of shown.new)) (stage_of stores.new dev.new processes.new)) (entries.Turn turn.now) mark shown.new) }
     ensures stopped { OnErr result (GoesOn C.Checkpoint (stage_of stores.old dev.old processes.old) (later 0 (stage_of stores.new dev.new processes.new)) (entries.Turn turn.now) marks.Stopped None) }

@@ -38,7 +38,7 @@ spelled [] h small = absurd (let e : ⊥ = cc in e)
 spelled (c ∷ cs) h small = let p = and_parts (list_all is_digit (c ∷ cs)) (length cs == 0 || not (c == 48)) h in
     decimal-digits_value own (c ∷ cs) (all_digits (c ∷ cs) p.0) (omega arith) (leading c cs p.1) small
 
--- where a reading gives a number, both of its tests passed
+-- where a reading gives a number, both of its tests hold
 pick : (f r : Bool) (v n : ℕ) → (if f then (if r then Ok v else Err Range) else Err NotNumber) ≡ Ok n → (f ≡ true) × (r ≡ true) × (v ≡ n)
 pick true true v n h = (refl, refl, cc)
 pick true false v n h = absurd (let e : ⊥ = cc in e)

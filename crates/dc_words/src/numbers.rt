@@ -41,7 +41,10 @@ fn with_digit(value: u64, c: u8, max: u64) -> Option<u64>
     requires digit { is_digit c ≡ true }
     ensures { SomeIff result (value * 10 + (c - 48) ≤ max) (value * 10 + (c - 48)) }
 {
-    let next = value.checked_mul(10)?.checked_add(u64::from(c - b'0'))?;
+    if value > u64::MAX / 10 {
+        return None;
+    }
+    let next = (value * 10).checked_add(u64::from(c - b'0'))?;
     if next > max { None } else { Some(next) }
 }
 

@@ -11,7 +11,7 @@ use Rattle.dc_kernel.specs.Kernels.{Kernel}
 use Rattle.dc_kernel.specs.declared.saved.Saved.{Saved}
 use Rattle.dc_limits.specs.declared.bounds.TheConstants.{ENTRIES, LOGGED_EVENTS}
 use Rattle.dc_model.specs.Runs.{Given, IsRun, own}
-use Rattle.dc_model.specs.World.{reported}
+use Rattle.dc_model.specs.FailureFree.{reported}
 use Rattle.dc_model.specs.declared.act.Taken.{Taken}
 use Rattle.dc_proc.specs.Downs.{IsDown, based_of}
 use Rattle.dc_proc.specs.Downs.{IsOf as IsDownOf}

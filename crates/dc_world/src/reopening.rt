@@ -7,7 +7,7 @@ ghost use Rattle.dc_checkpoint.specs.declared.faults.StoreFault.{StoreFault as S
 ghost use Rattle.dc_elf.specs.declared.image.Image.{Image as Images};
 ghost use Rattle.dc_kernel.specs.Kernels.{IsKernel};
 ghost use Rattle.dc_media.specs.Causes.{Rose};
-ghost use Rattle.dc_model.specs.World.{run};
+ghost use Rattle.dc_model.specs.FailureFree.{run};
 ghost use Rattle.dc_model.specs.declared.visible.Visible.{Visible as Visibles};
 ghost use Rattle.dc_proc.specs.Downs.{IsDown, based_of};
 ghost use Rattle.dc_proc.specs.Downs.{IsOf as IsDownOf};

@@ -1,6 +1,6 @@
 //! A world over its stores: one entry of a schedule at a time.
 
-ghost use Rattle.std.specs.Prelude.{◌≡◌, ◌≢◌, ◌<◌, ◌≤◌, ◌+◌, ◌++◌, ◌-◌, ◌∷◌, ℕ, [], IfOk, IfSome, IsErrOf, IsSome, IsSomeAnd, None, Some, OnErr, OnOk, Ok, Err, Option, false, true, length, take};
+ghost use Rattle.std.specs.Prelude.{◌≡◌, ◌≢◌, ◌<◌, ◌≤◌, ◌+◌, ◌++◌, ◌*◌, ◌-◌, ◌∷◌, ℕ, [], IfOk, IfSome, IsErrOf, IsSome, IsSomeAnd, None, Some, OnErr, OnOk, Ok, Err, Option, false, true, length, take};
 ghost use Rattle.std.specs.List.{All};
 ghost use Rattle.dc_acts.specs.Lines.{text_of};
 ghost use Rattle.dc_audit.specs.Journals.{IsOfSixteen};
@@ -19,7 +19,7 @@ ghost use Rattle.dc_processes.specs.Stages.{KeepsTelling};
 ghost use Rattle.dc_world.specs.Ended.{TellsEnd};
 ghost use Rattle.dc_world.specs.Leaving.{EntryLeaves};
 ghost use Rattle.dc_processes.specs.Slots.{have_ended};
-ghost use Rattle.dc_processes.specs.Turns.{GoesOn, HasNoRun, later, lines_of};
+ghost use Rattle.dc_processes.specs.Turns.{GoesOn, HasNoRun, RefusesOne, later, lines_of, turns_owed};
 ghost use Rattle.dc_world.specs.Worlds.{IsCutOff, IsOfProcesses, IsPartOf, IsReady, MayRun, stage_in};
 ghost use Rattle.dc_twophase.specs.Stores.{EachPair};
 ghost use Rattle.dc_twophase.specs.declared.faults.JointFault.TheVariants as joint;
@@ -100,6 +100,7 @@ impl<C: Checkpoint + Drop> World<C> {
         ensures kept { self.new.stopped ≡ self.old.stopped }
         ensures shows { IfOk result (λ mark. IfSome shown.new (λ visible. mark ≡ marks.Showed visible.k)) }
         ensures unshown { OnErr result (shown.new ≡ None) }
+        ensures content { (fault : stores.StoreFault) → IsErrOf result (CheckFault.Refused fault) → RefusesOne C.Checkpoint self.old.processes.left self.new.stores.items dev.new turn.now.p fault }
         ensures refused { (fault : stores.StoreFault) → IsErrOf result (CheckFault.Refused fault) → HasNoRun C.Checkpoint (stage_in self.old dev.old) (later 0 (stage_in self.new dev.new)) }
         ensures turned { IfOk result (λ mark. GoesOn C.Checkpoint (stage_in self.old dev.old) (later (length (lines_of shown.new)) (stage_in self.new dev.new)) (entries.Turn turn.now) mark shown.new) }
         ensures stopped { OnErr result (GoesOn C.Checkpoint (stage_in self.old dev.old) (later 0 (stage_in self.new dev.new)) (entries.Turn turn.now) marks.Stopped None) }
@@ -136,6 +137,7 @@ impl<C: Checkpoint + Drop> World<C> {
         ensures kept { self.new.stopped ≡ self.old.stopped }
         ensures shows { IfOk result (λ mark. IfSome shown.new (λ visible. mark ≡ marks.Showed visible.k)) }
         ensures unshown { OnErr result (shown.new ≡ None) }
+        ensures content { (p : ℕ) (fault : stores.StoreFault) → IsErrOf result (joint.Refused p fault) → RefusesOne C.Checkpoint (2 * (self.old.processes.left - 1)) self.new.stores.items dev.new p fault }
         ensures refused { (p : ℕ) (fault : stores.StoreFault) → IsErrOf result (joint.Refused p fault) → HasNoRun C.Checkpoint (stage_in self.old dev.old) (later 0 (stage_in self.new dev.new)) }
         ensures turned { IfOk result (λ mark. GoesOn C.Checkpoint (stage_in self.old dev.old) (later (length (lines_of shown.new)) (stage_in self.new dev.new)) (entries.Turn turn.now) mark shown.new) }
         ensures stopped { OnErr result (GoesOn C.Checkpoint (stage_in self.old dev.old) (later 0 (stage_in self.new dev.new)) (entries.Turn turn.now) marks.Stopped None) }
@@ -169,6 +171,7 @@ impl<C: Checkpoint + Drop> World<C> {
         ensures kept { self.new.stopped ≡ self.old.stopped }
         ensures shows { IfOk result (λ mark. IfSome shown.new (λ visible. mark ≡ marks.Showed visible.k)) }
         ensures unshown { OnErr result (shown.new ≡ None) }
+        ensures content { (p : ℕ) (fault : stores.StoreFault) → IsErrOf result (joint.Refused p fault) → RefusesOne C.Checkpoint (turns_owed self.old.processes.protocol self.old.processes.left) self.new.stores.items dev.new p fault }
         ensures refused { (p : ℕ) (fault : stores.StoreFault) → IsErrOf result (joint.Refused p fault) → HasNoRun C.Checkpoint (stage_in self.old dev.old) (later 0 (stage_in self.new dev.new)) }
         ensures turned { IfOk result (λ mark. GoesOn C.Checkpoint (stage_in self.old dev.old) (later (length (lines_of shown.new)) (stage_in self.new dev.new)) (entries.Turn turn.now) mark shown.new) }
         ensures stopped { OnErr result (GoesOn C.Checkpoint (stage_in self.old dev.old) (later 0 (stage_in self.new dev.new)) (entries.Turn turn.now) marks.Stopped None) }
@@ -237,6 +240,7 @@ impl<C: Checkpoint + Drop> World<C> {
         ensures unstopped { IfOk result (λ mark. (mark ≡ marks.Stopped → ⊥) → self.new.stopped ≡ self.old.stopped) }
         ensures calm { IfOk result (λ mark. (mark ≡ marks.Stopped → ⊥) → (p : ℕ) → IsPartOf self.old p entry.now → (C.stops dev.new p ≡ C.stops dev.old p) × (C.faults dev.new p ≡ C.faults dev.old p)) }
         ensures device { (p : ℕ) → IsErrOf result (faults.Device p) → IsPartOf self.old p entry.now × Rose (C.faults dev.old p) (C.faults dev.new p) }
+        ensures content { (p : ℕ) (fault : stores.StoreFault) → IsErrOf result (faults.Store p fault) → RefusesOne C.Checkpoint (turns_owed self.old.processes.protocol self.old.processes.left) self.new.stores.items dev.new p fault }
         ensures store { (p : ℕ) (fault : stores.StoreFault) → IsErrOf result (faults.Store p fault) → HasNoRun C.Checkpoint (stage_in self.old dev.old) (later 0 (stage_in self.new dev.new)) }
         ensures sink { IsErrOf result faults.Sink → ⊥ }
         ensures shows { IfOk result (λ mark. IfSome shown.new (λ visible. mark ≡ marks.Showed visible.k)) }
@@ -293,6 +297,7 @@ impl<C: Checkpoint + Drop> World<C> {
         ensures unstopped { IfOk result (λ mark. (mark ≡ marks.Stopped → ⊥) → self.new.stopped ≡ self.old.stopped) }
         ensures calm { IfOk result (λ mark. (mark ≡ marks.Stopped → ⊥) → (p : ℕ) → IsPartOf self.old p entry.now → (C.stops dev.new p ≡ C.stops dev.old p) × (C.faults dev.new p ≡ C.faults dev.old p)) }
         ensures device { (p : ℕ) → IsErrOf result (faults.Device p) → IsPartOf self.old p entry.now × Rose (C.faults dev.old p) (C.faults dev.new p) }
+        ensures content { (p : ℕ) (fault : stores.StoreFault) → IsErrOf result (faults.Store p fault) → RefusesOne C.Checkpoint (turns_owed self.old.processes.protocol self.old.processes.left) self.new.stores.items dev.new p fault }
         ensures store { (p : ℕ) (fault : stores.StoreFault) → IsErrOf result (faults.Store p fault) → HasNoRun C.Checkpoint (stage_in self.old dev.old) (stage_in self.new dev.new) }
         ensures failed { OnErr result ((result ≡ Err faults.Sink → ⊥) → GoesOn C.Checkpoint (stage_in self.old dev.old) (stage_in self.new dev.new) entry.now marks.Stopped None × (out.new ≡ out.old)) }
         ensures sink { IsErrOf result faults.Sink → Rose (O.faults out.old) (O.faults out.new) × IsCutOff C.Checkpoint (stage_in self.old dev.old) (stage_in self.new dev.new) entry.now (O.held out.old) (O.held out.new) }

@@ -10,7 +10,7 @@ use dc_checkpoint::Checkpoint;
 use dc_guest::Answer;
 use dc_links::Message;
 use dc_memmedia::MemKeeps;
-use dc_proc::Up;
+use dc_proc::{Answered, Up};
 use dc_protocols::Protocol;
 use dc_vista::Segment;
 use std::alloc::Global;
@@ -67,7 +67,7 @@ fn step<C: Checkpoint>(
     if !up.may_take(&answer, store, dev) {
         return None;
     }
-    match up.turn(store, dev, t, &answer, acts) {
+    match up.turn(store, dev, &Answered { t, answer }, acts, &mut None) {
         Ok(_) => Some(()),
         Err(_) => None,
     }

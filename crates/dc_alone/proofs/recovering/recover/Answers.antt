@@ -2,6 +2,7 @@ use Rattle.std.proofs.Common.{◌≡◌, ◌<◌, ◌≤◌, ◌+◌, ◌-◌, �
 use Rattle.std.proofs.lemmas.Bool.{cases_lt}
 use Rattle.dc_checkpoint.specs.States.{Form}
 use Rattle.dc_checkpoint.specs.declared.faults.CheckFault.TheVariants as check
+use Rattle.dc_checkpoint.specs.declared.faults.StoreFault.TheVariants as faults
 use Rattle.dc_model.specs.declared.entry.Entry.TheVariants as entry
 use Rattle.dc_words.specs.Lists.{lists_of}
 use Rattle.dc_proc.specs.Ups.{held}
@@ -9,6 +10,7 @@ use Rattle.dc_twophase.proofs.Laws.{Laws}
 use Rattle.dc_alone.proofs.Failing.{failing, no_refusal}
 use Rattle.dc_processes.proofs.Handling.{counts_held, handled_below, handled_learned, handled_less}
 use Rattle.dc_alone.proofs.Returning.{returned, returned_counts}
+use Rattle.dc_processes.proofs.Refusing.{refused_reason, uncounted_reason}
 use Rattle.dc_processes.proofs.Slots.{knows_beside, past_same, put_other, put_same, some_same}
 use Rattle.dc_processes.specs.Processes.{Learns, LearnsAll}
 use Rattle.dc_processes.specs.Slots.{Falls, IsOf, based_in, is_up, size_in, slot_at}
@@ -93,6 +95,13 @@ returns-in-Ok-2-clause-stopped g c stores at index images schedule core told_old
 
 pub returns-in-Ok-2-clause-refused : goal.returns-in-Ok-2-clause-refused
 returns-in-Ok-2-clause-refused g c fault e = impossible g c
+
+-- it is refused for its content: for what it stands for, or since its counts have no room
+pub returns-in-Err-clause-content : goal.returns-in-Err-clause-content
+returns-in-Err-clause-content g c fault e = (0, λ reading left. refused_reason c.args.processes.now.left fault reading (c.in-Err.ensures.refused fault (let same : c.in-Err.fault ≡ check.Refused fault = cc in ap Err same) reading left))
+
+pub returns-in-Ok-2-clause-content : goal.returns-in-Ok-2-clause-content
+returns-in-Ok-2-clause-content g c fault e = (0, λ reading left. uncounted_reason c.args.processes.now.left fault (held c.in-Ok.up).kernel reading (let why : fault ≡ faults.Kernel = cc in why) (c.if-has_counts_for.ensures.none refl) (c.in-Ok.ensures.kernel reading (c.fall.ensures.falls.stands c.recover.new.dev 0 reading (omega arith) left)))
 
 pub returns-in-Err-clause-refused : goal.returns-in-Err-clause-refused
 returns-in-Err-clause-refused g c fault e stores at index images schedule core told_old told_new now world =

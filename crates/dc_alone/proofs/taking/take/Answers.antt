@@ -1,4 +1,4 @@
-use Rattle.std.proofs.Common.{◌≡◌, ◌∙◌, ◌<◌, ◌-◌, ◌+◌, ◌*◌, ◌^◌, ◌&&◌, Some, IsSome, if◌then◌else◌, nat_lt, true, ap, arith, length, refl, slice_get, slice_index, slice_set, subst, sym}
+use Rattle.std.proofs.Common.{◌≡◌, ◌∙◌, ◌<◌, ◌-◌, ◌+◌, ◌*◌, ◌^◌, ◌&&◌, Some, IfSome, IsSome, if◌then◌else◌, nat_lt, true, ap, arith, length, refl, slice_get, slice_index, slice_set, subst, sym}
 use Rattle.std.proofs.lemmas.List.{length-set}
 use Rattle.dc_acts.specs.Counted.{acts_of}
 use Rattle.dc_guest.specs.Answers.{answer_of, effect_of, may_answer}
@@ -11,7 +11,7 @@ use Rattle.dc_proc.proofs.Ruling.{event_is}
 use Rattle.dc_proc.specs.Carried.{process, system}
 use Rattle.dc_proc.specs.Events.{HasCountsFor}
 use Rattle.dc_proc.specs.Processes.{IsAt}
-use Rattle.dc_proc.specs.Turns.{IsStopped, StopsTurn, TakesTurn, acts_with, shown_of}
+use Rattle.dc_proc.specs.Turns.{IsStopped, StopsTurn, TakesTurn, acts_with, shown_of, visible_shown}
 use Rattle.dc_proc.specs.Ups.{held}
 use Rattle.dc_recovery.proofs.Single.{acts_alone}
 use Rattle.dc_recovery.specs.Saves.{last_at}
@@ -21,8 +21,9 @@ use Rattle.dc_processes.proofs.Beside.{and_some, memory_set}
 use Rattle.dc_alone.proofs.Going.{world_next}
 use Rattle.dc_alone.proofs.Halting.{handled_down, world_stopped}
 use Rattle.dc_alone.proofs.Hearing.{handled_told, hears_fallen, keeps_all, learns_each, others_fallen, others_hear, still_there}
+use Rattle.dc_processes.proofs.Marking.{exposed_shown}
 use Rattle.dc_processes.proofs.Outputs.{last_stays}
-use Rattle.dc_processes.proofs.Slots.{inside_each, noted_long, there_read, well_put}
+use Rattle.dc_processes.proofs.Slots.{inside_each, noted_long, there_read, up_same, well_put}
 use Rattle.dc_processes.proofs.Standing.{alone_given, at_now, over_now}
 use Rattle.dc_processes.proofs.Telling.{exposes_is, exposes_output, kind_called, lines_count, lines_is, lines_kept, told_at}
 use Rattle.dc_processes.specs.Answers.{exposed_by, kind_by}
@@ -77,7 +78,7 @@ returns-in-Ok-clause-went g c stores at index images schedule core words words1 
     let commit_is : c.commit_of-commit.result ≡ u0.kernel.commit = c.commit_of-commit.ensures ∙ ap (λ s. (held_in s).kernel.commit) there in
     let long : length c.tell.new.processes.slots.items ≡ length slots0 = c.tell.ensures.long ∙ ap (λ xs. length xs) slots_note ∙ length-set slots0 p (Some (Up u1)) in
     let old = stage_of stores c.args.dev.now c.args.processes.now in
-    let new = later (length (lines_of c.hand_on.new.shown)) (stage_of (slice_set stores p c.take_in.new.store) c.take_in.new.dev c.tell.new.processes) in
+    let new = later (length (lines_of c.take_in.new.shown)) (stage_of (slice_set stores p c.take_in.new.store) c.take_in.new.dev c.tell.new.processes) in
     let inputs = lists_of c.args.processes.now.inputs.items in
     let pr = c.args.processes.now.protocol in
     let a = answer_of c.args.answer.now in
@@ -88,15 +89,17 @@ returns-in-Ok-clause-went g c stores at index images schedule core words words1 
     let here : IsAt (system images inputs pr) p (own p core.acts) (core.procs p) words (held u0) =
     at_now g.C.Checkpoint (system images inputs pr) schedule c.args.processes.now.entries core now old world p c.args.store.now at u0 there inside words told_old in
     let called = told_at (λ ws. c.args.call ≡ called_by (next_of (over u0.guest ws))) (g.C.Checkpoint.contents c.args.store.now c.args.dev.now) words told_old c.requires.next.found in
-    let showed = told_at (λ ws. c.in-Ok.done ≡ shown_of (effect_of (event_of (next_of (over u0.guest ws)) (machine_over u0.guest ws))) u0.kernel.visible) (g.C.Checkpoint.contents c.args.store.now c.args.dev.now) words told_old t.shown in
+    let done = t.showed.done in
+    let showed = told_at (λ ws. done ≡ shown_of (effect_of (event_of (next_of (over u0.guest ws)) (machine_over u0.guest ws))) u0.kernel.visible) (g.C.Checkpoint.contents c.args.store.now c.args.dev.now) words told_old t.showed.showed in
+    let exposed_is : c.is_exposed.result ≡ exposed_by c.args.call done = c.is_exposed.ensures ∙ ap (exposed_by c.args.call) t.showed.shown_is ∙ exposed_shown c.args.call u0.kernel.p done in
     let acts_is = told_at (λ ws. c.take_in.new.acts.items ≡ acts_with c.args.processes.now.acts.items u0.kernel c.args.processes.now.entries a) (g.C.Checkpoint.contents c.args.store.now c.args.dev.now) words told_old t.acts in
     let acts_new : c.tell.new.processes.acts.items ≡ c.take_in.new.acts.items = ap (λ (w : Processes). w.acts.items) c.tell.ensures.rest ∙ ap (λ (w : Processes). w.acts.items) c.note_exposed.ensures.rest in
     let xs = c.args.processes.now.exposed.items in
     let ts = c.take_in.new.acts.items in
-    let exposed_as = ap (λ b. if b && nat_lt c.count_of-acts.result (acts_of p ts) then slice_set xs p (acts_of p ts) else xs) c.is_exposed.ensures
-    ∙ ap (λ n. if exposed_by c.args.call c.in-Ok.done && nat_lt n (acts_of p ts) then slice_set xs p (acts_of p ts) else xs) c.count_of-acts.ensures
-    ∙ ap (λ zs. if exposed_by c.args.call c.in-Ok.done && nat_lt (acts_of p c.args.processes.now.acts.items) (acts_of p zs) then slice_set xs p (acts_of p zs) else xs) (sym acts_new) in
-    let count_is : length (lines_of c.hand_on.new.shown) ≡ line_count c.in-Ok.done = ap (λ v. length (lines_of v)) c.hand_on.ensures.shown ∙ lines_count p c.in-Ok.done in
+    let exposed_as = ap (λ b. if b && nat_lt c.count_of-acts.result (acts_of p ts) then slice_set xs p (acts_of p ts) else xs) exposed_is
+    ∙ ap (λ n. if exposed_by c.args.call done && nat_lt n (acts_of p ts) then slice_set xs p (acts_of p ts) else xs) c.count_of-acts.ensures
+    ∙ ap (λ zs. if exposed_by c.args.call done && nat_lt (acts_of p c.args.processes.now.acts.items) (acts_of p zs) then slice_set xs p (acts_of p zs) else xs) (sym acts_new) in
+    let count_is : length (lines_of c.take_in.new.shown) ≡ line_count done = ap (λ v. length (lines_of v)) t.showed.shown_is ∙ lines_count u0.kernel.p done in
     world_next g.C.Checkpoint laws images inputs pr alone schedule c.args.processes.now.entries core now old new world p inside
     c.args.store.now c.take_in.new.store at u0 u1 there words words1
     told_old (memory_set g.C.Checkpoint stores p c.args.store.now c.take_in.new.store c.take_in.new.dev words1 at told1)
@@ -110,12 +113,12 @@ returns-in-Ok-clause-went g c stores at index images schedule core words words1 
     (ap (λ (w : Processes). w.protocol) c.tell.ensures.rest ∙ ap (λ (w : Processes). w.protocol) c.note_exposed.ensures.rest)
     (ap (λ (w : Processes). lists_of w.inputs.items) c.tell.ensures.rest ∙ ap (λ (w : Processes). lists_of w.inputs.items) c.note_exposed.ensures.rest)
     (acts_new ∙ acts_is)
-    (exposed_by c.args.call c.in-Ok.done)
-    (λ e. exposes_is images inputs pr p (own p core.acts) (core.procs p) words u0 c.requires.next.fit.whole here c.requires.next.runs a c.args.call c.in-Ok.done called showed alone)
+    (exposed_by c.args.call done)
+    (λ e. exposes_is images inputs pr p (own p core.acts) (core.procs p) words u0 c.requires.next.fit.whole here c.requires.next.runs a c.args.call done called showed alone)
     c.requires.well.exposed_long
     (ap (λ (w : Processes). w.exposed.items) c.tell.ensures.rest ∙ c.note_exposed.ensures.exposed ∙ exposed_as)
-    (ap (λ (w : Processes). w.lines + length (lines_of c.hand_on.new.shown)) c.tell.ensures.rest ∙ ap (λ (w : Processes). w.lines + length (lines_of c.hand_on.new.shown)) c.note_exposed.ensures.rest ∙ ap (λ n. c.args.processes.now.lines + n) count_is
-    ∙ sym (lines_is images inputs pr p (own p core.acts) (core.procs p) words u0 c.requires.next.fit.whole here c.requires.next.runs a c.args.call c.in-Ok.done called showed core.lines ∙ ap (λ n. n + line_count c.in-Ok.done) world.lines_are))
+    (ap (λ (w : Processes). w.lines + length (lines_of c.take_in.new.shown)) c.tell.ensures.rest ∙ ap (λ (w : Processes). w.lines + length (lines_of c.take_in.new.shown)) c.note_exposed.ensures.rest ∙ ap (λ n. c.args.processes.now.lines + n) count_is
+    ∙ sym (lines_is images inputs pr p (own p core.acts) (core.procs p) words u0 c.requires.next.fit.whole here c.requires.next.runs a c.args.call done called showed core.lines ∙ ap (λ n. n + line_count done) world.lines_are))
     (omega (arith, c.requires.left, left_is))
     (numbered_more (2 ^ 32 - 1 - 2 * c.args.processes.now.left + 2) (2 ^ 32 - 1 - 2 * (c.tell.new.processes.left - 1)) (g.C.Checkpoint.leaves c.take_in.new.store c.take_in.new.dev 0) (omega (arith, c.requires.left, left_is, c.requires.next.counts.commit))
     (t.numbered 0 (2 ^ 32 - 1 - 2 * c.args.processes.now.left) c.requires.next.floor (omega (arith, c.requires.next.counts.commit))
@@ -270,12 +273,18 @@ returns-in-Ok-clause-handled g c =
     (λ u is. (c.tell.ensures.well.each p (Up u) (subst (λ m. p < m) (sym long) c.requires.process) is).0) fit
 
 pub returns-in-Ok-clause-showed : goal.returns-in-Ok-clause-showed
-returns-in-Ok-clause-showed g c = record {
-  done = c.in-Ok.done;
-  mark_is = c.hand_on.ensures.mark;
-  shown_is = c.hand_on.ensures.shown;
-  showed = λ u at. (c.in-Ok.ensures.taken u (there_read c.args.processes.now.slots.items c.args.p c.index_mut-slot.result.now (Some (Up u)) c.requires.process c.index_mut-slot.ensures.value at)).shown;
-}
+returns-in-Ok-clause-showed g c =
+    let slots0 = c.args.processes.now.slots.items in
+    let u0 = c.requires.next.up in
+    let there : slot_at slots0 c.args.p ≡ Some (Up u0) = c.requires.next.there in
+    let of : IsOf c.args.processes.now.protocol (length slots0) c.args.p (Up u0) = c.requires.well.each c.args.p (Up u0) c.requires.process there in
+    let t = c.in-Ok.ensures.taken u0 (there_read slots0 c.args.p c.index_mut-slot.result.now (Some (Up u0)) c.requires.process c.index_mut-slot.ensures.value there) in
+    record {
+      done = t.showed.done;
+      mark_is = t.showed.mark_is;
+      shown_is = t.showed.shown_is ∙ ap (λ q. visible_shown q t.showed.done) of.2;
+      showed = λ u at. subst (λ v. IfSome (g.C.Checkpoint.contents c.args.store.now c.args.dev.now) (λ ws. t.showed.done ≡ shown_of (effect_of (event_of (next_of (over v.guest ws)) (machine_over v.guest ws))) v.kernel.visible)) (up_same u0 u (sym there ∙ at)) t.showed.showed;
+    }
 
 -- what each of them requires of the processes
 pub tell-requires-clause-well : goal.tell-requires-clause-well

@@ -4,6 +4,7 @@ use Rattle.dc_guest.specs.Answers.{answer_of}
 use Rattle.dc_model.specs.declared.entry.Entry.TheVariants as entry
 use Rattle.dc_model.specs.declared.mark.Mark.TheVariants as mark
 use Rattle.dc_proc.specs.declared.up.Up.{Up as Process}
+use Rattle.dc_proc.specs.Turns.{taken_mark, visible_shown}
 use Rattle.dc_processes.proofs.Answered.{answered_idle, answered_stopped, answered_whole, same_stage}
 use Rattle.dc_processes.proofs.Beside.{set_same, store_set}
 use Rattle.dc_processes.proofs.Drawing.{items_are}
@@ -11,7 +12,7 @@ use Rattle.dc_processes.proofs.Handling.{handled_less}
 use Rattle.dc_processes.proofs.Marking.{if_ok_three, taken_shows, taken_whole}
 use Rattle.dc_processes.specs.Slots.{slot_at}
 use Rattle.dc_processes.specs.Stages.{IsHandled, Stage, stage_of}
-use Rattle.dc_processes.specs.Turns.{IsTurned, later, lines_of, marked, taken_mark, visible_shown}
+use Rattle.dc_processes.specs.Turns.{IsTurned, later, lines_of, marked}
 use Rattle.dc_processes.specs.declared.slot.Slot.TheVariants.{Up}
 use Rattle.dc_alone.proofs.turning.turn_up.Goals as goal
 

@@ -2,7 +2,7 @@ use Rattle.std.proofs.Common.{◌≡◌, ◌∙◌, ◌+◌, ℕ, true, Result, 
 use Rattle.std.proofs.lemmas.List.{length-map}
 use Rattle.dc_guest.specs.Guest.{Guest, guests_of}
 use Rattle.dc_model.specs.Guests.{Guests}
-use Rattle.dc_model.specs.World.{World, apply, opened}
+use Rattle.dc_model.specs.FailureFree.{FailureFree, apply, opened}
 use Rattle.dc_model.specs.declared.act.Act.TheVariants as act
 use Rattle.dc_model.specs.declared.act.Taken.{Taken}
 use Rattle.dc_elf.specs.Loaded.{seen_image}
@@ -27,13 +27,13 @@ loop-rest-init c = record {
 pub loop-rest-preserved : goal.loop-rest-preserved
 loop-rest-preserved c =
     let G : Guests Guest = guests_of (map seen_image c.args.images.now) (lists_of c.args.inputs.now) in
-    let told : Result (World Guest) ℕ = played G c.args.schedule.now c.args.acts.now in
-    let w : World Guest = c.loop-rest.invariant.world in
+    let told : Result (FailureFree Guest) ℕ = played G c.args.schedule.now c.args.acts.now in
+    let w : FailureFree Guest = c.loop-rest.invariant.world in
     let x : Taken = get_or c.loop-rest.rest.now 0 (record { t = 0; p = 0; act = act.Plain }) in
     let after : List Taken = take (length c.loop-rest.rest.now - 1) (drop 1 c.loop-rest.rest.now) in
     let is : c.loop-rest.rest.now ≡ x ∷ after = front_and_rest c.loop-rest.rest.now (record { t = 0; p = 0; act = act.Plain }) c.in-len1-up.len_at_least in
     let done = c.in-Ok-take.ensures.applied (map seen_image c.args.images.now) w c.loop-rest.invariant.stands in
-    let v : World Guest = done.0 in
+    let v : FailureFree Guest = done.0 in
     let there : apply G w x.p x.act ≡ Some v = subst (λ i. apply (guests_of (map seen_image c.args.images.now) i) w x.p x.act ≡ Some v) c.loop-rest.invariant.inputs done.1 in
     let more = at_most_one G w x.p x.act v there in record {
       world = v;

@@ -1,7 +1,7 @@
 use Rattle.std.proofs.Common.{◌≡◌, ◌∙◌, ◌∷◌, [], ◌-◌, ap, arith, drop, get_or, length, map, refl, rules, subst, sym, take}
 use Rattle.std.proofs.lemmas.List.{length-map, take_at}
 use Rattle.dc_guest.specs.Guest.{Guest}
-use Rattle.dc_model.specs.World.{World}
+use Rattle.dc_model.specs.FailureFree.{FailureFree}
 use Rattle.dc_model.specs.declared.act.Act.TheVariants as act
 use Rattle.dc_model.specs.declared.act.Taken.{Taken}
 use Rattle.dc_elf.specs.Loaded.{seen_image}
@@ -21,8 +21,8 @@ loop-rest-init c =
       walked = record {
         inputs_are = c.in-Ok.ensures.inputs;
         is_run = tt;
-        procs_are = λ q. ap (λ (w : World Guest). w.procs q) c.in-Ok.ensures.world;
-        trails_are = λ p less. c.in-Ok-first_trails.ensures.noted images inputs c.args.protocol (long ∙ sym c.in-Ok.ensures.count) (λ q. ap (λ (w : World Guest). w.procs q) c.in-Ok.ensures.world) p (omega (arith, less, long, c.in-Ok.ensures.count));
+        procs_are = λ q. ap (λ (w : FailureFree Guest). w.procs q) c.in-Ok.ensures.world;
+        trails_are = λ p less. c.in-Ok-first_trails.ensures.noted images inputs c.args.protocol (long ∙ sym c.in-Ok.ensures.count) (λ q. ap (λ (w : FailureFree Guest). w.procs q) c.in-Ok.ensures.world) p (omega (arith, less, long, c.in-Ok.ensures.count));
       };
       reports = refl;
       processes = c.in-Ok.ensures.count;

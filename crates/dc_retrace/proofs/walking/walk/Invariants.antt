@@ -1,6 +1,6 @@
 use Rattle.std.proofs.Common.{◌≡◌, ◌<◌, ◌++◌, All, List, length, map}
 use Rattle.dc_model.specs.Runs.{Given}
-use Rattle.dc_model.specs.World.{reported}
+use Rattle.dc_model.specs.FailureFree.{reported}
 use Rattle.dc_elf.specs.Loaded.{seen_image}
 use Rattle.dc_words.specs.Lists.{lists_of}
 use Rattle.dc_retrace.specs.Trails.{HasWalked}

@@ -11,7 +11,7 @@ use Rattle.dc_elf.specs.Loaded.{seen_image}
 use Rattle.dc_media.specs.Devices.{of_disks}
 use Rattle.dc_model.proofs.Rising.{TurnsBelow}
 use Rattle.dc_model.specs.Drawn.{Drawn}
-use Rattle.dc_model.specs.World.{run as run_of}
+use Rattle.dc_model.specs.FailureFree.{run as run_of}
 use Rattle.dc_model.specs.declared.act.Taken.{Taken}
 use Rattle.dc_model.specs.declared.entry.Entry.{Entry}
 use Rattle.dc_reread.specs.declared.faults.RereadFault.TheVariants as faults

@@ -1,14 +1,18 @@
-use Rattle.std.proofs.Common.{◌≡◌, ◌∙◌, ◌<◌, ◌++◌, ℕ, List, Err, rules, refl, ap, drop, length, slice_get, subst, sym, take}
+use Rattle.std.proofs.Common.{◌≡◌, ◌∙◌, ◌<◌, ◌-◌, ◌*◌, ◌++◌, ℕ, List, Err, rules, refl, ap, drop, length, slice_get, subst, sym, take}
 use Rattle.std.proofs.lemmas.List.{take_at}
 use Rattle.std.proofs.lemmas.Result.{err_from_is_err_and}
+use Rattle.dc_checkpoint.specs.declared.faults.StoreFault.TheVariants as faults
 use Rattle.dc_kernel.specs.declared.saved.Saved.{Saved}
+use Rattle.dc_proc.specs.Events.{HasCountsFor}
+use Rattle.dc_processes.proofs.Refusing.{refused_reason}
+use Rattle.dc_processes.specs.Slots.{held_in, slot_at}
 use Rattle.dc_proc.proofs.Texts.{any_err}
 use Rattle.dc_twophase.proofs.Pairs.{pair_then}
 use Rattle.dc_checkpoint.specs.Handles.{same_then}
 use Rattle.dc_twophase.specs.Recoveries.{AreFit}
 use Rattle.dc_twophase.specs.declared.faults.JointFault.TheVariants as joint
 use Rattle.dc_together.proofs.Fitting.{down_each, filled_own, own_same, room_same}
-use Rattle.dc_together.proofs.Recovers.{Cuts, filled_read, room_read, stopped_read, unrefused_read, done_cut, learns_cut, none_uncounted, ready_cut, Reads, Rises, Tells, down_read, down_risen, fit_read}
+use Rattle.dc_together.proofs.Recovers.{Cuts, filled_read, room_read, stopped_read, unrefused_read, done_cut, learns_cut, none_uncounted, ready_cut, Reads, Rises, Tells, uncounted_refused, down_read, down_risen, fit_read}
 use Rattle.dc_together.specs.Joints.{IsRoomFor}
 use Rattle.dc_processes.specs.Stages.{Stage, stage_of}
 use Rattle.dc_processes.specs.Turns.{HasNoRun, later}
@@ -86,6 +90,16 @@ pub returns-in_err-recover_all-clause-stopped : goal.returns-in_err-recover_all-
 returns-in_err-recover_all-clause-stopped g c = any_err c.from_residual.result
     (stopped_read c.args.processes.now (reads g (goal.at.returns-in_err-recover_all-clause-stopped g c).After-recover_all) c.requires.together c.args.turn.now c.requires.process)
 
+-- refused, it is named with its fault: what it stands for, or its counts
+pub returns-in_err-recover_all-clause-content : goal.returns-in_err-recover_all-clause-content
+returns-in_err-recover_all-clause-content g c i fault e =
+    let failed = err_from_is_err_and c.from_residual.result c.from_residual.ensures.1 in
+    let one = failed.1 in
+    let two = failed.2 in
+    let same : c.in_err-recover_all.field-0.0 ≡ joint.Refused i fault = cc in
+    let cause = c.recover_all.ensures.refused_under i fault (c.in_err-recover_all.was ∙ ap Err same) in
+    (cause.1.0, cause.1.1, (cause.0, λ reading left. refused_reason (2 * (c.args.processes.now.left - 1)) fault reading (cause.1.2 reading left)))
+
 pub returns-in_err-recover_all-clause-refused : goal.returns-in_err-recover_all-clause-refused
 returns-in_err-recover_all-clause-refused g c i fault e =
     let failed = err_from_is_err_and c.from_residual.result c.from_residual.ensures.1 in
@@ -119,6 +133,18 @@ returns-in-Some-clause-down g c = let at = goal.at.returns-in-Some-clause-down g
 impossible : (g : Over) (c : goal.After-stores-in-Some-1 g) → HasNoRun g.C.Checkpoint (stage_of c.args.stores.now c.args.dev.now c.args.processes.now) (later 0 (stage_of c.power.new.stores c.recover_all.new.dev c.power.new.self))
 impossible g c = let at = goal.at.returns-in-Some-clause-down g c in
     none_uncounted c.args.processes.now c.rise_each.new.processes (reads g at.After-recover_all) (rises g at.After-rise_each) (tells g) c.requires.together (search rules) c.rise_each.ensures.long c.in-Some.p c.in-Some.ensures.some.0 c.in-Some.ensures.some.1 c.power.new.self c.power.new.stores c.power.ensures.long
+
+pub returns-in-Some-clause-content : goal.returns-in-Some-clause-content
+returns-in-Some-clause-content g c i fault e =
+    let at = goal.at.returns-in-Some-clause-down g c in
+    let stores0 = c.args.stores.now in
+    let low : c.in-Some.p < length c.args.processes.now.slots.items = subst (λ m. c.in-Some.p < m) c.rise_each.ensures.long c.in-Some.ensures.some.0 in
+    let left_is : c.rise_each.new.processes.left ≡ c.args.processes.now.left = search rules in
+    let which : i ≡ c.in-Some.p = cc in
+    let why : fault ≡ faults.Kernel = cc in
+    let refused = uncounted_refused (stage_of stores0 c.args.dev.now c.args.processes.now) c.rise_each.new.processes.slots.items (reads g at.After-recover_all) (rises g at.After-rise_each) c.power.new.stores c.power.ensures.as_many c.power.ensures.stores
+    (2 * (c.args.processes.now.left - 1)) c.in-Some.p low (subst (λ l. HasCountsFor (2 * (l - 1)) (held_in (slot_at c.rise_each.new.processes.slots.items c.in-Some.p)).kernel → ⊥) left_is c.in-Some.ensures.some.1) in
+    rw (which, why) refused
 
 pub returns-in-Some-clause-refused : goal.returns-in-Some-clause-refused
 returns-in-Some-clause-refused g c i fault e = impossible g c

@@ -1,6 +1,9 @@
 use Rattle.dc_together.proofs.Taken.{Takes, broken, counts_taken, down_taken, fit_taken, happened, stores_taken, well_taken}
-use Rattle.std.proofs.Common.{◌≡◌, ◌∙◌, ◌<◌, Some, ap, get_or, length, refl, slice_set, subst, sym, rules}
-use Rattle.dc_guest.specs.Answers.{answer_of}
+use Rattle.std.proofs.Common.{◌≡◌, ◌∙◌, ◌<◌, Some, IfSome, ap, get_or, length, refl, slice_set, subst, sym, rules}
+use Rattle.dc_guest.specs.Answers.{answer_of, effect_of}
+use Rattle.dc_guest.specs.Guest.{event_of, machine_over, next_of, over}
+use Rattle.dc_proc.specs.Turns.{shown_of, visible_shown}
+use Rattle.dc_proc.specs.declared.up.Up.{Up as Process}
 use Rattle.dc_together.proofs.together.take_event.Given.{Over}
 use Rattle.dc_together.proofs.together.take_event.Goals.{After-joint_fault, After-note_exposed, After-take_in}
 use Rattle.dc_together.proofs.together.take_event.Goals as goal
@@ -10,7 +13,7 @@ use Rattle.dc_twophase.proofs.Counting.{joint_ok, joint_refused}
 use Rattle.dc_twophase.proofs.Laws.{Laws, QuietLaws}
 use Rattle.dc_twophase.proofs.Pairs.{one_only, pair_then}
 use Rattle.dc_processes.proofs.Allowing.{MayAt, may_there}
-use Rattle.dc_processes.proofs.Slots.{noted_long, there_read}
+use Rattle.dc_processes.proofs.Slots.{noted_long, there_read, up_same}
 use Rattle.dc_processes.specs.Slots.{slot_at}
 use Rattle.dc_processes.specs.Taking.{ShowsNext}
 use Rattle.dc_processes.specs.declared.processes.Processes.{Processes}
@@ -51,7 +54,7 @@ module _ (g : Over) (c : After-take_in g) where
   may : MayAt g.C.Checkpoint one.before one.old (answer_of c.args.answer.now) (slot_at c.args.processes.now.slots.items one.k)
   may = may_there g.C.Checkpoint one.before one.old (answer_of c.args.answer.now) (slot_at c.args.processes.now.slots.items one.k) (c.requires.may one.before stood)
 
-  takes : Takes g.C.Checkpoint one c.args.processes.now (answer_of c.args.answer.now) c.take_in.new.slot c.take_in.new.acts.items c.take_in.result
+  takes : Takes g.C.Checkpoint one c.args.processes.now (answer_of c.args.answer.now) c.take_in.new.slot c.take_in.new.acts.items c.take_in.new.shown c.take_in.result
   takes = record {
     laws = laws g;
     well = c.requires.well;
@@ -86,22 +89,32 @@ pub returns-in-Ok-clause-others : goal.returns-in-Ok-clause-others
 returns-in-Ok-clause-others g c q none = c.take_in.ensures.call.touches.others q (none c.args.p _ (stood g (whole g c)))
 
 pub returns-in-Ok-clause-joint : goal.returns-in-Ok-clause-joint
-returns-in-Ok-clause-joint g c = joint_ok g.C.Checkpoint (quiet g) (one g (whole g c)) c.in-Ok.done c.in-Ok.done c.in-Ok.ensures.call.touches.others c.in-Ok.ensures.call.touches.counts
+returns-in-Ok-clause-joint g c = joint_ok g.C.Checkpoint (quiet g) (one g (whole g c)) c.in-Ok.mark c.in-Ok.mark c.in-Ok.ensures.call.touches.others c.in-Ok.ensures.call.touches.counts
 
-pub returns-in-Ok-clause-shown : goal.returns-in-Ok-clause-shown
-returns-in-Ok-clause-shown g c b at = subst (λ z. ShowsNext g.C.Checkpoint z c.args.dev.now (slot_at c.args.processes.now.slots.items c.args.p) c.in-Ok.done) (one_only c.args.stores.now c.args.p b _ at (stood g (whole g c)))
-    (λ u is. (c.in-Ok.ensures.taken u (there_read c.args.processes.now.slots.items c.args.p c.index_mut-slot.result.now (Some (Up u)) c.requires.process c.index_mut-slot.ensures.value is)).shown)
+pub returns-in-Ok-clause-showed : goal.returns-in-Ok-clause-showed
+returns-in-Ok-clause-showed g c =
+    let slot = slot_at c.args.processes.now.slots.items c.args.p in
+    let made = may g (whole g c) in
+    let of = c.requires.well.each c.args.p (Up made.up) c.requires.process made.there in
+    let shows = (c.in-Ok.ensures.taken made.up (there_read c.args.processes.now.slots.items c.args.p c.index_mut-slot.result.now (Some (Up made.up)) c.requires.process c.index_mut-slot.ensures.value made.there)).showed in
+    record {
+      done = shows.done;
+      mark_is = shows.mark_is;
+      shown_is = shows.shown_is ∙ ap (λ q. visible_shown q shows.done) of.2;
+      showed = λ b at. subst (λ z. ShowsNext g.C.Checkpoint z c.args.dev.now slot shows.done) (one_only c.args.stores.now c.args.p b _ at (stood g (whole g c)))
+          (λ u is. subst (λ (v : Process). IfSome (g.C.Checkpoint.contents (one g (whole g c)).before c.args.dev.now) (λ ws. shows.done ≡ shown_of (effect_of (event_of (next_of (over v.guest ws)) (machine_over v.guest ws))) v.kernel.visible)) (up_same made.up u (sym made.there ∙ is)) shows.showed);
+    }
 
 pub returns-in-Ok-clause-fit : goal.returns-in-Ok-clause-fit
-returns-in-Ok-clause-fit g c = fit_taken (takes g (whole g c)) c.in-Ok.done c.in-Ok.is c.note_exposed.new.self.slots.items (slots_noted g c) c.in-Ok.ensures.ready
+returns-in-Ok-clause-fit g c = fit_taken (takes g (whole g c)) c.in-Ok.mark c.in-Ok.is c.note_exposed.new.self.slots.items (slots_noted g c) c.in-Ok.ensures.ready
 
 pub returns-in-Ok-clause-counts : goal.returns-in-Ok-clause-counts
-returns-in-Ok-clause-counts g c = counts_taken (takes g (whole g c)) c.in-Ok.done c.in-Ok.is c.note_exposed.new.self.slots.items (slots_noted g c)
+returns-in-Ok-clause-counts g c = counts_taken (takes g (whole g c)) c.in-Ok.mark c.in-Ok.is c.note_exposed.new.self.slots.items (slots_noted g c)
 
 pub returns-in-Ok-clause-happens : goal.returns-in-Ok-clause-happens
 returns-in-Ok-clause-happens g c images core together told go inside given world =
     happened (takes g (whole g c)) g.met.C.Checkpoint.told_contents g.met.C.Checkpoint.some_number images core together told go inside given world
-    c.in-Ok.done c.in-Ok.is c.in-Ok.ensures.ready c.note_exposed.new.self (search rules) (slots_noted g c) (acts_noted g c)
+    c.in-Ok.mark c.in-Ok.is c.in-Ok.ensures.ready c.note_exposed.new.self (search rules) (slots_noted g c) (acts_noted g c)
     (rw (acts_noted g c, sym c.count_of-acts.ensures, sym c.is_some.ensures) c.note_exposed.ensures.exposed)
 
 -- it was refused, and all fell

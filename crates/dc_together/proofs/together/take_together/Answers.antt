@@ -17,7 +17,7 @@ use Rattle.dc_together.proofs.Fitting.{counts_fewer, counts_gone, counts_mid, fi
 use Rattle.dc_together.proofs.Leading.{Leads, joint_later, leads_of, leads_then, others_later, own_later, same_later}
 use Rattle.dc_together.specs.Joints.{HaveCounts, IsRoomFor}
 use Rattle.dc_together.proofs.together.take_together.Given.{Over}
-use Rattle.dc_together.proofs.together.take_together.Goals.{After-asked-asked, In_ok-commit_if, After-take_event, In_ok-done}
+use Rattle.dc_together.proofs.together.take_together.Goals.{After-asked-asked, In_ok-commit_if, After-take_event, In_ok-mark}
 use Rattle.dc_together.proofs.together.take_together.Goals as goal
 
 -- before it: the process has a store, and the code asks what the theory asks
@@ -43,19 +43,19 @@ room_event g c = room_same g.C.Checkpoint c.commit_if.new.stores c.take_event.ne
     (ap (λ (w : Processes). length w.joint.texts.items) c.take_event.ensures.rest) (ap (λ (w : Processes). w.joint.saved) c.take_event.ensures.rest) c.commit_if.ensures.room
 
 -- after the event
-module _ (g : Over) (c : In_ok-done g) where
+module _ (g : Over) (c : In_ok-mark g) where
   begun : Leads g.C.Checkpoint (stage_of c.args.stores.now c.args.dev.now c.args.processes.now) (stage_of c.commit_if.new.stores c.commit_if.new.dev c.commit_if.new.processes)
   begun = leads_of c.args.processes.now c.commit_if.new.processes (search rules) c.commit_if.ensures.long c.commit_if.ensures.as_many c.commit_if.ensures.stores c.commit_if.ensures.others c.in_ok-commit_if.ensures.joint.calm
 
   second : Leads g.C.Checkpoint (stage_of c.commit_if.new.stores c.commit_if.new.dev c.commit_if.new.processes) (stage_of c.take_event.new.stores c.take_event.new.dev c.take_event.new.processes)
-  second = leads_of c.commit_if.new.processes c.take_event.new.processes (search rules) c.take_event.ensures.long c.take_event.ensures.as_many c.take_event.ensures.stores c.take_event.ensures.others c.in_ok-done.ensures.joint.calm
+  second = leads_of c.commit_if.new.processes c.take_event.new.processes (search rules) c.take_event.ensures.long c.take_event.ensures.as_many c.take_event.ensures.stores c.take_event.ensures.others c.in_ok-mark.ensures.joint.calm
 
   two : Leads g.C.Checkpoint (stage_of c.args.stores.now c.args.dev.now c.args.processes.now) (stage_of c.take_event.new.stores c.take_event.new.dev c.take_event.new.processes)
   two = leads_then (g.met.C.Checkpoint.untouched_on c.args.dev.now c.commit_if.new.dev c.take_event.new.dev) begun second
 
   counts_second : HaveCounts (2 * (c.args.processes.now.left - 1) + (if c.asked-asked.result.after then 1 else 0)) c.take_event.new.processes.slots.items
   counts_second = counts_gone c.args.processes.now.left c.requires.left c.asked-asked.result.before c.args.processes.now.slots.items c.commit_if.new.processes.slots.items c.take_event.new.processes.slots.items
-      c.in_ok-commit_if.ensures.counts c.in_ok-done.ensures.counts c.requires.counts c.asked-asked.result.after (c.asked-asked.ensures.once c.requires.together)
+      c.in_ok-commit_if.ensures.counts c.in_ok-mark.ensures.counts c.requires.counts c.asked-asked.result.after (c.asked-asked.ensures.once c.requires.together)
 
 pub asked-asked-requires-clause-next : goal.asked-asked-requires-clause-next
 asked-asked-requires-clause-next g c x at = (c.args.call, c.requires.next x at)
@@ -86,88 +86,87 @@ take_event-requires-clause-may g c x at =
     subst (MayTake G x dev1 (answer_of c.args.answer.now)) (sym makes.there) (may_turn G (2 * left - 1) x dev1 (slot_at slots1 p) c.args.call (answer_of c.args.answer.now) (length c.args.processes.now.slots.items) p makes counts
     (let l = c.requires.left in omega (arith, l)) (of.1 ∙ ok.long) of.2 c.requires.kind c.requires.plain c.requires.sender)
 
-pub returns-in_err-done-clause-stores : goal.returns-in_err-done-clause-stores
-returns-in_err-done-clause-stores g c = same_later (first g (goal.at.returns-in_err-done-clause-stores g c).In_ok-commit_if) c.take_event.new.stores c.take_event.ensures.stores
+pub returns-in_err-mark-clause-stores : goal.returns-in_err-mark-clause-stores
+returns-in_err-mark-clause-stores g c = same_later (first g (goal.at.returns-in_err-mark-clause-stores g c).In_ok-commit_if) c.take_event.new.stores c.take_event.ensures.stores
 
-pub returns-in_err-done-clause-room : goal.returns-in_err-done-clause-room
-returns-in_err-done-clause-room g c = room_event g (goal.at.returns-in_err-done-clause-room g c).After-take_event
+pub returns-in_err-mark-clause-room : goal.returns-in_err-mark-clause-room
+returns-in_err-mark-clause-room g c = room_event g (goal.at.returns-in_err-mark-clause-room g c).After-take_event
 
-pub returns-in_err-done-clause-joint : goal.returns-in_err-done-clause-joint
-returns-in_err-done-clause-joint g c =
-    let fault = err_from_is_err_and c.from_residual-in_err-done.result c.from_residual-in_err-done.ensures.1 in
-    rw (fault.1, fault.2) (joint_later (first g (goal.at.returns-in_err-done-clause-joint g c).In_ok-commit_if) c.take_event.new.dev _ c.in_err-done.ensures.joint)
+pub returns-in_err-mark-clause-joint : goal.returns-in_err-mark-clause-joint
+returns-in_err-mark-clause-joint g c =
+    let fault = err_from_is_err_and c.from_residual-in_err-mark.result c.from_residual-in_err-mark.ensures.1 in
+    rw (fault.1, fault.2) (joint_later (first g (goal.at.returns-in_err-mark-clause-joint g c).In_ok-commit_if) c.take_event.new.dev _ c.in_err-mark.ensures.joint)
 
-pub returns-in_err-done-clause-others : goal.returns-in_err-done-clause-others
-returns-in_err-done-clause-others g c = others_later (first g (goal.at.returns-in_err-done-clause-others g c).In_ok-commit_if) c.take_event.new.dev (g.met.C.Checkpoint.untouched_on c.args.dev.now c.commit_if.new.dev c.take_event.new.dev) c.take_event.ensures.others
+pub returns-in_err-mark-clause-others : goal.returns-in_err-mark-clause-others
+returns-in_err-mark-clause-others g c = others_later (first g (goal.at.returns-in_err-mark-clause-others g c).In_ok-commit_if) c.take_event.new.dev (g.met.C.Checkpoint.untouched_on c.args.dev.now c.commit_if.new.dev c.take_event.new.dev) c.take_event.ensures.others
 
-pub returns-in_err-done-clause-fell : goal.returns-in_err-done-clause-fell
-returns-in_err-done-clause-fell g c =
-    let at = goal.at.returns-in_err-done-clause-fell g c in
+pub returns-in_err-mark-clause-fell : goal.returns-in_err-mark-clause-fell
+returns-in_err-mark-clause-fell g c =
+    let at = goal.at.returns-in_err-mark-clause-fell g c in
     let f = at.In_ok-commit_if in
-    any_err c.from_residual-in_err-done.result (fell_event (asks g at.After-asked-asked) c.in_ok-commit_if.ensures.goes (first g f) (later 0 (stage_of c.take_event.new.stores c.take_event.new.dev c.take_event.new.processes))
-    (c.in_err-done.ensures.broken (subst (λ k. HaveCounts (2 * k - 1) c.commit_if.new.processes.slots.items) (sym (first g f).left) (counts_first g f))))
+    any_err c.from_residual-in_err-mark.result (fell_event (asks g at.After-asked-asked) c.in_ok-commit_if.ensures.goes (first g f) (later 0 (stage_of c.take_event.new.stores c.take_event.new.dev c.take_event.new.processes))
+    (c.in_err-mark.ensures.broken (subst (λ k. HaveCounts (2 * k - 1) c.commit_if.new.processes.slots.items) (sym (first g f).left) (counts_first g f))))
 
 pub commit_if-requires-2-clause-belongs : goal.commit_if-requires-2-clause-belongs
-commit_if-requires-2-clause-belongs g c = own_later (two g (goal.at.commit_if-requires-2-clause-belongs g c).In_ok-done) c.requires.belongs
+commit_if-requires-2-clause-belongs g c = own_later (two g (goal.at.commit_if-requires-2-clause-belongs g c).In_ok-mark) c.requires.belongs
 
 pub commit_if-requires-2-clause-counts : goal.commit_if-requires-2-clause-counts
 commit_if-requires-2-clause-counts g c due =
     let left = c.args.processes.now.left in
     let slots2 = c.take_event.new.processes.slots.items in
-    counts_fewer (2 * (left - 1) + 1) 1 slots2 (omega arith) (subst (λ b. HaveCounts (2 * (left - 1) + (if b then 1 else 0)) slots2) due (counts_second g (goal.at.commit_if-requires-2-clause-counts g c).In_ok-done))
+    counts_fewer (2 * (left - 1) + 1) 1 slots2 (omega arith) (subst (λ b. HaveCounts (2 * (left - 1) + (if b then 1 else 0)) slots2) due (counts_second g (goal.at.commit_if-requires-2-clause-counts g c).In_ok-mark))
 
 pub commit_if-requires-2-clause-room : goal.commit_if-requires-2-clause-room
 commit_if-requires-2-clause-room g c = subst (λ m. IsRoomFor g.C.Checkpoint c.take_event.new.stores m c.take_event.new.processes.joint) (sym (c.take_event.ensures.long ∙ c.commit_if.ensures.long)) (room_event g (goal.at.commit_if-requires-2-clause-room g c).After-take_event)
 
-pub returns-in_err-commit_if-2-clause-stores : goal.returns-in_err-commit_if-2-clause-stores
-returns-in_err-commit_if-2-clause-stores g c = same_later (two g (goal.at.returns-in_err-commit_if-2-clause-stores g c).In_ok-done) c.commit_if-2.new.stores c.commit_if-2.ensures.stores
+pub returns-in-Err-clause-stores : goal.returns-in-Err-clause-stores
+returns-in-Err-clause-stores g c = same_later (two g (goal.at.returns-in-Err-clause-stores g c).In_ok-mark) c.commit_if-2.new.stores c.commit_if-2.ensures.stores
 
-pub returns-in_err-commit_if-2-clause-joint : goal.returns-in_err-commit_if-2-clause-joint
-returns-in_err-commit_if-2-clause-joint g c =
-    let fault = err_from_is_err_and c.from_residual-in_err-commit_if-2.result c.from_residual-in_err-commit_if-2.ensures.1 in
-    rw (fault.1, fault.2) (joint_later (two g (goal.at.returns-in_err-commit_if-2-clause-joint g c).In_ok-done) c.commit_if-2.new.dev _ c.in_err-commit_if-2.ensures.joint)
+pub returns-in-Err-clause-joint : goal.returns-in-Err-clause-joint
+returns-in-Err-clause-joint g c =
+    joint_later (two g (goal.at.returns-in-Err-clause-joint g c).In_ok-mark) c.commit_if-2.new.dev _ c.in-Err.ensures.joint
 
-pub returns-in_err-commit_if-2-clause-others : goal.returns-in_err-commit_if-2-clause-others
-returns-in_err-commit_if-2-clause-others g c = others_later (two g (goal.at.returns-in_err-commit_if-2-clause-others g c).In_ok-done) c.commit_if-2.new.dev (g.met.C.Checkpoint.untouched_on c.args.dev.now c.take_event.new.dev c.commit_if-2.new.dev) c.commit_if-2.ensures.others
+pub returns-in-Err-clause-others : goal.returns-in-Err-clause-others
+returns-in-Err-clause-others g c = others_later (two g (goal.at.returns-in-Err-clause-others g c).In_ok-mark) c.commit_if-2.new.dev (g.met.C.Checkpoint.untouched_on c.args.dev.now c.take_event.new.dev c.commit_if-2.new.dev) c.commit_if-2.ensures.others
 
-pub returns-in_err-commit_if-2-clause-fell : goal.returns-in_err-commit_if-2-clause-fell
-returns-in_err-commit_if-2-clause-fell g c =
-    let at = goal.at.returns-in_err-commit_if-2-clause-fell g c in
-    let e = at.In_ok-done in
+pub returns-in-Err-clause-fell : goal.returns-in-Err-clause-fell
+returns-in-Err-clause-fell g c =
+    let at = goal.at.returns-in-Err-clause-fell g c in
+    let e = at.In_ok-mark in
     let left = c.args.processes.now.left in
     let slots2 = c.take_event.new.processes.slots.items in
-    let broke = c.in_err-commit_if-2.ensures in
+    let broke = c.in-Err.ensures in
     let left_is : c.take_event.new.processes.left ≡ left = (two g e).left in
     let counts : HaveCounts (2 * c.take_event.new.processes.left - 1) slots2 = counts_fewer (2 * (left - 1) + 1) (2 * c.take_event.new.processes.left - 1) slots2 (let l = c.requires.left in omega (arith, l, left_is))
     (subst (λ b. HaveCounts (2 * (left - 1) + (if b then 1 else 0)) slots2) broke.due (counts_second g e)) in
-    any_err c.from_residual-in_err-commit_if-2.result (fell_after (asks g at.After-asked-asked) c.in_ok-commit_if.ensures.goes (begun g e) c.in_ok-done.ensures.happens (second g e)
-    (later 0 (stage_of c.commit_if-2.new.stores c.commit_if-2.new.dev c.commit_if-2.new.processes)) broke.due (broke.torn counts))
+    fell_after (asks g at.After-asked-asked) c.in_ok-commit_if.ensures.goes (begun g e) c.in_ok-mark.ensures.happens (second g e)
+    (later 0 (stage_of c.commit_if-2.new.stores c.commit_if-2.new.dev c.commit_if-2.new.processes)) broke.due (broke.torn counts)
 
-pub returns-clause-stores : goal.returns-clause-stores
-returns-clause-stores g c = same_later (two g (goal.at.returns-clause-stores g c).In_ok-done) c.commit_if-2.new.stores c.commit_if-2.ensures.stores
+pub returns-in-Ok-clause-stores : goal.returns-in-Ok-clause-stores
+returns-in-Ok-clause-stores g c = same_later (two g (goal.at.returns-in-Ok-clause-stores g c).In_ok-mark) c.commit_if-2.new.stores c.commit_if-2.ensures.stores
 
-pub returns-clause-fit : goal.returns-clause-fit
-returns-clause-fit g c = (c.in_ok-commit_if-2.ensures.fit, c.in_ok-commit_if-2.ensures.counts (2 * (c.args.processes.now.left - 1)) (counts_second g (goal.at.returns-clause-fit g c).In_ok-done))
+pub returns-in-Ok-clause-fit : goal.returns-in-Ok-clause-fit
+returns-in-Ok-clause-fit g c = (c.in-Ok.ensures.fit, c.in-Ok.ensures.counts (2 * (c.args.processes.now.left - 1)) (counts_second g (goal.at.returns-in-Ok-clause-fit g c).In_ok-mark))
 
-pub returns-clause-others : goal.returns-clause-others
-returns-clause-others g c = others_later (two g (goal.at.returns-clause-others g c).In_ok-done) c.commit_if-2.new.dev (g.met.C.Checkpoint.untouched_on c.args.dev.now c.take_event.new.dev c.commit_if-2.new.dev) c.commit_if-2.ensures.others
+pub returns-in-Ok-clause-others : goal.returns-in-Ok-clause-others
+returns-in-Ok-clause-others g c = others_later (two g (goal.at.returns-in-Ok-clause-others g c).In_ok-mark) c.commit_if-2.new.dev (g.met.C.Checkpoint.untouched_on c.args.dev.now c.take_event.new.dev c.commit_if-2.new.dev) c.commit_if-2.ensures.others
 
 -- what it showed is what it was to show before the commit
-shows : (g : Over) (c : goal.After-hand_on g) → IsTold g.C.Checkpoint (stage_of c.args.stores.now c.args.dev.now c.args.processes.now) → (z : g.row.C.Denot) → slice_get c.args.stores.now c.args.p ≡ Some z
-    → ShowsNext g.C.Checkpoint z c.args.dev.now (slot_at c.args.processes.now.slots.items c.args.p) c.in_ok-done.done
+shows : (g : Over) (c : In_ok-mark g) → IsTold g.C.Checkpoint (stage_of c.args.stores.now c.args.dev.now c.args.processes.now) → (z : g.row.C.Denot) → slice_get c.args.stores.now c.args.p ≡ Some z
+    → ShowsNext g.C.Checkpoint z c.args.dev.now (slot_at c.args.processes.now.slots.items c.args.p) c.in_ok-mark.ensures.showed.done
 shows g c told z at = let ok = c.in_ok-commit_if.ensures in
-    shows_told g.C.Checkpoint g.met.C.Checkpoint.told_contents (begun g (goal.at.returns-clause-showed g c).In_ok-done) c.args.p c.requires.process c.requires.stores c.requires.belongs c.args.call z at (c.requires.next z at) told
-    ok.fit (ok.alike c.args.p c.requires.process) ok.memory c.in_ok-done.done c.in_ok-done.ensures.shown
+    shows_told g.C.Checkpoint g.met.C.Checkpoint.told_contents (begun g c) c.args.p c.requires.process c.requires.stores c.requires.belongs c.args.call z at (c.requires.next z at) told
+    ok.fit (ok.alike c.args.p c.requires.process) ok.memory c.in_ok-mark.ensures.showed.done c.in_ok-mark.ensures.showed.showed
 
-pub returns-clause-showed : goal.returns-clause-showed
-returns-clause-showed g c = record { done = c.in_ok-done.done; mark_is = c.hand_on.ensures.mark; shown_is = c.hand_on.ensures.shown; showed = shows g c }
+pub returns-in-Ok-clause-showed : goal.returns-in-Ok-clause-showed
+returns-in-Ok-clause-showed g c = let s = c.in_ok-mark.ensures.showed in record { done = s.done; mark_is = s.mark_is; shown_is = s.shown_is; showed = shows g (goal.at.returns-in-Ok-clause-showed g c).In_ok-mark }
 
-pub returns-clause-went : goal.returns-clause-went
-returns-clause-went g c =
-    let at = goal.at.returns-clause-went g c in
+pub returns-in-Ok-clause-went : goal.returns-in-Ok-clause-went
+returns-in-Ok-clause-went g c =
+    let at = goal.at.returns-in-Ok-clause-went g c in
     let s = at.After-asked-asked in
-    let e = at.In_ok-done in
+    let e = at.In_ok-mark in
     let y = store g s in
-    went_whole (asks g s) c.in_ok-commit_if.ensures.goes (begun g e) c.in_ok-done.ensures.happens (second g e) (stage_of c.commit_if-2.new.stores c.commit_if-2.new.dev c.commit_if-2.new.processes) (length (lines_of c.hand_on.new.shown)) c.in_ok-commit_if-2.ensures.goes
+    went_whole (asks g s) c.in_ok-commit_if.ensures.goes (begun g e) c.in_ok-mark.ensures.happens (second g e) (stage_of c.commit_if-2.new.stores c.commit_if-2.new.dev c.commit_if-2.new.processes) (length (lines_of c.take_event.new.shown)) c.in-Ok.ensures.goes
     (λ images core told go inside world. let words = memory_told g.C.Checkpoint g.met.C.Checkpoint.told_contents (begun g e) c.args.p c.requires.process c.requires.stores c.requires.belongs c.args.call y.0 y.1 (c.requires.next y.0 y.1) told in
-    lines_told g.C.Checkpoint (stage_of c.args.stores.now c.args.dev.now c.args.processes.now) images core (answer_of c.args.answer.now) told go c.args.p inside world y.0 y.1 c.args.call (c.requires.next y.0 y.1) words.0 words.1 (returns-clause-showed g c))
+    lines_told g.C.Checkpoint (stage_of c.args.stores.now c.args.dev.now c.args.processes.now) images core (answer_of c.args.answer.now) told go c.args.p inside world y.0 y.1 c.args.call (c.requires.next y.0 y.1) words.0 words.1 (returns-in-Ok-clause-showed g c))

@@ -16,6 +16,7 @@ use Rattle.dc_recovery.specs.Answers.{rule_at, stores_at}
 use Rattle.dc_recovery.specs.Parts.{may_stop}
 use Rattle.dc_twophase.proofs.Counting.{calm_start, joint_calm}
 use Rattle.dc_twophase.proofs.Pairs.{one_only}
+use Rattle.dc_proc.specs.Turns.{taken_mark, visible_shown}
 use Rattle.dc_processes.proofs.Answered.{answered_as, answered_idle, given, same_stage, stopped_as}
 use Rattle.dc_processes.proofs.Drawing.{items_are}
 use Rattle.dc_together.proofs.Fitting.{counts_fewer}
@@ -25,7 +26,7 @@ use Rattle.dc_together.specs.Joints.{IsFitAt}
 use Rattle.dc_processes.specs.Slots.{slot_at}
 use Rattle.dc_processes.specs.Stages.{Stage, stage_of}
 use Rattle.dc_processes.specs.Taking.{MakesCall}
-use Rattle.dc_processes.specs.Turns.{IsTurned, later, lines_of, marked, taken_mark, visible_shown}
+use Rattle.dc_processes.specs.Turns.{IsTurned, later, lines_of, marked}
 use Rattle.dc_processes.specs.declared.slot.Slot.TheVariants.{Up}
 use Rattle.dc_together.proofs.together.turn_all_up.Goals as goal
 

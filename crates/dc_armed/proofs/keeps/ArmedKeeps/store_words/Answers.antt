@@ -8,7 +8,7 @@ use Rattle.dc_armed.proofs.keeps.ArmedKeeps.store_words.Goals as goal
 pub returns-clause-call : goal.returns-clause-call
 returns-clause-call g c = let done = c.store_words-done in
     let old : Armed g.row.K.Denot = record { device = c.self.inside.device; plan = c.self.inside.plan } in
-    let new : Armed g.row.K.Denot = record { device = done.new.self; plan = c.passed.new.self } in
+    let new : Armed g.row.K.Denot = record { device = done.new.self; plan = c.heeded.new.self } in
     let others = done.ensures.call.touches.others in record {
       touches = record {
         tells = search rules;

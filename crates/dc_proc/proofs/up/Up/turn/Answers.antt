@@ -30,8 +30,8 @@ returns-in-Ok-Retire-clause-goes g c images inputs p answers st d words from tol
     let here : IsAt S p answers st words (held c.args.self.now) = told_at (λ ws. IsAt S p answers st ws (held c.args.self.now)) (g.C.Checkpoint.contents c.args.store.now c.args.dev.now) words told stood.process in
     let found : IfSome (g.C.Checkpoint.contents c.args.store.now c.args.dev.now) (λ ws. Retire ≡ next_of (over c.args.self.now.guest ws)) = search rules in
     let retires : Retire ≡ next_of (over c.args.self.now.guest words) = told_at (λ ws. Retire ≡ next_of (over c.args.self.now.guest ws)) (g.C.Checkpoint.contents c.args.store.now c.args.dev.now) words told found in
-    let may : may_answer (answer_of c.args.answer.now) (kind_of (next_of (over c.args.self.now.guest words))) ≡ _ = told_at (λ ws. may_answer (answer_of c.args.answer.now) (kind_of (next_of (over c.args.self.now.guest ws))) ≡ _) (g.C.Checkpoint.contents c.args.store.now c.args.dev.now) words told c.requires.kind in
-    let plain : answer_of c.args.answer.now ≡ Plain = plain_is (answer_of c.args.answer.now) (ap (λ n. may_answer (answer_of c.args.answer.now) (kind_of n)) retires ∙ may) in
+    let may : may_answer (answer_of c.args.answered.now.answer) (kind_of (next_of (over c.args.self.now.guest words))) ≡ _ = told_at (λ ws. may_answer (answer_of c.args.answered.now.answer) (kind_of (next_of (over c.args.self.now.guest ws))) ≡ _) (g.C.Checkpoint.contents c.args.store.now c.args.dev.now) words told c.requires.kind in
+    let plain : answer_of c.args.answered.now.answer ≡ Plain = plain_is (answer_of c.args.answered.now.answer) (ap (λ n. may_answer (answer_of c.args.answered.now.answer) (kind_of n)) retires ∙ may) in
     let alone1 : IsAnswerAlone S.guests p answers st Plain = subst (IsAnswerAlone S.guests p answers st) plain alone in
     let whole = whole_next c.args.self.now c.note_retired.new.self c.requires.whole c.requires.runs Retire Plain Nothing (search rules) (search rules) (search rules) (search rules) (search rules) in
     let over1 = over_added S p answers st st Plain (g.C.Checkpoint.contents c.args.store.now c.args.dev.now) (held c.args.self.now) (g.C.Checkpoint.leaves c.args.store.now c.args.dev.now d) stood in
@@ -39,19 +39,19 @@ returns-in-Ok-Retire-clause-goes g c images inputs p answers st d words from tol
     (search rules) (search rules) (search rules) (search rules) (search rules) (search rules)
     (g.C.Checkpoint.contents c.args.store.now c.args.dev.now) (g.C.Checkpoint.contents c.step.new.store c.step.new.dev) (g.C.Checkpoint.leaves c.args.store.now c.args.dev.now d) (g.C.Checkpoint.leaves c.step.new.store c.step.new.dev d) over1
     found (told_nothing (g.C.Checkpoint.contents c.args.store.now c.args.dev.now) c.args.self.now.guest) (search rules) (λ r l. c.in-Ok-Retire.ensures.stores.adds_nothing.stands d r from l) in
-    retired images inputs c.args.self.now.protocol p answers st words c.args.self.now c.requires.whole here c.requires.runs (sym retires) (answer_of c.args.answer.now) plain (g.C.Checkpoint.contents c.step.new.store c.step.new.dev) c.note_retired.new.self (g.C.Checkpoint.leaves c.step.new.store c.step.new.dev d) over2
+    retired images inputs c.args.self.now.protocol p answers st words c.args.self.now c.requires.whole here c.requires.runs (sym retires) (answer_of c.args.answered.now.answer) plain (g.C.Checkpoint.contents c.step.new.store c.step.new.dev) c.note_retired.new.self (g.C.Checkpoint.leaves c.step.new.store c.step.new.dev d) over2
 
 pub returns-in-Err-clause-stopped : goal.returns-in-Err-clause-stopped
 returns-in-Err-clause-stopped g c images inputs p answers st d words from told stood alone =
     let S = system images inputs c.args.self.now.protocol in
     let here : IsAt S p answers st words (held c.args.self.now) = told_at (λ ws. IsAt S p answers st ws (held c.args.self.now)) (g.C.Checkpoint.contents c.args.store.now c.args.dev.now) words told stood.process in
     let retires : next_of (over c.args.self.now.guest words) ≡ Retire = told_at (λ ws. next_of (over c.args.self.now.guest ws) ≡ Retire) (g.C.Checkpoint.contents c.args.store.now c.args.dev.now) words told c.in-Err.ensures.reached in
-    let may : may_answer (answer_of c.args.answer.now) (kind_of (next_of (over c.args.self.now.guest words))) ≡ _ = told_at (λ ws. may_answer (answer_of c.args.answer.now) (kind_of (next_of (over c.args.self.now.guest ws))) ≡ _) (g.C.Checkpoint.contents c.args.store.now c.args.dev.now) words told c.requires.kind in
-    let plain : answer_of c.args.answer.now ≡ Plain = plain_is (answer_of c.args.answer.now) (ap (λ n. may_answer (answer_of c.args.answer.now) (kind_of n)) (sym retires) ∙ may) in
+    let may : may_answer (answer_of c.args.answered.now.answer) (kind_of (next_of (over c.args.self.now.guest words))) ≡ _ = told_at (λ ws. may_answer (answer_of c.args.answered.now.answer) (kind_of (next_of (over c.args.self.now.guest ws))) ≡ _) (g.C.Checkpoint.contents c.args.store.now c.args.dev.now) words told c.requires.kind in
+    let plain : answer_of c.args.answered.now.answer ≡ Plain = plain_is (answer_of c.args.answered.now.answer) (ap (λ n. may_answer (answer_of c.args.answered.now.answer) (kind_of n)) (sym retires) ∙ may) in
     let over1 = over_added S p answers st st Plain (g.C.Checkpoint.contents c.args.store.now c.args.dev.now) (held c.args.self.now) (g.C.Checkpoint.leaves c.args.store.now c.args.dev.now d) stood in
-    stopped_retiring images inputs c.args.self.now.protocol p answers st words c.args.self.now c.requires.whole here c.requires.runs retires (answer_of c.args.answer.now) plain
+    stopped_retiring images inputs c.args.self.now.protocol p answers st words c.args.self.now c.requires.whole here c.requires.runs retires (answer_of c.args.answered.now.answer) plain
     (told_at (λ ws. stores (machine_over c.args.self.now.guest ws) ≡ true) (g.C.Checkpoint.contents c.args.store.now c.args.dev.now) words told c.in-Err.ensures.storing) (slice_index c.args.self.now.others.items)
-    (g.C.Checkpoint.leaves c.step.new.store c.step.new.dev d) (record { before = c.args.acts.now.items; more = acts_with c.args.acts.now.items c.args.self.now.kernel c.args.t (answer_of c.args.answer.now); after = c.add_act-in-Err.new.acts.items }) c.step.new.self.based.items
+    (g.C.Checkpoint.leaves c.step.new.store c.step.new.dev d) (record { before = c.args.acts.now.items; more = acts_with c.args.acts.now.items c.args.self.now.kernel c.args.answered.now.t (answer_of c.args.answered.now.answer); after = c.add_act-in-Err.new.acts.items }) c.step.new.self.based.items
     (λ r l. over1.stands r (c.in-Err.ensures.stores.adds_nothing.stands d r from l)) (search rules)
     (parts_based S p answers st Plain words (held c.args.self.now) here stood.going false false (record { position = st.position; answer = Plain }) c.step.new.self.based.items c.args.self.now.based.items (λ e. absurd (true≢false (sym e))) (λ e. refl) (ap (λ (u : Up). u.based.items) c.in-Err.ensures.rest))
 
@@ -76,6 +76,7 @@ returns-else-is_blocked g c =
       numbered = rw (sym same.0, sym same.1, sym same.2) told.numbered;
       goes = rw (sym same.0, sym same.1, sym same.2) told.goes;
       acts = on_ok_weaker c.take.result (λ e. told_also (g.C.Checkpoint.contents c.args.store.now c.args.dev.now) (rw (sym same.0) e)) told.acts;
-      shown = shown_found c.take.result (g.C.Checkpoint.contents c.args.store.now c.args.dev.now) c.in-Ok.next c.args.self.now.guest c.args.self.now.kernel.visible c.in-Ok.ensures.next (rw (sym same.0, sym same.1, sym same.2) told.shown);
+      showed = shown_found c.take.result (g.C.Checkpoint.contents c.args.store.now c.args.dev.now) c.in-Ok.next c.args.self.now.guest c.args.self.now.kernel.visible c.args.self.now.kernel.p c.take.new.shown c.in-Ok.ensures.next (rw (sym same.0, sym same.1, sym same.2) told.showed);
+      unshown = told.unshown;
       stopped = rw (sym same.0, sym same.1, sym same.2) told.stopped;
     }

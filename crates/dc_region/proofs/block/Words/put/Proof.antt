@@ -74,10 +74,10 @@ module _ {M : Type 1} {𝓤 : Ura M} (𝓛 : Logic 𝓤) (at_mem : Memory → SP
 
     exits : us0 ≡ vptr rb ro ∷ [] → (new : Wr.Denot) → Gives d index x new
         → ent 𝓤 (⋆ 𝓛 (‵ (fobs γ (Wr.coded.code new)) ∷ ‵ (fbor κ (Borrowed (mem Wr) rb ro γ)) ∷ ‵ (flft κ q) ∷ [])) (Post vunit)
-    exits passed new gives =
+    exits given new gives =
         qed 𝓛 (‵ (fobs γ (Wr.coded.code new)) ∷ ‵ (fbor κ (Borrowed (mem Wr) rb ro γ)) ∷ ‵ (flft κ q) ∷ []) ∵
         suffices ! _ (ends_at 𝓛 F.ended stayed clauses bound vunit tt (new, (tt, (tt, (tt, tt)))) (tt, (tt, (tt, (tt, tt))))) $ says ! gives $
-        nothing ! $ move ! (3 ∷ 0 ∷ []) $ join ! $ frame ! $ feq_i ! (List Val) us0 (vptr rb ro ∷ []) passed $ fjoin3 ! $
+        nothing ! $ move ! (3 ∷ 0 ∷ []) $ join ! $ frame ! $ feq_i ! (List Val) us0 (vptr rb ro ∷ []) given $ fjoin3 ! $
         nothing ! $ nothing ! $ fjoin ! $ nothing ! $ fjoin ! $ nothing ! $ fjoin ! $ move ! (1 ∷ 0 ∷ []) $ fjoin ! $
         feq_i ! (List Val) (vunit ∷ []) (vunit ∷ []) refl $ move ! (1 ∷ 0 ∷ []) $ done !
 
@@ -85,7 +85,7 @@ module _ {M : Type 1} {𝓤 : Ura M} (𝓛 : Logic 𝓤) (at_mem : Memory → SP
     Had = ‵ (fobs γ (Wr.coded.code d)) ∷ ‵ (fbor κ (Borrowed (mem Wr) rb ro γ)) ∷ ‵ (flft κ q) ∷ []
 
     walk : us0 ≡ vptr rb ro ∷ [] → Asks d base index → index < 2 ^ 64 → x < 2 ^ 32 → ent 𝓤 (⋆ 𝓛 Had) (WpFn 𝓤 H C Λ code.function (vptr rb ro ∷ word base.ptr ∷ vint w64 index ∷ vint w32 x ∷ []) Post)
-    walk passed asked fits_index fits_x =
+    walk given asked fits_index fits_x =
         let within = asked.1 in
         let new : Wr.Denot = record { mark = d.mark; at = d.at; slots = set d.slots index (Some x) } in
         qed 𝓛 Had ∵ enter ! C Λ code.function (vptr rb ro ∷ word base.ptr ∷ vint w64 index ∷ vint w32 x ∷ []) _ $
@@ -106,7 +106,7 @@ module _ {M : Type 1} {𝓤 : Ura M} (𝓛 : Logic 𝓤) (at_mem : Memory → SP
         use2 𝓛 (‵ (slots b o new.slots)) (slot_in 𝓛 b o d.slots index within (Some x)) $
         flt_i ! (length new.slots * 4) (2 ^ 63) (subst (λ k. k * 4 < 2 ^ 63) (sym (length-set d.slots index (Some x))) small) $ fjoin ! $
         rewrite ! 0 (λ (p : Ptr). ‵ (words_own p new.slots)) (sym e) refl $ move ! (1 ∷ 0 ∷ []) $ fjoin ! $ move ! (1 ∷ 0 ∷ []) $ closes ! tt Wr new vs rb ro $
-        returns ! (look_at ! 0 refl) $ free_all ! refl $ keep ! (0 ∷ 1 ∷ 2 ∷ []) $ by ! (exits passed new (refl, refl))))))
+        returns ! (look_at ! 0 refl) $ free_all ! refl $ keep ! (0 ∷ 1 ∷ 2 ∷ []) $ by ! (exits given new (refl, refl))))))
 
     entry : Asks d base index → ent 𝓤 (on_entry 𝓛 F.signature (κ, tt) (q, tt) (self, (base, (index, (x, tt)))) (us0, (us1, (us2, (us3, tt))))) (WpFn 𝓤 H C Λ code.function (us0 ++ (us1 ++ (us2 ++ (us3 ++ [])))) Post)
     entry asked =

@@ -4,6 +4,7 @@ use Rattle.std.proofs.lemmas.Option.{slice_get_read}
 use Rattle.std.proofs.lemmas.Result.{IfOk-weaker, on_err_weaker}
 use Rattle.dc_checkpoint.specs.Calls.{IsCounted}
 use Rattle.dc_checkpoint.specs.Handles.{showing_of}
+use Rattle.dc_plain.proofs.Lists.{get_set_same}
 use Rattle.dc_twophase.proofs.Laws.{Laws}
 use Rattle.dc_world.proofs.Waiting.{ready_next}
 use Rattle.dc_processes.specs.Stages.{KeepsTelling}
@@ -46,6 +47,11 @@ returns-clause-others g c q ne =
     let inside : p < length c.args.self.now.stores.items = subst (λ m. p < m) (sym c.requires.ready.stores_long) c.requires.process in
     let at : slice_get c.args.self.now.stores.items p ≡ Some c.index_mut-store.result.now = slice_get_read c.args.self.now.stores.items (length c.args.self.now.stores.items) p c.index_mut-store.result.now refl inside c.index_mut-store.ensures.value in
     c.turn_alone.ensures.call.others q (λ e. ne (e ∙ (c.requires.ready.belongs p c.index_mut-store.result.now at).index_is))
+
+pub returns-clause-content : goal.returns-clause-content
+returns-clause-content g c fault e =
+    let inside : c.args.turn.now.p < length c.args.self.now.stores.items = subst (λ m. c.args.turn.now.p < m) (sym c.requires.ready.stores_long) c.requires.process in
+    (c.turn_alone.new.store, get_set_same c.args.self.now.stores.items c.args.turn.now.p c.turn_alone.new.store inside, c.turn_alone.ensures.content fault e)
 
 pub returns-clause-refused : goal.returns-clause-refused
 returns-clause-refused g c fault e =

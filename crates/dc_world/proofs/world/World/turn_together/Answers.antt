@@ -1,4 +1,4 @@
-use Rattle.std.proofs.Common.{◌≡◌, ◌++◌, ◌∙◌, IfOk, None, OnErr, ap, drop, length, rules, subst, sym, take}
+use Rattle.std.proofs.Common.{◌≡◌, ◌-◌, ◌*◌, ◌++◌, ◌∙◌, IfOk, None, OnErr, ap, drop, length, rules, subst, sym, take}
 use Rattle.dc_checkpoint.specs.Handles.{IsSame}
 use Rattle.dc_model.specs.declared.entry.Entry.TheVariants as entries
 use Rattle.dc_model.specs.declared.mark.Mark.TheVariants as marks
@@ -9,7 +9,7 @@ use Rattle.dc_world.proofs.Partaking.{no_index, rose_own}
 use Rattle.dc_world.proofs.Waiting.{ready_together}
 use Rattle.dc_processes.specs.Stages.{stage_of}
 use Rattle.dc_processes.specs.Processes.{counted}
-use Rattle.dc_processes.specs.Turns.{GoesOn, HasNoRun, later, lines_of}
+use Rattle.dc_processes.specs.Turns.{GoesOn, HasNoRun, RefusesOne, later, lines_of}
 use Rattle.dc_world.specs.Worlds.{IsReady, stage_in}
 use Rattle.dc_world.proofs.world.World.turn_together.Goals as goal
 
@@ -29,6 +29,14 @@ pub returns-clause-others : goal.returns-clause-others
 returns-clause-others g c q past =
     c.turn_together.ensures.others q (subst (λ xs. IsNoIndex g.C.Checkpoint xs q) (sym c.deref_mut.ensures.value)
     (no_index g.C.Checkpoint (length c.args.self.now.processes.slots.items) c.args.self.now.stores.items c.requires.ready.stores_long c.requires.ready.belongs q past))
+
+pub returns-clause-content : goal.returns-clause-content
+returns-clause-content g c p fault e =
+    let stores = c.args.self.now.stores.items in
+    let new = c.turn_together.new.stores in
+    let stores1 = take c.args.self.now.stores.len (new ++ drop (length new) stores) in
+    let all : stores1 ≡ new = all_written c.args.self.now.stores.len stores new (search rules) (c.turn_together.ensures.as_many ∙ ap (λ xs. length xs) c.deref_mut.ensures.value) in
+    subst (λ xs. RefusesOne g.C.Checkpoint (2 * (c.args.self.now.processes.left - 1)) xs c.turn_together.new.dev p fault) (sym all) (c.turn_together.ensures.content p fault e)
 
 pub returns-clause-refused : goal.returns-clause-refused
 returns-clause-refused g c p fault e =

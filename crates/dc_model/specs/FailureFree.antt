@@ -12,12 +12,12 @@ use Rattle.dc_model.specs.declared.visible.Body.{Body}
 use Rattle.dc_model.specs.declared.visible.Visible.{Visible}
 
 -- each process, and the visible records in order
-pub record World (Mc : Type 0) : Type 0 where
+pub record FailureFree (Mc : Type 0) : Type 0 where
   pub procs : ℕ → Local Mc
   pub visibles : List Visible
 
 -- before the first act
-abbrev pub opened : {Mc : Type 0} → Guests Mc → World Mc
+abbrev pub opened : {Mc : Type 0} → Guests Mc → FailureFree Mc
 opened G = record { procs = begun G; visibles = [] }
 
 -- a function with another value at p
@@ -25,7 +25,7 @@ abbrev pub put : {A : Type 0} → ℕ → A → (ℕ → A) → ℕ → A
 put p x f q = if p == q then x else f q
 
 -- the answer that an act of p gives: with the next input, or the next message of another process, where there is one
-abbrev pub answer_for : {Mc : Type 0} → Guests Mc → World Mc → ℕ → Act → Option Answer
+abbrev pub answer_for : {Mc : Type 0} → Guests Mc → FailureFree Mc → ℕ → Act → Option Answer
 answer_for G w p act.Plain = Some answer.Plain
 answer_for G w p (act.Clock v) = Some (answer.Clock v)
 answer_for G w p (act.Random v) = Some (answer.Random v)
@@ -36,26 +36,26 @@ answer_for G w p act.ReceiveNone = Some answer.ReceiveNone
 answer_for G w p (act.ReceiveFrom s) = if s == p then None else option_map (answer.ReceiveFrom s) (slice_get ((w.procs s).sent p) ((w.procs p).received s))
 
 -- the world after an answer
-abbrev pub happened : {Mc : Type 0} → Guests Mc → World Mc → ℕ → Answer → World Mc
+abbrev pub happened : {Mc : Type 0} → Guests Mc → FailureFree Mc → ℕ → Answer → FailureFree Mc
 happened G w p a = record { procs = put p (moved G (w.procs p) a) w.procs; visibles = w.visibles ++ shown G p (w.procs p) a }
 
 -- the world after an answer, where there is one and it fits
-abbrev pub apply_answer : {Mc : Type 0} → Guests Mc → World Mc → ℕ → Option Answer → Option (World Mc)
+abbrev pub apply_answer : {Mc : Type 0} → Guests Mc → FailureFree Mc → ℕ → Option Answer → Option (FailureFree Mc)
 apply_answer G w p None = None
 apply_answer G w p (Some a) = if fits G p (w.procs p) a then Some (happened G w p a) else None
 
 -- the world after an act of p; none where p has ended or the act does not fit
-abbrev pub apply : {Mc : Type 0} → Guests Mc → World Mc → ℕ → Act → Option (World Mc)
+abbrev pub apply : {Mc : Type 0} → Guests Mc → FailureFree Mc → ℕ → Act → Option (FailureFree Mc)
 apply G w p a = apply_answer G w p (answer_for G w p a)
 
 -- one act after the other, from a world on
-abbrev pub run_from : {Mc : Type 0} → Guests Mc → Option (World Mc) → List Taken → Option (World Mc)
+abbrev pub run_from : {Mc : Type 0} → Guests Mc → Option (FailureFree Mc) → List Taken → Option (FailureFree Mc)
 run_from G o [] = o
 run_from G None (x ∷ acts) = None
 run_from G (Some w) (x ∷ acts) = run_from G (apply G w x.p x.act) acts
 
 -- the failure-free run of these acts; none where an act does not apply
-abbrev pub run : {Mc : Type 0} → Guests Mc → List Taken → Option (World Mc)
+abbrev pub run : {Mc : Type 0} → Guests Mc → List Taken → Option (FailureFree Mc)
 run G acts = run_from G (Some (opened G)) acts
 
 -- an answer as a report has it, without what it hands over
@@ -75,7 +75,7 @@ reported [] = []
 reported (x ∷ acts) = reported acts ++ record { t = x.t; p = x.p; act = act_of x.answer } ∷ []
 
 -- the world that given answers make
-abbrev pub world_of : {Mc : Type 0} → Guests Mc → List Given → World Mc
+abbrev pub world_of : {Mc : Type 0} → Guests Mc → List Given → FailureFree Mc
 world_of G acts = record { procs = state G acts; visibles = reverse (visibles G acts) }
 
 -- what the record of that process and number shows, if one is there
