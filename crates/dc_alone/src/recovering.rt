@@ -7,8 +7,9 @@ ghost use Rattle.dc_checkpoint.specs.Handles.{showing_of};
 ghost use Rattle.dc_checkpoint.specs.declared.faults.StoreFault as faults;
 ghost use Rattle.dc_model.specs.declared.entry.Entry.TheVariants as entries;
 ghost use Rattle.dc_model.specs.declared.mark.Mark.TheVariants as marks;
+ghost use Rattle.dc_proc.specs.Downs.{size_left};
 ghost use Rattle.dc_proc.specs.Processes.{logged_of};
-ghost use Rattle.dc_proc.specs.Ups.{held};
+ghost use Rattle.dc_proc.specs.Ups.{held, kernel_of};
 ghost use Rattle.dc_protocols.specs.Rules.{is_joint};
 ghost use Rattle.dc_recovery.specs.Saves.{log_end};
 ghost use Rattle.dc_processes.specs.Processes.{Hears, IsWell, Learns, LearnsAll};
@@ -26,7 +27,7 @@ use dc_processes::{Processes, Slot};
 /// The acts of a process past what its recovery is sure to come to again are gone.
 fn cut(processes: &mut Processes, p: u32, up: &Up)
     requires process { p < length processes.old.exposed.items }
-    ensures acts { let end = log_end (map logged_of (held up.now).unread) in end < 2 ^ 32 → processes.new.acts.items ≡ cut_acts p (max (max up.now.kernel.position end) (slice_index processes.old.exposed.items p)) processes.old.acts.items }
+    ensures acts { let end = log_end (map logged_of (held up.now).unread) in end < 2 ^ 32 → processes.new.acts.items ≡ cut_acts p (max (max (kernel_of up.now).position end) (slice_index processes.old.exposed.items p)) processes.old.acts.items }
     ensures fewer { length processes.new.acts.items ≤ length processes.old.acts.items }
     ensures room { processes.new.acts.room ≡ processes.old.acts.room }
     ensures rest { processes.new ≡ record processes.old { acts = processes.new.acts } }
@@ -42,8 +43,8 @@ fn rise(processes: &mut Processes, p: u32, up: Up) -> Mark
     requires process { p < length processes.old.slots.items }
     requires of { IsOf processes.old.protocol (length processes.old.slots.items) p (slots.Up up) }
     ensures well { IsWell processes.new }
-    ensures mark { result ≡ marks.Recovered up.kernel.position }
-    ensures acts { let end = log_end (map logged_of (held up).unread) in end < 2 ^ 32 → processes.new.acts.items ≡ cut_acts p (max (max up.kernel.position end) (slice_index processes.old.exposed.items p)) processes.old.acts.items }
+    ensures mark { result ≡ marks.Recovered (kernel_of up).position }
+    ensures acts { let end = log_end (map logged_of (held up).unread) in end < 2 ^ 32 → processes.new.acts.items ≡ cut_acts p (max (max (kernel_of up).position end) (slice_index processes.old.exposed.items p)) processes.old.acts.items }
     ensures fewer { length processes.new.acts.items ≤ length processes.old.acts.items }
     ensures room { processes.new.acts.room ≡ processes.old.acts.room }
     ensures rest { processes.new ≡ record processes.old { slots = processes.new.slots; acts = processes.new.acts } }
@@ -72,7 +73,7 @@ pub fn recover<C: Checkpoint>(
     requires process { turn.now.p < length processes.old.slots.items }
     requires of { IsOf processes.old.protocol (length processes.old.slots.items) turn.now.p (slots.Down down) }
     requires lent { C.lent store.old dev.old }
-    requires sized { down.size ≡ 4 * C.size store.old }
+    requires sized { size_left down ≡ 4 * C.size store.old }
     requires form { ((C.form store.old).n ≡ length processes.old.slots.items) × ((C.form store.old).p ≡ turn.now.p) }
     requires left { 0 < processes.old.left }
     requires few { (length processes.old.acts.items ≤ processes.old.entries) × (processes.old.entries + processes.old.left ≤ ENTRIES) }
@@ -85,7 +86,7 @@ pub fn recover<C: Checkpoint>(
     ensures handled { IsHandled C.Checkpoint (processes.old.left - 1) store.new dev.new (slot_at processes.new.slots.items turn.now.p) }
     ensures call { Touches (showing_of C.Checkpoint) (on store.old dev.old) (on store.new dev.new) result }
     ensures whole { IfOk result (λ mark. mark ≡ marks.Stopped → ⊥) }
-    ensures content { (fault : faults.StoreFault) → IsErrOf result (CheckFault.Refused fault) → IsRefused C.Checkpoint processes.old.left store.new dev.new fault }
+    ensures content { (fault : faults.StoreFault) → IsErrOf result (CheckFault.Refused fault) → IsRefused C.Checkpoint processes.old.left 0 store.new dev.new fault }
     ensures refused { (fault : faults.StoreFault) → IsErrOf result (CheckFault.Refused fault) → WithStores C.Checkpoint turn.now.p store.old (λ stores. HasNoRun C.Checkpoint (with_slot turn.now.p (slots.Down down) (stage_of stores dev.old processes.old))
         (later 0 (stage_of (slice_set stores turn.now.p store.new) dev.new processes.new))) }
     ensures turned { IfOk result (λ mark. WithStores C.Checkpoint turn.now.p store.old (λ stores. GoesOn C.Checkpoint (with_slot turn.now.p (slots.Down down) (stage_of stores dev.old processes.old))

@@ -92,7 +92,7 @@ pub fn turn_alone<C: Checkpoint>(
     ensures whole { IfOk result (λ mark. mark ≡ marks.Stopped → ⊥) }
     ensures shows { IfOk result (λ mark. IfSome shown.new (λ visible. mark ≡ marks.Showed visible.k)) }
     ensures unshown { OnErr result (shown.new ≡ None) }
-    ensures content { (fault : faults.StoreFault) → IsErrOf result (CheckFault.Refused fault) → IsRefused C.Checkpoint processes.old.left store.new dev.new fault }
+    ensures content { (fault : faults.StoreFault) → IsErrOf result (CheckFault.Refused fault) → IsRefused C.Checkpoint processes.old.left 0 store.new dev.new fault }
     ensures refused { (fault : faults.StoreFault) → IsErrOf result (CheckFault.Refused fault) → WithStores C.Checkpoint turn.now.p store.old (λ stores. HasNoRun C.Checkpoint (stage_of stores dev.old processes.old)
         (later 0 (stage_of (slice_set stores turn.now.p store.new) dev.new processes.new))) }
     ensures turned { IfOk result (λ mark. WithStores C.Checkpoint turn.now.p store.old (λ stores. GoesOn C.Checkpoint (stage_of stores dev.old processes.old)

@@ -30,6 +30,22 @@ pub record IsDown (d : Down) : Type 0 where
   pub others_long : length d.others.items ≡ d.saved.kernel.n
   pub log_room : LOGGED_EVENTS ≤ vec_capacity d.saved.log
 
+-- of how many processes it is one
+abbrev pub count_of : Down → ℕ
+count_of d = d.saved.kernel.n
+
+-- its number
+abbrev pub number_of : Down → ℕ
+number_of d = d.saved.kernel.p
+
+-- its protocol
+abbrev pub protocol_left : Down → Protocol
+protocol_left d = d.protocol
+
+-- how many bytes its memory had
+abbrev pub size_left : Down → ℕ
+size_left d = d.size
+
 -- whose process it is
 pub record IsOf (n p : ℕ) (protocol : Protocol) (size : ℕ) (d : Down) : Type 0 where
   pub n_is : d.saved.kernel.n ≡ n

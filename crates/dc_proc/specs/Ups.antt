@@ -1,10 +1,29 @@
 -- What a process of the code that is up holds.
-use Rattle.std.specs.Prelude.{◌≡◌, ◌≤◌, ◌*◌, drop, length, vec_capacity}
+use Rattle.std.specs.Prelude.{◌≡◌, ◌≤◌, ◌*◌, ℕ, drop, length, vec_capacity}
 use Rattle.dc_limits.specs.declared.bounds.TheConstants.{LOGGED_EVENTS}
 use Rattle.dc_checkpoint.specs.declared.checkpoint.Checkpoint as checkpoint
+use Rattle.dc_guest.specs.declared.guest.Guest.{Guest as Machine}
+use Rattle.dc_kernel.specs.Kernels.{Kernel}
 use Rattle.dc_kernel.specs.Layout.{kernel_words}
 use Rattle.dc_proc.specs.Processes.{Held, IsPaired, has_ended}
 use Rattle.dc_proc.specs.declared.up.Up.{Up}
+use Rattle.dc_protocols.specs.declared.protocol.Protocol.{Protocol}
+
+-- its protocol
+abbrev pub protocol_of : Up → Protocol
+protocol_of u = u.protocol
+
+-- how many bytes its memory has
+abbrev pub size_of : Up → ℕ
+size_of u = u.size
+
+-- its kernel, with the registers of its last commit
+abbrev pub kernel_of : Up → Kernel
+kernel_of u = u.kernel
+
+-- its guest: the registers, and whether it has ended
+abbrev pub guest_in : Up → Machine
+guest_in u = u.guest
 
 -- its kernel is kept but for the registers, which its guest has
 abbrev pub held : Up → Held

@@ -10,7 +10,7 @@ ghost use Rattle.dc_checkpoint.specs.Calls.{IsCall, on};
 ghost use Rattle.dc_checkpoint.specs.Handles.{showing_of};
 ghost use Rattle.dc_proc.specs.Carried.{Carries, Leaves, process};
 ghost use Rattle.dc_proc.specs.Processes.{IsCopied, IsNumbered, IsPaired, committed_held, form_of, next_commit};
-ghost use Rattle.dc_proc.specs.Ups.{IsSameUp, IsWhole, held};
+ghost use Rattle.dc_proc.specs.Ups.{IsSameUp, IsWhole, held, kernel_of};
 ghost use Rattle.dc_recovery.specs.Parts.{committed, first_of, torn};
 
 use crate::up::{Up, copy_received};
@@ -21,11 +21,11 @@ impl Up {
     /// Writes the text of its kernel as of the commit of this number, for a joint commit: it counts once that is decided.
     pub fn write_next(&mut self, number: u32, text: &mut [u32])
         requires whole { IsWhole self.old }
-        requires long { length text.old ≡ kernel_words self.old.kernel.n }
+        requires long { length text.old ≡ kernel_words (kernel_of self.old).n }
         ensures held { held self.new ≡ record (held self.old) { kernel = record (held self.old).kernel { commit = number } } }
         ensures text { text.new ≡ text_of (record (held self.old).kernel { commit = number }) }
-        ensures faultless { IsText (form_of self.old.kernel) text.new }
-        ensures kernel { IsKernel self.old.kernel.n self.old.kernel.p (record (held self.old).kernel { commit = number }) }
+        ensures faultless { IsText (form_of (kernel_of self.old)) text.new }
+        ensures kernel { IsKernel (kernel_of self.old).n (kernel_of self.old).p (record (held self.old).kernel { commit = number }) }
         ensures same { IsSameUp self.old self.new }
         ensures whole { IsWhole self.new }
     {
@@ -53,8 +53,8 @@ impl Up {
     /// Notes that a commit was acknowledged: nothing is left to read, the mark of an unlogged event is clear, the log is empty.
     pub fn settle(&mut self)
         requires whole { IsWhole self.old }
-        ensures held { held self.new ≡ record (held self.old) { unread = []; unlogged = false; log_left = LOGGED_EVENTS; based = self.new.based.items } }
-        ensures based { IsCopied self.old.kernel self.new.based.items }
+        ensures held { held self.new ≡ record (held self.old) { unread = []; unlogged = false; log_left = LOGGED_EVENTS; based = (held self.new).based } }
+        ensures based { IsCopied (kernel_of self.old) (held self.new).based }
         ensures same { IsSameUp self.old self.new }
         ensures whole { IsWhole self.new }
     {

@@ -7,9 +7,9 @@ ghost use Rattle.dc_checkpoint.specs.States.{Gives, Reading};
 ghost use Rattle.dc_kernel.specs.Kernels.{IsKernel};
 ghost use Rattle.dc_checkpoint.specs.declared.faults.StoreFault as faults;
 ghost use Rattle.dc_links.specs.Links.{link_to, number_of_first};
-ghost use Rattle.dc_proc.specs.Downs.{HasKernel, IsDown, IsOf, Rises, RisesAt, based_of, fault_only};
+ghost use Rattle.dc_proc.specs.Downs.{HasKernel, IsDown, IsOf, Rises, RisesAt, based_of, count_of, fault_only, number_of, protocol_left, size_left};
 ghost use Rattle.dc_proc.specs.Processes.{IsCopied, IsNumbered, IsPaired};
-ghost use Rattle.dc_proc.specs.Ups.{IsWhole, held};
+ghost use Rattle.dc_proc.specs.Ups.{IsWhole, held, kernel_of, protocol_of, size_of};
 
 use crate::holding::{copy_firsts, guest_of};
 use crate::up::{Up, copy_received};
@@ -37,7 +37,7 @@ impl Up {
         ensures falls { FallsStore (showing_of C.Checkpoint) store.old store.new }
         ensures based { based_of result ≡ (held self).based }
         ensures down { IsDown result }
-        ensures of { IsOf self.kernel.n self.kernel.p self.protocol self.size result }
+        ensures of { IsOf (kernel_of self).n (kernel_of self).p (protocol_of self) (size_of self) result }
     {
         store.fall();
         Down {
@@ -58,7 +58,7 @@ impl Up {
 impl Down {
     /// How many messages of process `s` it had received by its last commit.
     pub fn committed_receipts(&self, s: u32) -> u32
-        requires process { s < self.now.saved.kernel.n }
+        requires process { s < count_of self.now }
         requires down { IsDown self.now }
         ensures { result ≡ slice_index (based_of self.now) s }
     {
@@ -119,7 +119,7 @@ impl Down {
         dev: &mut C::Device,
     ) -> Result<Up, (Down, CheckFault)>
         requires lent { C.lent store.old dev.old }
-        requires of { (self.saved.kernel.n ≡ (C.form store.old).n) × (self.saved.kernel.p ≡ (C.form store.old).p) }
+        requires of { (count_of self ≡ (C.form store.old).n) × (number_of self ≡ (C.form store.old).p) }
         requires down { IsDown self }
         ensures touches { Touches (showing_of C.Checkpoint) (on store.old dev.old) (on store.new dev.new) (fault_only result) }
         ensures decided_stays { KeepsNumbers (showing_of C.Checkpoint) (AreAll 0) (on store.old dev.old) (on store.new dev.new) }
@@ -127,8 +127,8 @@ impl Down {
         ensures paired { IfOk result (λ up. IsPaired (held up) (C.form store.new) (C.number store.new) (C.logged store.new)) }
         ensures whole { IfOk result IsWhole }
         ensures unlogged { IfOk result (λ up. (held up).unlogged ≡ false) }
-        ensures protocol { IfOk result (λ up. (up.protocol ≡ self.protocol) × (up.size ≡ self.size)) }
-        ensures down { IfErr result (λ e. IsDown e.0 × IsOf self.saved.kernel.n self.saved.kernel.p self.protocol self.size e.0) }
+        ensures protocol { IfOk result (λ up. (protocol_of up ≡ protocol_left self) × (size_of up ≡ size_left self)) }
+        ensures down { IfErr result (λ e. IsDown e.0 × IsOf (count_of self) (number_of self) (protocol_left self) (size_left self) e.0) }
         ensures kept { IfErr result (λ e. based_of e.0 ≡ based_of self) }
         ensures number { IfOk result (λ up. IfSome (C.contents store.new dev.new) (λ words. (most : ℕ) → IsNumbered most (C.leaves store.old dev.old 0) → (held up).kernel.commit ≤ most)) }
         ensures floor { OnOk result (C.floor store.new ≤ 0) }
@@ -149,7 +149,7 @@ impl Down {
     /// up there.
     pub fn rise(self, saved: &mut Saved) -> Up
         requires down { IsDown self }
-        requires kernel { IsKernel self.saved.kernel.n self.saved.kernel.p saved.old.kernel }
+        requires kernel { IsKernel (count_of self) (number_of self) saved.old.kernel }
         requires log { length saved.old.log.items ≤ LOGGED_EVENTS }
         requires room { LOGGED_EVENTS ≤ vec_capacity saved.old.log }
         ensures kernel { (held result).kernel ≡ saved.old.kernel }
@@ -160,7 +160,7 @@ impl Down {
         ensures others { (q : ℕ) → q < saved.old.kernel.n → slice_index (held result).others q ≡ number_of_first (link_to saved.old.kernel.links q) }
         ensures risen { RisesAt saved.old (held result) }
         ensures whole { IsWhole result }
-        ensures protocol { (result.protocol ≡ self.protocol) × (result.size ≡ self.size) }
+        ensures protocol { (protocol_of result ≡ protocol_left self) × (size_of result ≡ size_left self) }
         ensures room { LOGGED_EVENTS ≤ vec_capacity saved.new.log }
         ensures process { (saved.new.kernel.n ≡ saved.old.kernel.n) × (saved.new.kernel.p ≡ saved.old.kernel.p) }
     {

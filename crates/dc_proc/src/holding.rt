@@ -10,7 +10,7 @@ ghost use Rattle.dc_model.specs.Guests.{Answer};
 ghost use Rattle.dc_proc.specs.Carried.{system};
 ghost use Rattle.dc_proc.specs.Events.{HasCountsFor};
 ghost use Rattle.dc_proc.specs.Processes.{IsCopied, IsProcess, IsSavedAs, has_ended, logged_of};
-ghost use Rattle.dc_proc.specs.Ups.{IsWhole, held};
+ghost use Rattle.dc_proc.specs.Ups.{IsWhole, guest_in, held, kernel_of, protocol_of, size_of};
 ghost use Rattle.dc_protocols.specs.declared.protocol.Protocol as protocols;
 ghost use Rattle.dc_recovery.specs.Core.{Status as Place};
 ghost use Rattle.dc_recovery.specs.Saves.{Save, log_end};
@@ -87,7 +87,7 @@ impl Up {
         ensures based { IfOk result (λ up. IsCopied kernel (held up).based) }
         ensures others { IfOk result (λ up. (q : ℕ) → q < kernel.n → slice_index (held up).others q ≡ number_of_first (link_to kernel.links q)) }
         ensures whole { IfOk result IsWhole }
-        ensures of { IfOk result (λ up. (up.protocol ≡ protocol) × (up.size ≡ size)) }
+        ensures of { IfOk result (λ up. (protocol_of up ≡ protocol) × (size_of up ≡ size)) }
         ensures valid { IfOk result (λ up. IsKernel kernel.n kernel.p kernel) }
     {
         let n = kernel.n() as usize;
@@ -123,7 +123,7 @@ impl Up {
 
     /// Whether it takes no more turns: its guest has ended.
     pub fn has_ended(&self) -> bool
-        ensures { result ≡ self.now.guest.ended }
+        ensures { result ≡ (guest_in self.now).ended }
     {
         self.guest.has_ended()
     }
@@ -173,7 +173,7 @@ impl Up {
 
     /// How many messages of process `s` it had received by its last commit.
     pub fn committed_receipts(&self, s: u32) -> u32
-        requires process { s < self.now.kernel.n }
+        requires process { s < (kernel_of self.now).n }
         requires whole { IsWhole self.now }
         ensures { result ≡ slice_index (held self.now).based s }
     {
@@ -182,12 +182,12 @@ impl Up {
 
     /// Process `q` is known to have committed its messages below `upto`: they are kept no longer. What is known never falls.
     pub fn learn(&mut self, q: u32, upto: u32)
-        requires receiver { q < self.old.kernel.n }
+        requires receiver { q < (kernel_of self.old).n }
         requires whole { IsWhole self.old }
         ensures kernel { (held self.new).kernel ≡ record (held self.old).kernel { links = slice_set (held self.old).kernel.links q (trimmed (link_to (held self.old).kernel.links q) (max (slice_index (held self.old).others q) upto)) } }
         ensures others { (held self.new).others ≡ slice_set (held self.old).others q (max (slice_index (held self.old).others q) upto) }
         ensures rest { held self.new ≡ record (held self.old) { kernel = (held self.new).kernel; others = (held self.new).others } }
-        ensures of { (self.new.protocol ≡ self.old.protocol) × (self.new.size ≡ self.old.size) × (self.new.guest ≡ self.old.guest) }
+        ensures of { (protocol_of self.new ≡ protocol_of self.old) × (size_of self.new ≡ size_of self.old) × (guest_in self.new ≡ guest_in self.old) }
         ensures whole { IsWhole self.new }
         ensures goes { (images : List Image) (inputs : List (List (List ℕ))) (protocol : protocols.Protocol) (p : ℕ) (answers : List Answer) (st : Place) (memory : Option (List ℕ))
             → IsProcess (system images inputs protocol) p answers st memory (held self.old) → IsProcess (system images inputs protocol) p answers st memory (held self.new) }

@@ -2,9 +2,9 @@
 use Rattle.std.specs.Prelude.{◌≡◌, ◌<◌, ℕ, List, [], Bool, true, false, Option, None, Some, IsSome, slice_index_or}
 use Rattle.std.specs.List.{list_all}
 use Rattle.dc_kernel.specs.Kernels.{fresh}
-use Rattle.dc_proc.specs.Downs.{IsDown, based_of}
+use Rattle.dc_proc.specs.Downs.{IsDown, based_of, count_of, number_of, protocol_left, size_left}
 use Rattle.dc_proc.specs.Processes.{Held}
-use Rattle.dc_proc.specs.Ups.{IsWhole, held}
+use Rattle.dc_proc.specs.Ups.{IsWhole, guest_in, held, kernel_of, protocol_of, size_of}
 use Rattle.dc_protocols.specs.declared.protocol.Protocol.{Protocol}
 use Rattle.dc_processes.specs.declared.slot.Slot.{Slot}
 use Rattle.dc_processes.specs.declared.slot.Slot.TheVariants.{Down, Up}
@@ -35,14 +35,14 @@ based_in None = []
 
 -- the bytes of its memory
 abbrev pub size_in : Option Slot → ℕ
-size_in (Some (Up u)) = u.size
-size_in (Some (Down d)) = d.size
+size_in (Some (Up u)) = size_of u
+size_in (Some (Down d)) = size_left d
 size_in None = 0
 
 -- it is process p of n under this protocol, and its parts belong together
 abbrev pub IsOf : Protocol → ℕ → ℕ → Slot → Type 0
-IsOf protocol n p (Up u) = IsWhole u × (u.kernel.n ≡ n) × (u.kernel.p ≡ p) × (u.protocol ≡ protocol)
-IsOf protocol n p (Down d) = IsDown d × (d.saved.kernel.n ≡ n) × (d.saved.kernel.p ≡ p) × (d.protocol ≡ protocol)
+IsOf protocol n p (Up u) = IsWhole u × ((kernel_of u).n ≡ n) × ((kernel_of u).p ≡ p) × (protocol_of u ≡ protocol)
+IsOf protocol n p (Down d) = IsDown d × (count_of d ≡ n) × (number_of d ≡ p) × (protocol_left d ≡ protocol)
 
 -- each process that is there is that of its slot
 abbrev pub AreOf : Protocol → List (Option Slot) → ℕ → Type 0
@@ -57,7 +57,7 @@ pub record Falls (old new : Option Slot) : Type 0 where
 
 -- it is up, and its guest has ended
 abbrev pub has_ended : Option Slot → Bool
-has_ended (Some (Up u)) = u.guest.ended
+has_ended (Some (Up u)) = (guest_in u).ended
 has_ended _ = false
 
 -- each is, and has

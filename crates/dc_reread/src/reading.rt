@@ -142,7 +142,7 @@ pub fn read_all<C: Checkpoint>(
         × IsFoundUnsuited C.Checkpoint past.now d (on stores.new dev.new) saved.new p }
     ensures illegal { IsErrOf result faults.Illegal → run (system_in past.now).guests past.now.acts.now ≡ None }
     ensures refused { At 0 stores.new (λ z. (d : ℕ) → C.numbers z dev.new d → IsCause C.Checkpoint d (on stores.new dev.new) (recovery_in result)) }
-    ensures refused_under { IsSomeCause C.Checkpoint (on stores.new dev.new) (recovery_in result) }
+    ensures refused_under { IsSomeCause C.Checkpoint (on stores.old dev.old) (on stores.new dev.new) (recovery_in result) }
     ensures joint { IsJoint C.Checkpoint stores.old dev.old dev.new (recovery_in result) }
     ensures others { (q : ℕ) → IsNoIndex C.Checkpoint stores.old q → C.untouched dev.old dev.new q }
     ensures continues { C.continues dev.old dev.new }

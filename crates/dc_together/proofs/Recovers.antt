@@ -55,7 +55,7 @@ use Rattle.dc_together.proofs.Fitting.{down_still, own_form}
 use Rattle.dc_together.specs.Joints.{whose}
 use Rattle.dc_processes.specs.Processes.{IsWell}
 use Rattle.dc_processes.specs.Stages.{stage_of}
-use Rattle.dc_processes.specs.Turns.{GoesOn, HasNoRun, RefusesOne, later}
+use Rattle.dc_processes.specs.Turns.{GoesOn, HasNoRun, IsRefused, later}
 use Rattle.dc_processes.specs.declared.processes.Processes.{Processes}
 use Rattle.dc_together.specs.Joints.{HaveCounts, reach_in}
 use Rattle.dc_words.specs.Lists.{lists_of}
@@ -325,19 +325,16 @@ none_uncounted {g = g} w0 w1 {stores0 = stores0} {stores = stores} {dev0 = dev0}
 -- one whose counts have no room is refused for what it stands for, once all fell again
 pub uncounted_refused : {C D : Type 0} {g : checkpoint.Ghosts C D} (old : Stage C D) {stores : List C} {dev : D} {d : ℕ} {saved : List Saved} (mid : List (Option Slot)) → Reads g old stores dev → Rises g old stores dev d saved mid
     → (fallen : List C) → length fallen ≡ length stores → EachPair stores fallen (λ i. FallsStore (showing_of g)) → (turns p : ℕ) → p < length old.slots → (HasCountsFor turns (held_in (slot_at mid p)).kernel → ⊥)
-    → RefusesOne g turns fallen dev p faults.Kernel
+    → (c : C) × (slice_get fallen p ≡ Some c) × IsRefused g turns d c dev faults.Kernel
 uncounted_refused {g = g} old {stores = stores} {dev = dev} {d = d} {saved = saved} mid reads rises fallen as_many fell turns p less uncounted =
     let x = known fallen p (subst (λ m. p < m) (sym (as_many ∙ reads.as_many ∙ reads.stored)) less) in
     let z = before_it stores fallen p x.0 as_many x.1 in
     let v = known saved p (subst (λ m. p < m) (sym rises.filled) less) in (
       x.0,
       x.1,
-      (
-        d,
-        λ reading left. uncounted_reason turns faults.Kernel (held_in (slot_at mid p)).kernel reading refl uncounted
-            (given_kernel (g.contents z.0 dev) v.0 (held_in (slot_at mid p)).kernel reading (rises.risen p v.0 v.1).kernel_is
-            ((rises.recovered p z.0 v.0 z.1 v.1).gives reading ((fell p z.0 x.0 z.1 x.1).stands dev d reading (omega arith) left))),
-      ),
+      λ reading left. uncounted_reason turns faults.Kernel (held_in (slot_at mid p)).kernel reading refl uncounted
+          (given_kernel (g.contents z.0 dev) v.0 (held_in (slot_at mid p)).kernel reading (rises.risen p v.0 v.1).kernel_is
+          ((rises.recovered p z.0 v.0 z.1 v.1).gives reading ((fell p z.0 x.0 z.1 x.1).stands dev d reading (omega arith) left))),
     )
 
 -- read or not, no store was refused where a run has come to this; and where that was stopped, the turn was

@@ -311,7 +311,7 @@ pub fn turn_together<C: Checkpoint>(
     ensures whole { IfOk result (λ mark. mark ≡ marks.Stopped → ⊥) }
     ensures shows { IfOk result (λ mark. IfSome shown.new (λ visible. mark ≡ marks.Showed visible.k)) }
     ensures unshown { OnErr result (shown.new ≡ None) }
-    ensures content { (i : ℕ) (fault : faults.StoreFault) → IsErrOf result (joint.Refused i fault) → RefusesOne C.Checkpoint (2 * (processes.old.left - 1)) stores.new dev.new i fault }
+    ensures content { (i : ℕ) (fault : faults.StoreFault) → IsErrOf result (joint.Refused i fault) → RefusesOne C.Checkpoint (stage_of stores.old dev.old processes.old) stores.new dev.new i fault }
     ensures refused { (i : ℕ) (fault : faults.StoreFault) → IsErrOf result (joint.Refused i fault) → HasNoRun C.Checkpoint (stage_of stores.old dev.old processes.old) (later 0 (stage_of stores.new dev.new processes.new)) }
     ensures turned { IfOk result (λ mark. GoesOn C.Checkpoint (stage_of stores.old dev.old processes.old) (later (length (lines_of shown.new)) (stage_of stores.new dev.new processes.new)) (entries.Turn turn.now) mark shown.new) }
     ensures stopped { OnErr result (GoesOn C.Checkpoint (stage_of stores.old dev.old processes.old) (later 0 (stage_of stores.new dev.new processes.new)) (entries.Turn turn.now) marks.Stopped None) }

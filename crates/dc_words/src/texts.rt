@@ -23,19 +23,12 @@ pub fn first_line(text: &[u8]) -> (&[u8], &[u8])
     }
 }
 
-/// Where the first such byte stands, of a short text: a few bytes are looked at sooner than `find` has begun.
-fn find_near(stop: u8, text: &[u8]) -> Option<usize>
-    ensures { result ≡ position (λ c. c == stop) text.now }
-{
-    text.iter().position(|c| *c == stop)
-}
-
 /// What stands before the first such byte, and what follows it; none where there is no such byte.
 pub fn first_field(stop: u8, text: &[u8]) -> Option<(&[u8], &[u8])>
     ensures some { IfSome result (λ x. fields_of stop text.now ≡ x.0.now ∷ fields_of stop x.1.now) }
     ensures none { result ≡ None → fields_of stop text.now ≡ text.now ∷ [] }
     ensures shorter { IfSome result (λ x. length x.1.now < length text.now) }
 {
-    let end = find_near(stop, text)?;
+    let end = find(stop, text)?;
     Some((&text[..end], &text[end + 1..]))
 }

@@ -98,10 +98,10 @@ returns-in-Ok-2-clause-refused g c fault e = impossible g c
 
 -- it is refused for its content: for what it stands for, or since its counts have no room
 pub returns-in-Err-clause-content : goal.returns-in-Err-clause-content
-returns-in-Err-clause-content g c fault e = (0, λ reading left. refused_reason c.args.processes.now.left fault reading (c.in-Err.ensures.refused fault (let same : c.in-Err.fault ≡ check.Refused fault = cc in ap Err same) reading left))
+returns-in-Err-clause-content g c fault e reading left = refused_reason c.args.processes.now.left fault reading (c.in-Err.ensures.refused fault (let same : c.in-Err.fault ≡ check.Refused fault = cc in ap Err same) reading left)
 
 pub returns-in-Ok-2-clause-content : goal.returns-in-Ok-2-clause-content
-returns-in-Ok-2-clause-content g c fault e = (0, λ reading left. uncounted_reason c.args.processes.now.left fault (held c.in-Ok.up).kernel reading (let why : fault ≡ faults.Kernel = cc in why) (c.if-has_counts_for.ensures.none refl) (c.in-Ok.ensures.kernel reading (c.fall.ensures.falls.stands c.recover.new.dev 0 reading (omega arith) left)))
+returns-in-Ok-2-clause-content g c fault e reading left = uncounted_reason c.args.processes.now.left fault (held c.in-Ok.up).kernel reading (let why : fault ≡ faults.Kernel = cc in why) (c.if-has_counts_for.ensures.none refl) (c.in-Ok.ensures.kernel reading (c.fall.ensures.falls.stands c.recover.new.dev 0 reading (omega arith) left))
 
 pub returns-in-Err-clause-refused : goal.returns-in-Err-clause-refused
 returns-in-Err-clause-refused g c fault e stores at index images schedule core told_old told_new now world =

@@ -4,7 +4,7 @@ use Rattle.std.proofs.lemmas.Result.{err_from_is_err_and}
 use Rattle.dc_checkpoint.specs.declared.faults.StoreFault.TheVariants as faults
 use Rattle.dc_kernel.specs.declared.saved.Saved.{Saved}
 use Rattle.dc_proc.specs.Events.{HasCountsFor}
-use Rattle.dc_processes.proofs.Refusing.{refused_reason}
+use Rattle.dc_processes.proofs.Refusing.{refused_reason, refuses_together}
 use Rattle.dc_processes.specs.Slots.{held_in, slot_at}
 use Rattle.dc_proc.proofs.Texts.{any_err}
 use Rattle.dc_twophase.proofs.Pairs.{pair_then}
@@ -97,8 +97,11 @@ returns-in_err-recover_all-clause-content g c i fault e =
     let one = failed.1 in
     let two = failed.2 in
     let same : c.in_err-recover_all.field-0.0 ≡ joint.Refused i fault = cc in
-    let cause = c.recover_all.ensures.refused_under i fault (c.in_err-recover_all.was ∙ ap Err same) in
-    (cause.1.0, cause.1.1, (cause.0, λ reading left. refused_reason (2 * (c.args.processes.now.left - 1)) fault reading (cause.1.2 reading left)))
+    let was = c.in_err-recover_all.was ∙ ap Err same in
+    let cause = c.recover_all.ensures.refused_under i fault was in
+    let refusal = cause.2 in
+    refuses_together g.C.Checkpoint (stage_of c.args.stores.now c.args.dev.now c.args.processes.now) c.recover_all.new.stores c.recover_all.new.dev i fault c.requires.together cause.0 cause.1 refusal.0 refusal.1
+    (λ reading left. refused_reason (2 * (c.args.processes.now.left - 1)) fault reading (refusal.2 reading left)) (c.recover_all.ensures.joint.refused_calm i fault was)
 
 pub returns-in_err-recover_all-clause-refused : goal.returns-in_err-recover_all-clause-refused
 returns-in_err-recover_all-clause-refused g c i fault e =
@@ -144,7 +147,8 @@ returns-in-Some-clause-content g c i fault e =
     let why : fault ≡ faults.Kernel = cc in
     let refused = uncounted_refused (stage_of stores0 c.args.dev.now c.args.processes.now) c.rise_each.new.processes.slots.items (reads g at.After-recover_all) (rises g at.After-rise_each) c.power.new.stores c.power.ensures.as_many c.power.ensures.stores
     (2 * (c.args.processes.now.left - 1)) c.in-Some.p low (subst (λ l. HasCountsFor (2 * (l - 1)) (held_in (slot_at c.rise_each.new.processes.slots.items c.in-Some.p)).kernel → ⊥) left_is c.in-Some.ensures.some.1) in
-    rw (which, why) refused
+    rw (which, why) (refuses_together g.C.Checkpoint (stage_of stores0 c.args.dev.now c.args.processes.now) c.power.new.stores c.recover_all.new.dev c.in-Some.p faults.Kernel c.requires.together
+    c.in_ok-recover_all.field-0 c.in_ok-recover_all.ensures.recovered.was refused.0 refused.1 refused.2 c.in_ok-recover_all.ensures.joint.calm)
 
 pub returns-in-Some-clause-refused : goal.returns-in-Some-clause-refused
 returns-in-Some-clause-refused g c i fault e = impossible g c

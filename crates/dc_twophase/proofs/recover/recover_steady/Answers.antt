@@ -3,7 +3,7 @@ use Rattle.std.proofs.lemmas.Bool.{not-false, not-true}
 use Rattle.dc_checkpoint.specs.States.{Form, IsFit}
 use Rattle.dc_twophase.specs.Recoveries.{IsAllRecovered, always}
 use Rattle.dc_twophase.specs.Stores.{on}
-use Rattle.dc_twophase.proofs.Asking.{all_one, fit_old, lent_all, old_all, recovering, refused_all, same_all, stands_all, stands_asked, steady_all}
+use Rattle.dc_twophase.proofs.Asking.{all_one, fit_old, lent_all, old_all, recovering, refused_all, same_all, stands_all, stands_asked, steady_all, was_decided}
 use Rattle.dc_twophase.proofs.Calling.{calls_then}
 use Rattle.dc_twophase.proofs.Counting.{err_same, joint_calm, joint_err, joint_then}
 use Rattle.dc_twophase.proofs.Laws.{Laws}
@@ -115,7 +115,12 @@ pub returns-in-Ok-clause-recovered : goal.returns-in-Ok-clause-recovered
 returns-in-Ok-clause-recovered g c =
     let made = recovering g.C.Checkpoint c.in_ok-decided.decided.number (on c.args.stores.now c.args.dev.now) (on c.ask.new.stores c.ask.new.dev) (on c.recover_each.new.stores c.recover_each.new.dev) c.ask.auto.stores c.ask.ensures.asked c.in_ok-decided.ensures.decided (c.in_ok-decided.ensures.is_steady (not-false c.in_ok-decided.decided.is_steady c.if-not-decided.false)) c.recover_each.auto.stores c.recover_each.ensures.kept in
     subst (λ n. IsAllRecovered g.C.Checkpoint always n (on c.args.stores.now c.args.dev.now) (on c.recover_each.new.stores c.recover_each.new.dev) c.recover_each.new.saved) (sym c.in-Ok.ensures.number)
-    (record { each = c.in-Ok.ensures.recovered; were = old_all made; decided = all_one made })
+    (record {
+      each = c.in-Ok.ensures.recovered;
+      were = old_all made;
+      was = was_decided g.C.Checkpoint c.in_ok-decided.decided.number (on c.args.stores.now c.args.dev.now) (on c.ask.new.stores c.ask.new.dev) c.recover_each.new.dev g.met.C.Checkpoint.some_number c.ask.auto.stores c.ask.ensures.asked c.in_ok-decided.ensures.decided c.in_ok-decided.ensures.joint.calm c.in-Ok.ensures.joint.later;
+      decided = all_one made;
+    })
 
 pub returns-in-Ok-clause-joint : goal.returns-in-Ok-clause-joint
 returns-in-Ok-clause-joint g c =
@@ -130,7 +135,11 @@ returns-in-Err-clause-refused g c z now d has i why e =
     refused_all made (Err c.in-Err.fault) c.in-Err.ensures.refused b.0 z b.1 now tt d has i why (err_same _ _ e)
 
 pub returns-in-Err-clause-refused_under : goal.returns-in-Err-clause-refused_under
-returns-in-Err-clause-refused_under g c i why e = (c.in_ok-decided.decided.number, c.in-Err.ensures.refused i why (err_same _ _ e))
+returns-in-Err-clause-refused_under g c i why e = (
+  c.in_ok-decided.decided.number,
+  was_decided g.C.Checkpoint c.in_ok-decided.decided.number (on c.args.stores.now c.args.dev.now) (on c.ask.new.stores c.ask.new.dev) c.recover_each.new.dev g.met.C.Checkpoint.some_number c.ask.auto.stores c.ask.ensures.asked c.in_ok-decided.ensures.decided c.in_ok-decided.ensures.joint.calm c.in-Err.ensures.joint.later,
+  c.in-Err.ensures.refused i why (err_same _ _ e),
+)
 
 pub returns-in-Err-clause-joint : goal.returns-in-Err-clause-joint
 returns-in-Err-clause-joint g c =

@@ -43,7 +43,7 @@ returns-clause-unsuited g c p e =
 pub returns-clause-refused : goal.returns-clause-refused
 returns-clause-refused g c p fault e =
     let cause = c.read_all.ensures.refused_under p fault (ap recovery_in e) in
-    (cause.0, all_refuse g.C.Checkpoint g.met.C.Checkpoint.leaves_alike g.met.C.Checkpoint.numbers_alike c.args.past.now.images.now c.args.dev.now c.read_all.new.dev c.args.stores.now c.read_all.new.stores c.requires.stores c.read_all.auto.stores c.requires.attached c.read_all.ensures.same cause.0 p fault cause.1)
+    (cause.0, all_refuse g.C.Checkpoint g.met.C.Checkpoint.leaves_alike g.met.C.Checkpoint.numbers_alike c.args.past.now.images.now c.args.dev.now c.read_all.new.dev c.args.stores.now c.read_all.new.stores c.requires.stores c.read_all.auto.stores c.requires.attached c.read_all.ensures.same cause.0 p fault cause.2)
 
 pub returns-clause-unsteady : goal.returns-clause-unsteady
 returns-clause-unsteady g c e told first = never_steady g.C.Checkpoint g.met.C.Checkpoint.leaves_alike g.met.C.Checkpoint.numbers_alike c.args.past.now.images.now c.args.dev.now c.read_all.new.dev c.args.stores.now c.read_all.new.stores c.requires.stores c.read_all.auto.stores c.requires.attached c.read_all.ensures.same c.requires.past.some (c.read_all.ensures.unsteady e) told first

@@ -1,4 +1,4 @@
-use Rattle.std.proofs.Common.{◌≡◌, ◌≢◌, ◌≤◌, ◌<◌, ◌∙◌, ⊎_elim, ℕ, Some, arith, length, refl, slice_get, subst, sym}
+use Rattle.std.proofs.Common.{◌≡◌, ◌≢◌, ◌≤◌, ◌<◌, ◌∙◌, ⊎_elim, ℕ, Some, arith, length, refl, slice_get, slice_set, subst, sym}
 use Rattle.std.proofs.lemmas.Bool.{cases_eq}
 use Rattle.std.proofs.lemmas.Option.{slice_get_read}
 use Rattle.std.proofs.lemmas.Result.{IfOk-weaker, on_err_weaker}
@@ -6,7 +6,9 @@ use Rattle.dc_checkpoint.specs.Calls.{IsCounted}
 use Rattle.dc_checkpoint.specs.Handles.{showing_of}
 use Rattle.dc_plain.proofs.Lists.{get_set_same}
 use Rattle.dc_twophase.proofs.Laws.{Laws}
+use Rattle.dc_processes.proofs.Refusing.{refuses_alone}
 use Rattle.dc_world.proofs.Waiting.{ready_next}
+use Rattle.dc_world.specs.Worlds.{stage_in}
 use Rattle.dc_processes.specs.Stages.{KeepsTelling}
 use Rattle.dc_world.proofs.world.World.turn_alone.Goals as goal
 
@@ -51,7 +53,16 @@ returns-clause-others g c q ne =
 pub returns-clause-content : goal.returns-clause-content
 returns-clause-content g c fault e =
     let inside : c.args.turn.now.p < length c.args.self.now.stores.items = subst (λ m. c.args.turn.now.p < m) (sym c.requires.ready.stores_long) c.requires.process in
-    (c.turn_alone.new.store, get_set_same c.args.self.now.stores.items c.args.turn.now.p c.turn_alone.new.store inside, c.turn_alone.ensures.content fault e)
+    let p = c.args.turn.now.p in
+    let at : slice_get c.args.self.now.stores.items p ≡ Some c.index_mut-store.result.now = slice_get_read c.args.self.now.stores.items (length c.args.self.now.stores.items) p c.index_mut-store.result.now refl inside c.index_mut-store.ensures.value in
+    let index_is = (c.requires.ready.belongs p c.index_mut-store.result.now at).index_is in
+    let call = c.turn_alone.ensures.call in
+    refuses_alone g.C.Checkpoint (stage_in c.args.self.now c.args.dev.now) (slice_set c.args.self.now.stores.items p c.turn_alone.new.store) c.turn_alone.new.dev p fault c.requires.alone c.turn_alone.new.store
+    (get_set_same c.args.self.now.stores.items p c.turn_alone.new.store inside) (c.turn_alone.ensures.content fault e)
+    (λ q. ⊎_elim
+    (λ (here : p ≡ q). subst (λ r. (g.C.Checkpoint.stops c.turn_alone.new.dev r ≡ g.C.Checkpoint.stops c.args.dev.now r) × (g.C.Checkpoint.faults c.turn_alone.new.dev r ≡ g.C.Checkpoint.faults c.args.dev.now r)) (index_is ∙ here) (call.counts.refused fault e))
+    (λ (ne : p ≢ q). g.met.C.Checkpoint.counts_same c.args.dev.now c.turn_alone.new.dev q (call.others q (λ e. ne (sym (e ∙ index_is)))))
+    (cases_eq p q))
 
 pub returns-clause-refused : goal.returns-clause-refused
 returns-clause-refused g c fault e =
