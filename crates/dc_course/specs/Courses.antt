@@ -3,7 +3,6 @@ use Rattle.std.specs.Prelude.{◌≡◌, ◌<◌, ◌-◌, ◌^◌, ℕ, Bool, t
 use Rattle.dc_audit.specs.declared.journal.Line.{Line}
 use Rattle.dc_media.specs.declared.planned.PlannedStop.{PlannedStop}
 use Rattle.dc_checkpoint.specs.declared.checkpoint.Checkpoint as checkpoint
-use Rattle.dc_model.specs.declared.entry.Entry.{Entry}
 use Rattle.dc_model.specs.declared.mark.Mark.{Mark}
 use Rattle.dc_elf.specs.Loaded.{seen_image}
 use Rattle.dc_words.specs.Lists.{lists_of}
@@ -13,7 +12,6 @@ use Rattle.dc_recovery.specs.Core.{Core, Start, opening}
 use Rattle.dc_recovery.specs.Unstopped.{AreTurns, IsDetermined, Unstopped}
 use Rattle.dc_together.specs.Joints.{Belongs}
 use Rattle.dc_processes.specs.Stages.{decided_by}
-use Rattle.dc_world.specs.declared.setup.Setup.{Setup}
 use Rattle.dc_course.specs.Headline.{Account, AreUpAlike, IsEnding, IsHeadline, Last, Setting, StopsTold, marks_at, system_in}
 use Rattle.dc_course.specs.Headline.Last.{Whole}
 use Rattle.dc_course.specs.Journals.{EndsAtFirstStop, IsJournalOf}
@@ -23,12 +21,18 @@ use Rattle.dc_course.specs.declared.course.Course.{Course}
 use Rattle.dc_course.specs.declared.ending.Ending.{Ending}
 use Rattle.dc_course.specs.declared.ending.Ending.TheVariants as ending
 use Rattle.dc_course.specs.declared.leaving.Journal.{Journal}
+use Rattle.dc_course.specs.declared.setting.Scheduled.{Scheduled}
+use Rattle.dc_course.specs.declared.setting.Setting as code
 use Rattle.dc_world.specs.declared.faults.TurnFault.{TurnFault}
 use Rattle.dc_world.specs.declared.faults.TurnFault.TheVariants as fault
 
--- what a run is given that begins at its opening
-abbrev pub setting_of : Setup → List Entry → List PlannedStop → Setting
-setting_of setup schedule stops = record { protocol = setup.protocol; images = map seen_image setup.images.items; inputs = lists_of setup.inputs.items; schedule = schedule; stops = stops; from = 0 }
+-- what a run is given that begins at its opening, over devices with these stops
+abbrev pub setting_on : Scheduled → List PlannedStop → Setting
+setting_on scheduled stops = record { protocol = scheduled.setup.protocol; images = map seen_image scheduled.setup.images.items; inputs = lists_of scheduled.setup.inputs.items; schedule = scheduled.schedule.items; stops = stops; from = 0 }
+
+-- with the stops that it is given itself
+abbrev pub setting_of : code.Setting → Setting
+setting_of setting = setting_on setting.scheduled setting.stops.items
 
 -- the lines of a journal that is kept
 abbrev pub journal_in : Journal → Option (List Line)

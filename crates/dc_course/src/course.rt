@@ -1,27 +1,25 @@
 //! A run, from its opening to its end.
 
-ghost use Rattle.std.specs.Prelude.{◌≡◌, ◌<◌, ◌≤◌, ◌+◌, ◌-◌, ◌^◌, ℕ, All, Err, IfOk, OnErr, [], length, false};
+ghost use Rattle.std.specs.Prelude.{◌≡◌, ◌<◌, ◌≤◌, ◌+◌, ◌-◌, ℕ, All, Err, IfOk, OnErr, [], length, false};
 ghost use Rattle.dc_audit.specs.Journals.{IsOfSixteen};
-ghost use Rattle.dc_course.specs.Courses.{IsCourse, StoresLeft, TellsThroughout, account_of, counts_of, ending_by, ending_of, setting_of};
+ghost use Rattle.dc_course.specs.Courses.{IsCourse, StoresLeft, TellsThroughout, account_of, counts_of, ending_by, ending_of, setting_on};
 ghost use Rattle.dc_course.specs.Running.{output};
 ghost use Rattle.dc_course.specs.declared.ending.Ending.TheVariants as endings;
 ghost use Rattle.dc_media.specs.Causes.{Rose};
 ghost use Rattle.dc_media.specs.Told.{TellsOn};
-ghost use Rattle.dc_protocols.specs.Rules.{is_causal};
 ghost use Rattle.dc_world.specs.Opened.{IsCalmUnlessStopped};
 ghost use Rattle.dc_processes.specs.Stages.{KeepsTelling};
-ghost use Rattle.dc_world.specs.Worlds.{IsOfProcesses};
 ghost use Rattle.dc_world.specs.declared.faults.OpenFault.TheVariants as opening;
 
 use crate::ending::Ending;
 use crate::leaving::Journal;
 use crate::planned::Planned;
 use crate::running::Running;
+use crate::setting::Scheduled;
 use dc_acts::{Acts, Reserved};
-use dc_limits::{ENTRIES, PROCESSES};
 use dc_media::Sink;
-use dc_model::{Entry, Mark};
-use dc_world::{OpenFault, Setup, TurnFault, World};
+use dc_model::Mark;
+use dc_world::{OpenFault, TurnFault, World};
 use std::alloc::{AllocError, Global};
 
 /// What a run did, and how it ended.
@@ -99,41 +97,38 @@ pub(crate) fn ended(all: bool) -> Ending
 /// `Failed(p)`: the device of that process's store failed as it was made, and nothing was run.
 pub fn run<C: Planned + Drop, O: Sink>(
     alloc: Global,
-    setup: Setup,
-    schedule: &[Entry],
+    scheduled: Scheduled,
     kept: bool,
     dev: &mut C::Device,
     out: &mut O,
 ) -> Result<Course, OpenFault>
-    requires seven { is_causal setup.protocol ≡ false }
-    requires entries { length schedule.now ≤ ENTRIES }
-    requires processes { All (IsOfProcesses (length setup.images.items)) schedule.now }
     requires idle { C.idle dev.old }
     // Where the devices tell what they hold, the promise; and what a fault of a device or of the output says.
-    ensures headline { IfOk result (λ course. TellsThroughout C.Checkpoint (length setup.images.items) dev.old dev.new →
-        IsCourse (setting_of setup schedule.now (C.planned dev.old)) (account_of course) course.ending (output (O.held out.old) (O.held out.new)) (counts_of C.unplanned C.calls dev.old dev.new)
-        (λ core lent. StoresLeft C.Checkpoint (setting_of setup schedule.now (C.planned dev.old)) core lent)) }
+    ensures headline { IfOk result (λ course. TellsThroughout C.Checkpoint (length scheduled.setup.images.items) dev.old dev.new →
+        IsCourse (setting_on scheduled (C.planned dev.old)) (account_of course) course.ending (output (O.held out.old) (O.held out.new)) (counts_of C.unplanned C.calls dev.old dev.new)
+        (λ core lent. StoresLeft C.Checkpoint (setting_on scheduled (C.planned dev.old)) core lent)) }
     ensures device { IfOk result (λ course. (p : ℕ) → course.ending ≡ endings.Device p → Rose (C.faults dev.old p) (C.faults dev.new p)) }
-    ensures stop { IfOk result (λ course. (p : ℕ) → course.ending ≡ endings.Stopped p → (p < length setup.images.items) × (C.planned dev.old ≡ [] → C.stops dev.old p ≡ C.unplanned dev.old p → Rose (C.unplanned dev.old p) (C.unplanned dev.new p))) }
+    ensures stop { IfOk result (λ course. (p : ℕ) → course.ending ≡ endings.Stopped p → (p < length scheduled.setup.images.items) × (C.planned dev.old ≡ [] → C.stops dev.old p ≡ C.unplanned dev.old p → Rose (C.unplanned dev.old p) (C.unplanned dev.new p))) }
     ensures kept { IfOk result (λ course. course.journal.kept ≡ kept) }
     ensures sixteen { IfOk result (λ course. All IsOfSixteen course.journal.lines.items) }
     ensures unkept { IfOk result (λ course. kept ≡ false → (p : ℕ) → ¬ (course.ending ≡ endings.Stopped p)) }
     ensures sink { IfOk result (λ course. course.ending ≡ endings.Sink → Rose (O.faults out.old) (O.faults out.new)) }
-    ensures marks { IfOk result (λ course. length course.marks.items ≤ length schedule.now) }
+    ensures marks { IfOk result (λ course. length course.marks.items ≤ length scheduled.schedule.items) }
     // Nothing was run.
-    ensures failed { (p : ℕ) → result ≡ Err (opening.Failed p) → (p < length setup.images.items) × Rose (C.faults dev.old p) (C.faults dev.new p) }
+    ensures failed { (p : ℕ) → result ≡ Err (opening.Failed p) → (p < length scheduled.setup.images.items) × Rose (C.faults dev.old p) (C.faults dev.new p) }
     ensures wanting { result ≡ Err opening.Memory → (p : ℕ) → IsCalmUnlessStopped C.stops C.faults p dev.old dev.new }
     ensures unplanned { result ≡ Err opening.Memory → (p : ℕ) → C.stops dev.new p + C.unplanned dev.old p ≤ C.unplanned dev.new p + C.stops dev.old p }
     ensures unopened { OnErr result (out.new ≡ out.old) }
     // What becomes of what was lent.
-    ensures planned { (p : ℕ) → C.stops dev.new p + C.unplanned dev.old p ≤ C.unplanned dev.new p + C.stops dev.old p + length schedule.now }
+    ensures planned { (p : ℕ) → C.stops dev.new p + C.unplanned dev.old p ≤ C.unplanned dev.new p + C.stops dev.old p + length scheduled.schedule.items }
     ensures loan { C.loan dev.old dev.new }
     ensures lasts { C.lasts dev.old dev.new }
     ensures tells { (p : ℕ) → KeepsTelling C.Checkpoint dev.old dev.new p }
-    ensures others { (q : ℕ) → length setup.images.items ≤ q → C.untouched dev.old dev.new q }
+    ensures others { (q : ℕ) → length scheduled.setup.images.items ≤ q → C.untouched dev.old dev.new q }
     ensures out_tells { TellsOn 0 (O.faults out.new) (O.held out.old) (O.held out.new) }
     ensures out_later { O.faults out.old ≤ O.faults out.new }
 {
+    let Scheduled { setup, schedule } = scheduled;
     let marks = marks_for(alloc, schedule.len())?;
     let journal = Journal::new(alloc, kept, schedule.len())?;
     let world = match World::<C>::open(alloc, setup, schedule.len() as u32, dev) {
@@ -146,7 +141,7 @@ pub fn run<C: Planned + Drop, O: Sink>(
         journal,
         from: 0,
     };
-    let ending = match running.run(schedule, dev, out) {
+    let ending = match running.run(&schedule, dev, out) {
         Ok(()) => match running.cut_by() {
             Some(p) => Ending::Stopped(p),
             None => ended(running.world.ended()),

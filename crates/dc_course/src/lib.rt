@@ -8,6 +8,7 @@ mod ending;
 mod leaving;
 mod planned;
 mod running;
+mod setting;
 
 pub use continuing::go_on;
 pub use course::{Course, run};
@@ -15,3 +16,4 @@ pub use ending::Ending;
 pub use leaving::Journal;
 pub use planned::Planned;
 pub use running::Running;
+pub use setting::{Scheduled, Setting};

@@ -15,10 +15,9 @@ use Rattle.dc_twophase.proofs.Pairs.{known}
 use Rattle.dc_processes.specs.Stages.{decided_by}
 use Rattle.std.proofs.lemmas.List.{length-map}
 use Rattle.dc_media.specs.declared.planned.PlannedStop.{PlannedStop}
-use Rattle.dc_model.specs.declared.entry.Entry.{Entry}
 use Rattle.dc_elf.specs.Loaded.{seen_image}
-use Rattle.dc_world.specs.declared.setup.Setup.{Setup}
-use Rattle.dc_course.specs.Courses.{IsCourse, StoresLeft, counts_of, setting_of}
+use Rattle.dc_course.specs.declared.setting.Scheduled.{Scheduled}
+use Rattle.dc_course.specs.Courses.{IsCourse, StoresLeft, counts_of, setting_on}
 use Rattle.dc_course.specs.Headline.{Account, Setting}
 use Rattle.dc_course.specs.Running.{Output}
 use Rattle.dc_course.specs.Lent.{capped_by}
@@ -100,12 +99,12 @@ module _ {S C D : Type 0} (disk : disks.Ghosts S) (g : checkpoint.Ghosts C D) (f
     }
 
 -- a run on disks, by what the run over its armed device says
-pub disk_course : {S C D : Type 0} (disk : disks.Ghosts S) {g : checkpoint.Ghosts C D} (setup : Setup) (schedule : List Entry) (planned stops : List PlannedStop) (run : Account) (ending : Ending) (out : Output) (f : D → S) (old new : D) (k0 : S)
-    → IsCourse (setting_of setup schedule planned) run ending out (counts_of (λ d. disk.stops (f d)) (λ d. capped_by disk.calls (f d)) old new) (λ core d. StoresLeft g (setting_of setup schedule planned) core d)
-    → planned ≡ stops → f old ≡ k0 → 0 < length setup.images.items → (shape_at : C → Shape) → IsLogged disk g f shape_at
-    → IsCourse (setting_of setup schedule stops) run ending out (counts_of disk.stops (capped_by disk.calls) k0 (f new)) (λ core k. LogsLeft disk (setting_of setup schedule stops) core k)
-disk_course disk {g} setup schedule planned stops run ending out f old new k0 course plan lent some shape_at is =
-    subst (λ ss. IsCourse (setting_of setup schedule ss) run ending out (counts_of disk.stops (capped_by disk.calls) k0 (f new)) (λ core k. LogsLeft disk (setting_of setup schedule ss) core k)) plan
-    (subst (λ x. IsCourse (setting_of setup schedule planned) run ending out (counts_of disk.stops (capped_by disk.calls) x (f new)) (λ core k. LogsLeft disk (setting_of setup schedule planned) core k)) lent
-    (course_lent (setting_of setup schedule planned) run ending out f disk.stops (capped_by disk.calls) old new (λ core d. StoresLeft g (setting_of setup schedule planned) core d) (λ core k. LogsLeft disk (setting_of setup schedule planned) core k)
-    (λ core d left. logs_left disk g f shape_at is d (setting_of setup schedule planned) core (subst (λ n. 0 < n) (sym (length-map setup.images.items seen_image)) some) left) course))
+pub disk_course : {S C D : Type 0} (disk : disks.Ghosts S) {g : checkpoint.Ghosts C D} (scheduled : Scheduled) (planned stops : List PlannedStop) (run : Account) (ending : Ending) (out : Output) (f : D → S) (old new : D) (k0 : S)
+    → IsCourse (setting_on scheduled planned) run ending out (counts_of (λ d. disk.stops (f d)) (λ d. capped_by disk.calls (f d)) old new) (λ core d. StoresLeft g (setting_on scheduled planned) core d)
+    → planned ≡ stops → f old ≡ k0 → (shape_at : C → Shape) → IsLogged disk g f shape_at
+    → IsCourse (setting_on scheduled stops) run ending out (counts_of disk.stops (capped_by disk.calls) k0 (f new)) (λ core k. LogsLeft disk (setting_on scheduled stops) core k)
+disk_course disk {g} scheduled planned stops run ending out f old new k0 course plan lent shape_at is =
+    subst (λ ss. IsCourse (setting_on scheduled ss) run ending out (counts_of disk.stops (capped_by disk.calls) k0 (f new)) (λ core k. LogsLeft disk (setting_on scheduled ss) core k)) plan
+    (subst (λ x. IsCourse (setting_on scheduled planned) run ending out (counts_of disk.stops (capped_by disk.calls) x (f new)) (λ core k. LogsLeft disk (setting_on scheduled planned) core k)) lent
+    (course_lent (setting_on scheduled planned) run ending out f disk.stops (capped_by disk.calls) old new (λ core d. StoresLeft g (setting_on scheduled planned) core d) (λ core k. LogsLeft disk (setting_on scheduled planned) core k)
+    (λ core d left. logs_left disk g f shape_at is d (setting_on scheduled planned) core (subst (λ n. 0 < n) (sym (length-map scheduled.setup.images.items seen_image)) scheduled.setup.some) left) course))

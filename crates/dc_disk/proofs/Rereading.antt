@@ -23,11 +23,10 @@ use Rattle.dc_course.specs.Running.{Output}
 use Rattle.dc_course.specs.declared.ending.Ending.{Ending}
 use Rattle.dc_elf.specs.Loaded.{seen_image}
 use Rattle.dc_media.specs.declared.planned.PlannedStop.{PlannedStop}
-use Rattle.dc_model.specs.declared.entry.Entry.{Entry}
 use Rattle.dc_model.specs.declared.visible.Visible.{Visible}
 use Rattle.dc_recovery.specs.Recoveries.{resumed_core}
 use Rattle.dc_resume.specs.Suited.{saves_in}
-use Rattle.dc_world.specs.declared.setup.Setup.{Setup}
+use Rattle.dc_course.specs.declared.setting.Scheduled.{Scheduled}
 use Rattle.dc_world.specs.declared.reopening.Earlier.{Earlier}
 use Rattle.dc_disk.proofs.Logs.{logs_left}
 use Rattle.dc_disk.proofs.Logged.{IsLogged, shape_for}
@@ -101,27 +100,27 @@ pub said_err : {T E P : Type 0} (r : Result T E) (e : E) → r ≡ Err e → OnE
 said_err {P = P} r e is said = subst (λ x. OnErr x P) is said
 
 -- a part of a run on disks that goes on, by what the part over its armed device says
-pub disk_part : {S C D : Type 0} (disk : disks.Ghosts S) {g : checkpoint.Ghosts C D} (setup : Setup) (earlier : Earlier) (schedule : List Entry) (planned stops : List PlannedStop) (lines : List Visible) (run : Account) (ending : Ending) (out : Output) (f : D → S) (old new read : D) (k0 : S)
-    → (x : IsReadBeside g (system_in (setting_from setup schedule planned earlier.entries)) setup.images.items earlier.acts.now old read)
-    → IsCourseOn (setting_from setup schedule planned earlier.entries) lines (resumed_core x.given (reverse lines) (saves_in (system_in (setting_from setup schedule planned earlier.entries)) x.stored)) run ending out
-    (counts_of (λ d. disk.stops (f d)) (λ d. capped_by disk.calls (f d)) old new) (λ core d. StoresLeft g (setting_from setup schedule planned earlier.entries) core d)
-    → planned ≡ stops → f old ≡ k0 → 0 < length setup.images.items → ((p : ℕ) → p < length setup.images.items → IsSome (disk.told (f read) p)) → (shape_at : C → Shape) → IsLogged disk g f shape_at
-    → (k : S) × ((p : ℕ) → p < length setup.images.items → IsSome (disk.told k p)) × (y : AreLogsRead disk (system_in (setting_from setup schedule stops earlier.entries)) setup.images.items earlier.acts.now k0 k)
-    × IsCourseOn (setting_from setup schedule stops earlier.entries) lines (resumed_core y.given (reverse lines) (saves_in (system_in (setting_from setup schedule stops earlier.entries)) y.stored)) run ending out
-    (counts_of disk.stops (capped_by disk.calls) k0 (f new)) (λ core k. LogsLeft disk (setting_from setup schedule stops earlier.entries) core k)
+pub disk_part : {S C D : Type 0} (disk : disks.Ghosts S) {g : checkpoint.Ghosts C D} (scheduled : Scheduled) (earlier : Earlier) (planned stops : List PlannedStop) (lines : List Visible) (run : Account) (ending : Ending) (out : Output) (f : D → S) (old new read : D) (k0 : S)
+    → (x : IsReadBeside g (system_in (setting_from scheduled planned earlier.entries)) scheduled.setup.images.items earlier.acts.now old read)
+    → IsCourseOn (setting_from scheduled planned earlier.entries) lines (resumed_core x.given (reverse lines) (saves_in (system_in (setting_from scheduled planned earlier.entries)) x.stored)) run ending out
+    (counts_of (λ d. disk.stops (f d)) (λ d. capped_by disk.calls (f d)) old new) (λ core d. StoresLeft g (setting_from scheduled planned earlier.entries) core d)
+    → planned ≡ stops → f old ≡ k0 → ((p : ℕ) → p < length scheduled.setup.images.items → IsSome (disk.told (f read) p)) → (shape_at : C → Shape) → IsLogged disk g f shape_at
+    → (k : S) × ((p : ℕ) → p < length scheduled.setup.images.items → IsSome (disk.told k p)) × (y : AreLogsRead disk (system_in (setting_from scheduled stops earlier.entries)) scheduled.setup.images.items earlier.acts.now k0 k)
+    × IsCourseOn (setting_from scheduled stops earlier.entries) lines (resumed_core y.given (reverse lines) (saves_in (system_in (setting_from scheduled stops earlier.entries)) y.stored)) run ending out
+    (counts_of disk.stops (capped_by disk.calls) k0 (f new)) (λ core k. LogsLeft disk (setting_from scheduled stops earlier.entries) core k)
 unfolding logs_read
-disk_part {S} disk {g} setup earlier schedule planned stops lines run ending out f old new read k0 x course plan lent some tells shape_at is =
-    subst (λ ss. (k : S) × ((p : ℕ) → p < length setup.images.items → IsSome (disk.told k p)) × (y : AreLogsRead disk (system_in (setting_from setup schedule ss earlier.entries)) setup.images.items earlier.acts.now k0 k)
-    × IsCourseOn (setting_from setup schedule ss earlier.entries) lines (resumed_core y.given (reverse lines) (saves_in (system_in (setting_from setup schedule ss earlier.entries)) y.stored)) run ending out
-    (counts_of disk.stops (capped_by disk.calls) k0 (f new)) (λ core k. LogsLeft disk (setting_from setup schedule ss earlier.entries) core k)) plan
-    (subst (λ z. (k : S) × ((p : ℕ) → p < length setup.images.items → IsSome (disk.told k p)) × (y : AreLogsRead disk (system_in (setting_from setup schedule planned earlier.entries)) setup.images.items earlier.acts.now z k)
-    × IsCourseOn (setting_from setup schedule planned earlier.entries) lines (resumed_core y.given (reverse lines) (saves_in (system_in (setting_from setup schedule planned earlier.entries)) y.stored)) run ending out
-    (counts_of disk.stops (capped_by disk.calls) z (f new)) (λ core k. LogsLeft disk (setting_from setup schedule planned earlier.entries) core k)) lent (
+disk_part {S} disk {g} scheduled earlier planned stops lines run ending out f old new read k0 x course plan lent tells shape_at is =
+    subst (λ ss. (k : S) × ((p : ℕ) → p < length scheduled.setup.images.items → IsSome (disk.told k p)) × (y : AreLogsRead disk (system_in (setting_from scheduled ss earlier.entries)) scheduled.setup.images.items earlier.acts.now k0 k)
+    × IsCourseOn (setting_from scheduled ss earlier.entries) lines (resumed_core y.given (reverse lines) (saves_in (system_in (setting_from scheduled ss earlier.entries)) y.stored)) run ending out
+    (counts_of disk.stops (capped_by disk.calls) k0 (f new)) (λ core k. LogsLeft disk (setting_from scheduled ss earlier.entries) core k)) plan
+    (subst (λ z. (k : S) × ((p : ℕ) → p < length scheduled.setup.images.items → IsSome (disk.told k p)) × (y : AreLogsRead disk (system_in (setting_from scheduled planned earlier.entries)) scheduled.setup.images.items earlier.acts.now z k)
+    × IsCourseOn (setting_from scheduled planned earlier.entries) lines (resumed_core y.given (reverse lines) (saves_in (system_in (setting_from scheduled planned earlier.entries)) y.stored)) run ending out
+    (counts_of disk.stops (capped_by disk.calls) z (f new)) (λ core k. LogsLeft disk (setting_from scheduled planned earlier.entries) core k)) lent (
       f read,
       tells,
-      logs_read disk f shape_at is setup.images.items old read (system_in (setting_from setup schedule planned earlier.entries)) earlier.acts.now x,
-      part_lent (setting_from setup schedule planned earlier.entries) lines (resumed_core x.given (reverse lines) (saves_in (system_in (setting_from setup schedule planned earlier.entries)) x.stored)) run ending out f disk.stops (capped_by disk.calls) old new
-          (λ core d. StoresLeft g (setting_from setup schedule planned earlier.entries) core d) (λ core k. LogsLeft disk (setting_from setup schedule planned earlier.entries) core k)
-          (λ core d left. logs_left disk g f shape_at is d (setting_from setup schedule planned earlier.entries) core
-          (subst (λ n. 0 < n) (sym (length-map setup.images.items seen_image)) some) left) course,
+      logs_read disk f shape_at is scheduled.setup.images.items old read (system_in (setting_from scheduled planned earlier.entries)) earlier.acts.now x,
+      part_lent (setting_from scheduled planned earlier.entries) lines (resumed_core x.given (reverse lines) (saves_in (system_in (setting_from scheduled planned earlier.entries)) x.stored)) run ending out f disk.stops (capped_by disk.calls) old new
+          (λ core d. StoresLeft g (setting_from scheduled planned earlier.entries) core d) (λ core k. LogsLeft disk (setting_from scheduled planned earlier.entries) core k)
+          (λ core d left. logs_left disk g f shape_at is d (setting_from scheduled planned earlier.entries) core
+          (subst (λ n. 0 < n) (sym (length-map scheduled.setup.images.items seen_image)) scheduled.setup.some) left) course,
     ))

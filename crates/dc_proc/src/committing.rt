@@ -1,6 +1,6 @@
 //! Commits of one process.
 
-ghost use Rattle.std.specs.Prelude.{◌≡◌, ◌<◌, ◌≤◌, ◌+◌, ◌-◌, ◌^◌, ℕ, List, [], false, true, OnErr, OnOk, length};
+ghost use Rattle.std.specs.Prelude.{◌≡◌, ◌<◌, ◌≤◌, ◌+◌, ◌-◌, ◌^◌, ℕ, [], false, true, OnErr, OnOk, length};
 ghost use Rattle.dc_checkpoint.specs.States.{IsText};
 ghost use Rattle.dc_kernel.specs.Kernels.{IsKernel};
 ghost use Rattle.dc_kernel.specs.Layout.{kernel_words};

@@ -1,9 +1,9 @@
 //! A process that is down: how it fell, and how it comes back.
 
-ghost use Rattle.std.specs.Prelude.{◌≡◌, ◌≤◌, ◌<◌, ◌+◌, ◌-◌, ℕ, List, Err, [], false, length, IfErr, IfOk, IfSome, IsErrOf, OnErr, OnOk, slice_index, vec_capacity};
+ghost use Rattle.std.specs.Prelude.{◌≡◌, ◌≤◌, ◌<◌, ◌+◌, ◌-◌, ℕ, Err, false, length, IfErr, IfOk, IfSome, IsErrOf, OnOk, slice_index, vec_capacity};
 ghost use Rattle.dc_checkpoint.specs.Calls.{AreAll, AreNoHigher, FallsStore, KeepsNumbers, Touches, on};
 ghost use Rattle.dc_checkpoint.specs.Handles.{showing_of};
-ghost use Rattle.dc_checkpoint.specs.States.{Gives, Reading};
+ghost use Rattle.dc_checkpoint.specs.States.{Reading};
 ghost use Rattle.dc_kernel.specs.Kernels.{IsKernel};
 ghost use Rattle.dc_checkpoint.specs.declared.faults.StoreFault as faults;
 ghost use Rattle.dc_links.specs.Links.{link_to, number_of_first};

@@ -1,6 +1,6 @@
 //! What a process that is up holds: how it begins, what is read of it, what it learns.
 
-ghost use Rattle.std.specs.Prelude.{◌≡◌, ◌<◌, ◌≤◌, ◌%◌, ◌+◌, ◌*◌, ◌-◌, ◌^◌, ℕ, List, Option, None, Some, [], false, true, IfOk, IfSome, drop, length, map, max, slice_get, slice_index, slice_set};
+ghost use Rattle.std.specs.Prelude.{◌≡◌, ◌<◌, ◌≤◌, ◌+◌, ◌*◌, ◌-◌, ◌^◌, ℕ, List, Option, None, Some, [], false, true, IfOk, IfSome, length, map, max, slice_get, slice_index, slice_set};
 ghost use Rattle.dc_checkpoint.specs.States.{Reading};
 ghost use Rattle.dc_elf.specs.Images.{Image};
 ghost use Rattle.dc_guest.specs.Guest.{guests_of};

@@ -1,6 +1,6 @@
 //! The guest of a process steps over the memory of its store.
 
-ghost use Rattle.std.specs.Prelude.{◌≡◌, ◌&&◌, ◌*◌, ℕ, List, false, IfOk, IfSome, OnErr, OnOk, true};
+ghost use Rattle.std.specs.Prelude.{◌≡◌, ◌&&◌, ◌*◌, ℕ, false, IfOk, IfSome, OnErr, OnOk, true};
 ghost use Rattle.dc_events.specs.Kinds.{kind_of};
 ghost use Rattle.dc_guest.specs.Answers.{answer_of, effect_of, may_answer};
 ghost use Rattle.dc_guest.specs.Guest.{after_next, ends, event_of, machine_over, next_of, over, stores_next};

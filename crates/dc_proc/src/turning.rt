@@ -1,13 +1,11 @@
 //! A turn of one process: the commit before, the act, the log record, the event, the commit after.
 
-ghost use Rattle.std.specs.Prelude.{◌≡◌, ◌<◌, ◌≤◌, ◌+◌, ◌*◌, ◌-◌, ◌^◌, ◌&&◌, not, ℕ, List, false, true, None, IfOk, IfSome, IfErr, OnErr, OnOk, length, slice_index};
+ghost use Rattle.std.specs.Prelude.{◌≡◌, ◌<◌, ◌≤◌, ◌+◌, ◌*◌, ◌-◌, ◌^◌, ◌&&◌, not, ℕ, false, true, None, IfOk, IfSome, OnErr, OnOk, length};
 ghost use Rattle.dc_checkpoint.specs.Calls.{AreAmong, IsCall, Narrows, on};
 ghost use Rattle.dc_events.specs.Kinds.{kind_of};
 ghost use Rattle.dc_guest.specs.Answers.{answer_of, effect_of, may_answer};
 ghost use Rattle.dc_guest.specs.Guest.{event_of, machine_over, next_of, over};
 ghost use Rattle.dc_guest.specs.Nexts.{NextFits, Waits};
-ghost use Rattle.dc_media.specs.Told.{Becomes};
-ghost use Rattle.dc_model.specs.Guests.Answer.{Plain};
 ghost use Rattle.dc_checkpoint.specs.Handles.{showing_of};
 ghost use Rattle.dc_proc.specs.Carried.{process};
 ghost use Rattle.dc_proc.specs.Events.{HasCounts, HasCountsFor, HasNextReceiver, HasNextRoom, IsSender};
@@ -237,7 +235,7 @@ impl Up {
         ensures unshown { OnErr result (shown.new ≡ None) }
         ensures stopped { OnErr result (StopsTurn C.Checkpoint (protocol_of self.old) (answer_of answered.now.answer) (process store.old dev.old (held self.old)) (process store.new dev.new (held self.new)) (record {
           before = acts.old.items;
-          more = acts_with acts.old.items self.old.kernel answered.now.t (answer_of answered.now.answer);
+          more = acts_with acts.old.items (kernel_of self.old) answered.now.t (answer_of answered.now.answer);
           after = acts.new.items;
         })) }
     {

@@ -12,10 +12,9 @@ use Rattle.dc_together.specs.Joints.{whose}
 use Rattle.dc_processes.specs.Stages.{decided_by}
 use Rattle.std.proofs.lemmas.List.{length-map}
 use Rattle.dc_media.specs.declared.planned.PlannedStop.{PlannedStop}
-use Rattle.dc_model.specs.declared.entry.Entry.{Entry}
 use Rattle.dc_elf.specs.Loaded.{seen_image}
-use Rattle.dc_world.specs.declared.setup.Setup.{Setup}
-use Rattle.dc_course.specs.Courses.{IsCourse, StoresLeft, counts_of, setting_of}
+use Rattle.dc_course.specs.declared.setting.Scheduled.{Scheduled}
+use Rattle.dc_course.specs.Courses.{IsCourse, StoresLeft, counts_of, setting_on}
 use Rattle.dc_course.specs.Headline.{Account, Setting}
 use Rattle.dc_course.specs.Running.{Output}
 use Rattle.dc_course.specs.Lent.{capped_by}
@@ -89,15 +88,15 @@ module _ {S C D : Type 0} (words : keeps.Ghosts S) (g : checkpoint.Ghosts C D) (
     }
 
 -- a run over segments, by what the run over its armed device says
-pub memory_course : {S C D : Type 0} (words : keeps.Ghosts S) {g : checkpoint.Ghosts C D} (setup : Setup) (schedule : List Entry) (planned stops : List PlannedStop) (run : Account) (ending : Ending) (out : Output) (f : D → S) (old new : D) (k0 : S)
-    → IsCourse (setting_of setup schedule planned) run ending out (counts_of (λ d. words.stops (f d)) (λ d. capped_by words.calls (f d)) old new) (λ core d. StoresLeft g (setting_of setup schedule planned) core d)
-    → planned ≡ stops → f old ≡ k0 → 0 < length setup.images.items
+pub memory_course : {S C D : Type 0} (words : keeps.Ghosts S) {g : checkpoint.Ghosts C D} (scheduled : Scheduled) (planned stops : List PlannedStop) (run : Account) (ending : Ending) (out : Output) (f : D → S) (old new : D) (k0 : S)
+    → IsCourse (setting_on scheduled planned) run ending out (counts_of (λ d. words.stops (f d)) (λ d. capped_by words.calls (f d)) old new) (λ core d. StoresLeft g (setting_on scheduled planned) core d)
+    → planned ≡ stops → f old ≡ k0
     → (shape_at : C → Shape) → ((c : C) → (shape_at c).form ≡ g.form c) → ((d : D) (c : C) → g.lent c d → words.extent (f d) (g.index c) ≡ segment_words (shape_at c).lines)
     → ((x : D) (c : C) (d : ℕ) (r : Reading) → StandsFor (shape_at c) (parts (shape_at c).lines (words.told (f x) (g.index c))) d r → g.leaves c x d r)
     → ((x : D) (c : C) (d : ℕ) → Numbers (parts (shape_at c).lines (words.told (f x) (g.index c))) d → g.numbers c x d)
-    → IsCourse (setting_of setup schedule stops) run ending out (counts_of words.stops (capped_by words.calls) k0 (f new)) (λ core k. SegmentsLeft words (setting_of setup schedule stops) core k)
-memory_course words {g} setup schedule planned stops run ending out f old new k0 course plan lent some shape_at forms lents leaves numbers =
-    subst (λ ss. IsCourse (setting_of setup schedule ss) run ending out (counts_of words.stops (capped_by words.calls) k0 (f new)) (λ core k. SegmentsLeft words (setting_of setup schedule ss) core k)) plan
-    (subst (λ x. IsCourse (setting_of setup schedule planned) run ending out (counts_of words.stops (capped_by words.calls) x (f new)) (λ core k. SegmentsLeft words (setting_of setup schedule planned) core k)) lent
-    (course_lent (setting_of setup schedule planned) run ending out f words.stops (capped_by words.calls) old new (λ core d. StoresLeft g (setting_of setup schedule planned) core d) (λ core k. SegmentsLeft words (setting_of setup schedule planned) core k)
-    (λ core d left. segments_left words g d (f d) shape_at forms (lents d) (leaves d) (numbers d) (setting_of setup schedule planned) core (subst (λ n. 0 < n) (sym (length-map setup.images.items seen_image)) some) left) course))
+    → IsCourse (setting_on scheduled stops) run ending out (counts_of words.stops (capped_by words.calls) k0 (f new)) (λ core k. SegmentsLeft words (setting_on scheduled stops) core k)
+memory_course words {g} scheduled planned stops run ending out f old new k0 course plan lent shape_at forms lents leaves numbers =
+    subst (λ ss. IsCourse (setting_on scheduled ss) run ending out (counts_of words.stops (capped_by words.calls) k0 (f new)) (λ core k. SegmentsLeft words (setting_on scheduled ss) core k)) plan
+    (subst (λ x. IsCourse (setting_on scheduled planned) run ending out (counts_of words.stops (capped_by words.calls) x (f new)) (λ core k. SegmentsLeft words (setting_on scheduled planned) core k)) lent
+    (course_lent (setting_on scheduled planned) run ending out f words.stops (capped_by words.calls) old new (λ core d. StoresLeft g (setting_on scheduled planned) core d) (λ core k. SegmentsLeft words (setting_on scheduled planned) core k)
+    (λ core d left. segments_left words g d (f d) shape_at forms (lents d) (leaves d) (numbers d) (setting_on scheduled planned) core (subst (λ n. 0 < n) (sym (length-map scheduled.setup.images.items seen_image)) scheduled.setup.some) left) course))

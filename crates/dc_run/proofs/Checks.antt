@@ -57,9 +57,9 @@ pub asked_output : (files : Files) (names : Names) (setting : Setting) (report :
 asked_output files names setting report w opens reads is there = subst (AsksToCheck files names) (sym is) (rw (opens, reads) there)
 
 -- the report for the guests of a setting
-pub read_for : (files : Files) (setting : code.OpenedRun) (n : ℕ) (name : List ℕ) (told : Result Report Refusal) → n ≡ length setting.images.items → report_in files n name ≡ told
-    → report_for files (setting_of setting) name ≡ told
-read_for files setting n name told same e = subst (λ k. report_in files k name ≡ told) (same ∙ sym (length-map setting.images.items seen_image)) e
+pub read_for : (files : Files) (opened : code.OpenedRun) (n : ℕ) (name : List ℕ) (told : Result Report Refusal) → n ≡ length opened.setting.scheduled.setup.images.items → report_in files n name ≡ told
+    → report_for files (setting_of opened) name ≡ told
+read_for files opened n name told same e = subst (λ k. report_in files k name ≡ told) (same ∙ sym (length-map opened.setting.scheduled.setup.images.items seen_image)) e
 
 -- what is found, where the setting and the report are there
 pub found_by : (files : Files) (names : Names) (setting : Setting) (report : Report) → opening_of files (to_report names.plan) ≡ Ok setting → report_for files setting names.report ≡ Ok report

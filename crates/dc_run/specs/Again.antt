@@ -6,4 +6,4 @@ use Rattle.dc_run.specs.declared.resuming.Going as code
 
 -- what it goes on with
 abbrev pub going_of : code.Going → Going
-going_of g = record { setting = setting_of g.setting; report = seen g.report; halt = g.halt }
+going_of g = record { setting = setting_of g.opened; report = seen g.report; halt = g.halt }

@@ -1,8 +1,7 @@
 -- How the code's opening stands to the told files.
-use Rattle.std.specs.Prelude.{◌≡◌, ◌≤◌, ◌<◌, ◌-◌, ◌^◌, ◌⊎◌, ℕ, Option, None, Some, Bool, true, false, not, ◌&&◌, Result, Ok, Err, map}
-use Rattle.dc_elf.specs.Loaded.{seen_image}
-use Rattle.dc_words.specs.Lists.{lists_of}
+use Rattle.std.specs.Prelude.{◌≡◌, ◌≤◌, ◌<◌, ◌-◌, ◌^◌, ◌⊎◌, ℕ, Option, None, Some, Bool, true, false, not, ◌&&◌, Result, Ok, Err}
 use Rattle.dc_media.specs.Told.{Becomes, TellsOn}
+use Rattle.dc_course.specs.Courses.{setting_of as given_of}
 use Rattle.dc_course.specs.Headline.{Setting}
 use Rattle.dc_run.specs.Opening.{Files, Task}
 use Rattle.dc_run.specs.Refusals.{verdict_of}
@@ -116,9 +115,9 @@ abbrev pub Answers : {A X : Type 0} → (X → A) → Result X Verdict → Resul
 Answers view (Ok x) told = told ≡ Ok (view x)
 Answers view (Err verdict) told = (stands_in verdict ≡ true) ⊎ (told ≡ Err verdict)
 
--- a setting by the fields that the code has of it
+-- what a run is given that was opened so
 abbrev pub setting_of : code.OpenedRun → Setting
-setting_of s = record { protocol = s.protocol; images = map seen_image s.images.items; inputs = lists_of s.inputs.items; schedule = s.schedule.items; stops = s.stops.items; from = 0 }
+setting_of opened = given_of opened.setting
 
 -- what is to be run of it
 abbrev pub task_of : code.OpenedRun → Task

@@ -59,16 +59,16 @@ pub fn report_at<L: Library>(
 }
 
 /// What comes of checking an output, where the setting and the report are there.
-fn find(alloc: Global, setting: &OpenedRun, report: Report, out: &[u8]) -> Result<Found, AllocError>
-    requires processes { All (λ x. x.p < length setting.now.images.items) report.acts.items }
+fn find(alloc: Global, opened: &OpenedRun, report: Report, out: &[u8]) -> Result<Found, AllocError>
+    requires processes { All (λ x. x.p < length opened.now.setting.scheduled.setup.images.items) report.acts.items }
     requires few { length report.acts.items ≤ ENTRIES }
-    ensures { IfOk result (λ found. Ok (found_view found) ≡ found_at_end (setting_of setting.now) (seen report) out.now) }
+    ensures { IfOk result (λ found. Ok (found_view found) ≡ found_at_end (setting_of opened.now) (seen report) out.now) }
 {
     let finding = check(
         alloc,
-        &setting.images,
-        &setting.inputs,
-        &setting.schedule,
+        &opened.setting.scheduled.setup.images,
+        &opened.setting.scheduled.setup.inputs,
+        &opened.setting.scheduled.schedule,
         report.acts.as_slice(),
         out,
     )?;
@@ -90,11 +90,11 @@ fn find_in<L: Library>(alloc: Global, names: &Names, lib: &mut L) -> Result<Foun
         plan: names.plan,
         ledger: Ledger::Report,
     };
-    let setting = open(alloc, &order, lib)?;
-    let n = setting.images.len() as u32;
+    let opened = open(alloc, &order, lib)?;
+    let n = opened.setting.scheduled.setup.images.len() as u32;
     let report = report_at(alloc, lib, n, names.report)?;
     let out = fetch(alloc, lib, Which::Out, names.out)?;
-    match find(alloc, &setting, report, &out) {
+    match find(alloc, &opened, report, &out) {
         Ok(found) => Ok(found),
         Err(AllocError) => Err(Refusal::Memory),
     }

@@ -1,19 +1,34 @@
 //! Where a run is halted.
 
-ghost use Rattle.std.specs.Prelude.{◌≡◌, ◌≤◌, length};
+ghost use Rattle.std.specs.Prelude.{◌≡◌};
 ghost use Rattle.dc_run.specs.Opening.{entries_run, leaves_over};
 ghost use Rattle.dc_run.specs.Resuming.{halt_behind};
 
+use dc_course::{Scheduled, Setting};
 use dc_model::Entry;
 
 /// The entries that are run: all, or those before the halt.
-pub fn entries_run(halt: Option<u32>, schedule: &[Entry]) -> &[Entry]
-    ensures run { result.now ≡ entries_run halt schedule.now }
-    ensures few { length result.now ≤ length schedule.now }
+fn entries_run(halt: Option<u32>, mut schedule: Vec<Entry>) -> Vec<Entry>
+    ensures { result.items ≡ entries_run halt schedule.items }
 {
-    match halt {
-        Some(halt) if (halt as usize) < schedule.len() => &schedule[..halt as usize],
-        _ => schedule,
+    if let Some(halt) = halt {
+        schedule.truncate(halt as usize);
+    }
+    schedule
+}
+
+/// The part of a setting that is run: all of it, or what stands before the halt.
+pub fn part_run(halt: Option<u32>, setting: Setting) -> Setting
+    ensures entries { result.scheduled.schedule.items ≡ entries_run halt setting.scheduled.schedule.items }
+    ensures setup { result.scheduled.setup ≡ setting.scheduled.setup }
+    ensures stops { result.stops ≡ setting.stops }
+{
+    let Setting { scheduled, stops } = setting;
+    let Scheduled { setup, schedule } = scheduled;
+    let schedule = entries_run(halt, schedule);
+    Setting {
+        scheduled: Scheduled { setup, schedule },
+        stops,
     }
 }
 

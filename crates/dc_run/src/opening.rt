@@ -21,12 +21,14 @@ use crate::Which;
 use crate::refusal::Refusal;
 use crate::setting::OpenedRun;
 use dc_command::{Ledger, Order};
+use dc_course::{Scheduled, Setting};
 use dc_elf::{Image, LoadFault, load};
 use dc_limits::PROCESSES;
 use dc_media::{Fetch, Library};
 use dc_model::Entry;
 use dc_plan::{Key, Medium, Plan, PlanError, PlanFault, ScheduleSource, read_plan};
 use dc_schedule::{ReadError, generate, read, read_turns};
+use dc_world::Setup;
 use std::alloc::{AllocError, Global};
 
 /// All the bytes of a file of the command.
@@ -263,11 +265,11 @@ fn open_plan<L: Library>(
 ) -> Result<OpenedRun, Refusal>
     requires { IsAllowed (plan_view plan) }
     ensures told { (files : Files) → L.files lib.old ≡ Some files → Agrees setting_of result (opening_at_plan files ledger (plan_view plan)) }
-    ensures ledger { IfOk result (λ s. (s.ledger ≡ ledger) × (s.stops ≡ plan.stops)) }
-    ensures turns { IfOk result (λ s. ledger ≡ Ledger.Journal → is_seed (plan_view plan).schedule ≡ false → AreTurns s.schedule.items) }
+    ensures ledger { IfOk result (λ s. (s.ledger ≡ ledger) × (s.setting.stops ≡ plan.stops)) }
+    ensures turns { IfOk result (λ s. ledger ≡ Ledger.Journal → is_seed (plan_view plan).schedule ≡ false → AreTurns s.setting.scheduled.schedule.items) }
     ensures medium { IfOk result (λ s. s.medium ≡ plan.medium) }
     ensures halt { IfOk result (λ s. s.halt ≡ plan.halt) }
-    ensures given { IfOk result (λ s. IsGivenRun (map seen_image s.images.items) (lists_of s.inputs.items) s.schedule.items) }
+    ensures given { IfOk result (λ s. IsGivenRun (map seen_image s.setting.scheduled.setup.images.items) (lists_of s.setting.scheduled.setup.inputs.items) s.setting.scheduled.schedule.items) }
     ensures reached { (files : Files) (w : Whose) → L.files lib.old ≡ Some files → IsErrOf result (Refusal.Library w) → AsksAtPlan files (plan_view plan) w }
     ensures files { OnOk result (L.files lib.new ≡ L.files lib.old) }
     ensures fault { (w : Whose) → IsErrOf result (Refusal.Library w) → Rose (L.faults lib.old) (L.faults lib.new) }
@@ -276,14 +278,19 @@ fn open_plan<L: Library>(
     let images = load_guests(alloc, lib, plan.memory, &plan.guests)?;
     let n = images.len() as u32;
     let schedule = schedule_from(alloc, lib, ledger, n, &plan.schedule)?;
-    Ok(OpenedRun {
-        ledger,
+    let setup = Setup {
         protocol: plan.protocol,
-        medium: plan.medium,
         images,
         inputs: plan.inputs,
-        schedule,
+    };
+    let setting = Setting {
+        scheduled: Scheduled { setup, schedule },
         stops: plan.stops,
+    };
+    Ok(OpenedRun {
+        ledger,
+        medium: plan.medium,
+        setting,
         halt: plan.halt,
     })
 }
@@ -295,8 +302,8 @@ pub fn open<L: Library>(alloc: Global, order: &Order, lib: &mut L) -> Result<Ope
     ensures halt { (files : Files) → L.files lib.old ≡ Some files → IfOk result (λ s. halt_at files order.now.plan.now ≡ s.halt) }
     ensures disk { IfOk result (λ s. s.ledger ≡ Ledger.Total → s.medium ≡ Media.Disk) }
     ensures ledger { IfOk result (λ s. s.ledger ≡ order.now.ledger) }
-    ensures turns { IfOk result (λ s. s.ledger ≡ Ledger.Journal → AreTurns s.schedule.items × (s.stops.items ≡ [])) }
-    ensures given { IfOk result (λ s. IsGivenRun (map seen_image s.images.items) (lists_of s.inputs.items) s.schedule.items) }
+    ensures turns { IfOk result (λ s. s.ledger ≡ Ledger.Journal → AreTurns s.setting.scheduled.schedule.items × (s.setting.stops.items ≡ [])) }
+    ensures given { IfOk result (λ s. IsGivenRun (map seen_image s.setting.scheduled.setup.images.items) (lists_of s.setting.scheduled.setup.inputs.items) s.setting.scheduled.schedule.items) }
     ensures reached { (files : Files) (w : Whose) → L.files lib.old ≡ Some files → IsErrOf result (Refusal.Library w) → AsksToRun files (order_view order.now) w }
     ensures files { OnOk result (L.files lib.new ≡ L.files lib.old) }
     ensures fault { (w : Whose) → IsErrOf result (Refusal.Library w) → Rose (L.faults lib.old) (L.faults lib.new) }

@@ -1,10 +1,9 @@
 ghost use Rattle.std.specs.Prelude.{◌≡◌, [], ◌⊎◌, ◌≤◌, ◌<◌, ◌^◌, ℕ, All, Err, None, Some, false, true, IfOk, IfSome, IsOkAnd, IsSomeAnd, List, OnErr, length};
-ghost use Rattle.dc_report.specs.Reports.{report_text};
 ghost use Rattle.dc_asm.specs.declared.forms.Meant.{Meant};
 ghost use Rattle.dc_audit.specs.Journals.{IsOfSixteen};
 ghost use Rattle.dc_audit.specs.Reading.{IsVerdict, Journal as Journals};
 ghost use Rattle.dc_audit.specs.declared.verdict.Verdict.TheVariants as found;
-ghost use Rattle.dc_course.specs.Courses.{account_of, journal_in};
+ghost use Rattle.dc_course.specs.Courses.{account_of, journal_in, setting_of as given_of};
 ghost use Rattle.dc_checkpoint.specs.declared.faults.StoreFault.{StoreFault as StoreFaults};
 ghost use Rattle.dc_course.specs.Running.{output};
 ghost use Rattle.dc_course.specs.Lent.{AreLeftFrom, KeepsTold, TellsStores};
@@ -26,13 +25,13 @@ ghost use Rattle.dc_run.specs.Commands.{AreCalm, Asks, AsksToGoOn, AsksToRunPlan
 ghost use Rattle.dc_run.specs.Headline.{account_of as outcome_account};
 ghost use Rattle.dc_run.specs.Headline.{IsKept, IsReported, Reports, course, is_used_up, keeps_journal, ledger_text, loan, unopened_by, unreported, used_up_at, verdict_at};
 ghost use Rattle.dc_run.specs.Media.{HasFailed, HasStopped, IsOtherSame, devices_of, lent};
-ghost use Rattle.dc_run.specs.Opening.{AsksToRun, Task, medium_at, opening_of, part_of, task_in};
+ghost use Rattle.dc_run.specs.Opening.{AsksToRun, Task, medium_at, opening_of, task_in};
 ghost use Rattle.dc_run.specs.Resumed.{HaveStood, IsRefusedStore, IsResumed, IsUnsuited};
 ghost use Rattle.dc_run.specs.Resuming.{Going as Goings, IsRunOf};
-ghost use Rattle.dc_run.specs.Outcomes.{IsNothing, status_of};
+ghost use Rattle.dc_run.specs.Outcomes.{IsNothing};
 ghost use Rattle.dc_run.specs.Passing.{WritesPassing, WritesPassingOn, WritesSaved};
 ghost use Rattle.dc_run.specs.Refusals.{as_verdict};
-ghost use Rattle.dc_run.specs.Settings.{LibraryKept, has_ended, has_run, is_of_going_on, is_of_run, is_refusal, may_have_run, setting_of, task_of, was_opened};
+ghost use Rattle.dc_run.specs.Settings.{LibraryKept, has_ended, has_run, is_of_going_on, is_of_run, is_refusal, may_have_run, was_opened};
 ghost use Rattle.dc_plan.specs.declared.plan.Medium.{Medium as Media};
 ghost use Rattle.dc_run.specs.declared.verdict.Verdict.{Verdict as Verdicts};
 ghost use Rattle.dc_run.specs.declared.verdict.Which.{Which as Whose};
@@ -40,7 +39,7 @@ ghost use Rattle.dc_run.specs.declared.verdict.Which.{Which as Whose};
 use crate::assembling::assemble_source;
 use crate::auditing::audit_journal;
 use crate::checking::check_output;
-use crate::halting::{entries_run, leaves_over};
+use crate::halting::{leaves_over, part_run};
 use crate::opening::open;
 use crate::outcome::Outcome;
 use crate::refusal::verdict_of;
@@ -48,14 +47,14 @@ use crate::resuming::resume_run;
 use crate::setting::OpenedRun;
 use crate::{Did, Outlet, Verdict};
 use dc_command::{Asked, CommandFault, Ledger, Order, command_in};
-use dc_course::{Course, Ending, Journal};
+use dc_course::{Course, Ending, Journal, Setting};
 use dc_disk::run_on_disks;
 use dc_journal::write_journal;
 use dc_media::{Disks, Keeps, Library, Sink, SinkFailed};
 use dc_plan::Medium;
 use dc_report::write_report;
 use dc_rio::run_on_memory;
-use dc_world::{OpenFault, Setup};
+use dc_world::OpenFault;
 use std::alloc::Global;
 
 /// Carries out the command that the words give; the first word is the program's name.
@@ -284,23 +283,25 @@ fn keeps_journal(ledger: Ledger) -> bool
     ledger == Ledger::Journal
 }
 
-/// Runs an opened plan on its medium.
-fn run_setting<K: Keeps, D: Disks, O: Sink>(
+/// Runs on a medium.
+fn run_on<K: Keeps, D: Disks, O: Sink>(
     alloc: Global,
-    setting: OpenedRun,
+    medium: Medium,
+    setting: Setting,
+    kept: bool,
     keeps: &mut K,
     disks: &mut D,
     out: &mut O,
 ) -> Result<Course, OpenFault>
-    ensures headline { IfOk result (λ run. IsKept (devices_of K.Keeps D.Disks setting.medium) (part_of (task_of setting)) (account_of run) run.ending (output (O.held out.old) (O.held out.new)) (loan (lent keeps.old disks.old) (lent keeps.new disks.new))) }
-    ensures stop { IfOk result (λ run. setting.stops.items ≡ [] → (p : ℕ) → run.ending ≡ endings.Stopped p → HasStopped (devices_of K.Keeps D.Disks setting.medium) (lent keeps.old disks.old) (lent keeps.new disks.new) p) }
-    ensures kept { IfOk result (λ run. run.journal.kept ≡ keeps_journal setting.ledger) }
+    ensures headline { IfOk result (λ run. IsKept (devices_of K.Keeps D.Disks medium) (given_of setting) (account_of run) run.ending (output (O.held out.old) (O.held out.new)) (loan (lent keeps.old disks.old) (lent keeps.new disks.new))) }
+    ensures stop { IfOk result (λ run. setting.stops.items ≡ [] → (p : ℕ) → run.ending ≡ endings.Stopped p → HasStopped (devices_of K.Keeps D.Disks medium) (lent keeps.old disks.old) (lent keeps.new disks.new) p) }
+    ensures kept { IfOk result (λ run. run.journal.kept ≡ kept) }
     ensures sixteen { IfOk result (λ run. All IsOfSixteen run.journal.lines.items) }
-    ensures unkept { IfOk result (λ run. keeps_journal setting.ledger ≡ false → (p : ℕ) → ¬ (run.ending ≡ endings.Stopped p)) }
-    ensures device { IfOk result (λ run. (p : ℕ) → run.ending ≡ endings.Device p → HasFailed (devices_of K.Keeps D.Disks setting.medium) (lent keeps.old disks.old) (lent keeps.new disks.new) p) }
+    ensures unkept { IfOk result (λ run. kept ≡ false → (p : ℕ) → ¬ (run.ending ≡ endings.Stopped p)) }
+    ensures device { IfOk result (λ run. (p : ℕ) → run.ending ≡ endings.Device p → HasFailed (devices_of K.Keeps D.Disks medium) (lent keeps.old disks.old) (lent keeps.new disks.new) p) }
     ensures sink { IfOk result (λ run. run.ending ≡ endings.Sink → Rose (O.faults out.old) (O.faults out.new)) }
     ensures few { IfOk result (λ run. length run.marks.items < 2 ^ 32) }
-    ensures failed { (p : ℕ) → result ≡ Err (opening.Failed p) → HasFailed (devices_of K.Keeps D.Disks setting.medium) (lent keeps.old disks.old) (lent keeps.new disks.new) p }
+    ensures failed { (p : ℕ) → result ≡ Err (opening.Failed p) → HasFailed (devices_of K.Keeps D.Disks medium) (lent keeps.old disks.old) (lent keeps.new disks.new) p }
     ensures wanting { result ≡ Err opening.Memory → (p : ℕ) → IsCalmUnlessStopped K.stops K.faults p keeps.old keeps.new × IsCalmUnlessStopped D.stops D.faults p disks.old disks.new }
     ensures unopened { OnErr result (out.new ≡ out.old) }
     ensures keeps_later { (p : ℕ) → (K.stops keeps.old p ≤ K.stops keeps.new p) × (K.faults keeps.old p ≤ K.faults keeps.new p) }
@@ -308,33 +309,16 @@ fn run_setting<K: Keeps, D: Disks, O: Sink>(
     ensures later { O.faults out.old ≤ O.faults out.new }
     ensures tells { TellsOn 0 (O.faults out.new) (O.held out.old) (O.held out.new) }
     ensures keeps_tells { (p : ℕ) → KeepsTold (of_words K.Keeps) keeps.old keeps.new p }
-    ensures keeps_others { AreLeftFrom (length (setting_of setting).images) (of_words K.Keeps) keeps.old keeps.new }
+    ensures keeps_others { AreLeftFrom (length (given_of setting).images) (of_words K.Keeps) keeps.old keeps.new }
     ensures keeps_beyond { AreLeftFrom PROCESSES (of_words K.Keeps) keeps.old keeps.new }
     ensures disks_tells { (p : ℕ) → KeepsTold (of_disks D.Disks) disks.old disks.new p }
-    ensures disks_others { AreLeftFrom (length (setting_of setting).images) (of_disks D.Disks) disks.old disks.new }
+    ensures disks_others { AreLeftFrom (length (given_of setting).images) (of_disks D.Disks) disks.old disks.new }
     ensures disks_beyond { AreLeftFrom PROCESSES (of_disks D.Disks) disks.old disks.new }
-    ensures other { IsOtherSame setting.medium (lent keeps.old disks.old) (lent keeps.new disks.new) }
+    ensures other { IsOtherSame medium (lent keeps.old disks.old) (lent keeps.new disks.new) }
 {
-    let OpenedRun {
-        ledger,
-        protocol,
-        medium,
-        images,
-        inputs,
-        schedule,
-        stops,
-        halt,
-    } = setting;
-    let setup = Setup {
-        protocol,
-        images,
-        inputs,
-    };
-    let kept = keeps_journal(ledger);
-    let entries = entries_run(halt, &schedule);
     match medium {
-        Medium::Rio => run_on_memory(alloc, setup, entries, stops, kept, keeps, out),
-        Medium::Disk => run_on_disks(alloc, setup, entries, stops, kept, disks, out),
+        Medium::Rio => run_on_memory(alloc, setting, kept, keeps, out),
+        Medium::Disk => run_on_disks(alloc, setting, kept, disks, out),
     }
 }
 
@@ -398,13 +382,21 @@ fn run_plan<L: Library, K: Keeps, D: Disks, O: Sink, R: Sink>(
     ensures disks_others { IfSome (L.files lib.old) (λ files. AreLeftFrom (stores_used (work_by files (ToRun (order_view order.now)))) (of_disks D.Disks) disks.old disks.new) }
     ensures disks_beyond { AreLeftFrom PROCESSES (of_disks D.Disks) disks.old disks.new }
 {
-    let setting = match open(alloc, order, lib) {
-        Ok(setting) => setting,
+    let opened = match open(alloc, order, lib) {
+        Ok(opened) => opened,
         Err(refusal) => return Outcome::idle(alloc, verdict_of(refusal)),
     };
-    let n = setting.images.len() as u32;
-    let halted = leaves_over(setting.halt, &setting.schedule);
-    match run_setting(alloc, setting, keeps, disks, out) {
+    let n = opened.setting.scheduled.setup.images.len() as u32;
+    let halted = leaves_over(opened.halt, &opened.setting.scheduled.schedule);
+    let OpenedRun {
+        ledger,
+        medium,
+        setting,
+        halt,
+    } = opened;
+    let kept = keeps_journal(ledger);
+    let part = part_run(halt, setting);
+    match run_on(alloc, medium, part, kept, keeps, disks, out) {
         Ok(course) => {
             let (outcome, journal) = outcome_of(halted, course);
             reported(outcome, &journal, n, report)

@@ -37,7 +37,7 @@ ghost use Rattle.dc_words.specs.Lists.{lists_of};
 ghost use Rattle.dc_world.specs.Opened.{IsCalmUnlessStopped};
 
 use crate::checking::report_at;
-use crate::halting::{entries_run, halt_behind, leaves_over};
+use crate::halting::{halt_behind, leaves_over, part_run};
 use crate::opening::open;
 use crate::program::{unreported, verdict_at};
 use crate::refusal::verdict_of;
@@ -45,20 +45,20 @@ use crate::setting::OpenedRun;
 use crate::{Did, Outcome, Verdict};
 use dc_check::first_stray;
 use dc_command::{Halted, Ledger, Order};
-use dc_course::{Course, Ending};
+use dc_course::Course;
 use dc_disk::go_on_disks;
 use dc_media::{Disks, Library, Sink, SinkFailed};
 use dc_model::Entry;
 use dc_report::{Report, write_report};
 use dc_reread::RereadFault;
-use dc_world::{Earlier, Setup};
+use dc_world::Earlier;
 use std::alloc::{AllocError, Global};
 
 /// A run that goes on: what its plan opens, the report of the part before, and the first entry that is not run, if it is to be halted
 /// again.
 #[derive(Drop)]
 pub struct Going {
-    pub setting: OpenedRun,
+    pub opened: OpenedRun,
     pub report: Report,
     pub halt: Option<u32>,
 }
@@ -74,32 +74,32 @@ fn was_halted(schedule: &[Entry], report: &Report) -> bool
 }
 
 /// With the setting and the report.
-fn going_with(alloc: Global, setting: OpenedRun, report: Report) -> Result<Going, Verdict>
-    requires takers { All (λ x. x.p < length setting.images.items) report.acts.items }
+fn going_with(alloc: Global, opened: OpenedRun, report: Report) -> Result<Going, Verdict>
+    requires takers { All (λ x. x.p < length opened.setting.scheduled.setup.images.items) report.acts.items }
     requires few { length report.acts.items ≤ ENTRIES }
-    ensures told { Answers going_of result (going_with setting.halt (setting_of setting) (seen report)) }
-    ensures same { IfOk result (λ g. (g.setting ≡ setting) × (g.report ≡ report)) }
-    ensures halted { IfOk result (λ g. was_halted setting.schedule.items (seen report) ≡ true) }
+    ensures told { Answers going_of result (going_with opened.halt (setting_of opened) (seen report)) }
+    ensures same { IfOk result (λ g. (g.opened ≡ opened) × (g.report ≡ report)) }
+    ensures halted { IfOk result (λ g. was_halted opened.setting.scheduled.schedule.items (seen report) ≡ true) }
     ensures behind { IfOk result (λ g. IsBehind report.entries g.halt) }
     ensures early { (v : Verdicts) → IsErrOf result v → comes_before v ≡ true }
     ensures own { (w : Whose) → ¬ IsErrOf result (Verdict.LibraryFault w) }
-    ensures ran { IfOk result (λ g. IsRunOf (setting_of setting) report.acts.items) }
+    ensures ran { IfOk result (λ g. IsRunOf (setting_of opened) report.acts.items) }
 {
-    if !was_halted(&setting.schedule, &report) {
+    if !was_halted(&opened.setting.scheduled.schedule, &report) {
         return Err(Verdict::NotHalted);
     }
     let stray = first_stray(
         alloc,
-        &setting.images,
-        &setting.inputs,
-        &setting.schedule,
+        &opened.setting.scheduled.setup.images,
+        &opened.setting.scheduled.setup.inputs,
+        &opened.setting.scheduled.schedule,
         report.acts.as_slice(),
     );
     match stray {
         Ok(None) => {
-            let halt = halt_behind(report.entries, setting.halt);
+            let halt = halt_behind(report.entries, opened.halt);
             Ok(Going {
-                setting,
+                opened,
                 report,
                 halt,
             })
@@ -113,13 +113,13 @@ fn going_with(alloc: Global, setting: OpenedRun, report: Report) -> Result<Going
 fn going_at<L: Library>(alloc: Global, names: &Halted, lib: &mut L) -> Result<Going, Verdict>
     ensures told { (files : Files) → L.files lib.old ≡ Some files → Answers going_of result (going_in files (halted_view names.now)) }
     ensures early { (v : Verdicts) → IsErrOf result v → comes_before v ≡ true }
-    ensures takers { IfOk result (λ g. All (λ x. x.p < length g.setting.images.items) g.report.acts.items) }
+    ensures takers { IfOk result (λ g. All (λ x. x.p < length g.opened.setting.scheduled.setup.images.items) g.report.acts.items) }
     ensures acts { IfOk result (λ g. length g.report.acts.items ≤ g.report.entries) }
     ensures lines { IfOk result (λ g. g.report.lines ≤ g.report.entries) }
-    ensures taken { IfOk result (λ g. (g.report.entries < length g.setting.schedule.items) × IsBehind g.report.entries g.halt) }
+    ensures taken { IfOk result (λ g. (g.report.entries < length g.opened.setting.scheduled.schedule.items) × IsBehind g.report.entries g.halt) }
     ensures before { IfOk result (λ g. TurnsBelow g.report.entries g.report.acts.items) }
-    ensures ran { IfOk result (λ g. IsRunOf (setting_of g.setting) g.report.acts.items) }
-    ensures given { IfOk result (λ g. IsGivenRun (map seen_image g.setting.images.items) (lists_of g.setting.inputs.items) g.setting.schedule.items) }
+    ensures ran { IfOk result (λ g. IsRunOf (setting_of g.opened) g.report.acts.items) }
+    ensures given { IfOk result (λ g. IsGivenRun (map seen_image g.opened.setting.scheduled.setup.images.items) (lists_of g.opened.setting.scheduled.setup.inputs.items) g.opened.setting.scheduled.schedule.items) }
     ensures reached { (files : Files) (w : Whose) → L.files lib.old ≡ Some files → IsErrOf result (Verdict.LibraryFault w) → AsksToResume files (halted_view names.now) w }
     ensures fault { (w : Whose) → IsErrOf result (Verdict.LibraryFault w) → Rose (L.faults lib.old) (L.faults lib.new) }
     ensures library { LibraryKept (L.files lib.old) (L.files lib.new) (L.faults lib.old) (L.faults lib.new) }
@@ -128,16 +128,16 @@ fn going_at<L: Library>(alloc: Global, names: &Halted, lib: &mut L) -> Result<Go
         plan: names.plan,
         ledger: Ledger::Total,
     };
-    let setting = match open(alloc, &order, lib) {
-        Ok(setting) => setting,
+    let opened = match open(alloc, &order, lib) {
+        Ok(opened) => opened,
         Err(refusal) => return Err(verdict_of(refusal)),
     };
-    let n = setting.images.len() as u32;
+    let n = opened.setting.scheduled.setup.images.len() as u32;
     let report = match report_at(alloc, lib, n, names.report) {
         Ok(report) => report,
         Err(refusal) => return Err(verdict_of(refusal)),
     };
-    going_with(alloc, setting, report)
+    going_with(alloc, opened, report)
 }
 
 /// Goes on over the disks, up to the end of the schedule, to the halt, or to a fault.
@@ -147,12 +147,12 @@ fn go_on_with<D: Disks, O: Sink>(
     disks: &mut D,
     out: &mut O,
 ) -> Result<Course, RereadFault>
-    requires takers { All (λ x. x.p < length going.setting.images.items) going.report.acts.items }
+    requires takers { All (λ x. x.p < length going.opened.setting.scheduled.setup.images.items) going.report.acts.items }
     requires acts { length going.report.acts.items ≤ going.report.entries }
     requires lines { going.report.lines ≤ going.report.entries }
-    requires taken { (going.report.entries < length going.setting.schedule.items) × IsBehind going.report.entries going.halt }
+    requires taken { (going.report.entries < length going.opened.setting.scheduled.schedule.items) × IsBehind going.report.entries going.halt }
     requires before { TurnsBelow going.report.entries going.report.acts.items }
-    requires ran { IsRunOf (setting_of going.setting) going.report.acts.items }
+    requires ran { IsRunOf (setting_of going.opened) going.report.acts.items }
     ensures kept { IfOk result (λ run. GoesOnKept D.Disks (going_of going) (account_of run) run.ending (output (O.held out.old) (O.held out.new)) (loan disks.old disks.new)) }
     ensures unkept { IfOk result (λ run. run.journal.kept ≡ false) }
     ensures unstopped { IfOk result (λ run. (p : ℕ) → ¬ (run.ending ≡ endings.Stopped p)) }
@@ -171,37 +171,28 @@ fn go_on_with<D: Disks, O: Sink>(
     ensures unopened { OnErr result (out.new ≡ out.old) }
     ensures later { (p : ℕ) → (D.stops disks.old p ≤ D.stops disks.new p) × (D.faults disks.old p ≤ D.faults disks.new p) }
     ensures tells { (p : ℕ) → KeepsTold (of_disks D.Disks) disks.old disks.new p }
-    ensures others { AreLeftFrom (length going.setting.images.items) (of_disks D.Disks) disks.old disks.new }
+    ensures others { AreLeftFrom (length going.opened.setting.scheduled.setup.images.items) (of_disks D.Disks) disks.old disks.new }
     ensures out_tells { TellsOn 0 (O.faults out.new) (O.held out.old) (O.held out.new) }
     ensures out_later { O.faults out.old ≤ O.faults out.new }
 {
     let Going {
-        setting,
+        opened,
         report,
         halt,
     } = going;
     let OpenedRun {
         ledger: _,
-        protocol,
         medium: _,
-        images,
-        inputs,
-        schedule,
-        stops,
+        setting,
         halt: _,
-    } = setting;
-    let setup = Setup {
-        protocol,
-        images,
-        inputs,
-    };
+    } = opened;
+    let part = part_run(halt, setting);
     let earlier = Earlier {
         acts: report.acts.as_slice(),
         entries: report.entries,
         lines: report.lines,
     };
-    let entries = entries_run(halt, &schedule);
-    go_on_disks(alloc, setup, &earlier, entries, stops, disks, out)
+    go_on_disks(alloc, part, &earlier, disks, out)
 }
 
 /// The outcome of a run that went on.
@@ -324,7 +315,7 @@ pub fn resume_run<L: Library, D: Disks, O: Sink, R: Sink>(
         Err(verdict) => return Outcome::idle(alloc, verdict),
     };
     let entries = going.report.entries;
-    let halted = leaves_over(going.halt, &going.setting.schedule);
+    let halted = leaves_over(going.halt, &going.opened.setting.scheduled.schedule);
     match go_on_with(alloc, going, disks, out) {
         Ok(course) => reported(outcome_of(halted, course), entries, report),
         Err(fault) => Outcome::idle(alloc, unresumed(fault)),

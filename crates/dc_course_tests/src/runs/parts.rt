@@ -3,11 +3,11 @@
 ghost use Rattle.std.specs.Prelude.{◌≡◌, ◌<◌, ◌≤◌, All, length, true};
 
 use crate::runs::KEYS;
-use crate::runs::runs::{output_of, setup_for};
+use crate::runs::runs::{output_of, scheduled};
 use crate::runs::setting::schedule;
 use crate::runs::walk::is_plain;
 use dc_cases::{holds, is_read};
-use dc_course::Course;
+use dc_course::{Course, Setting};
 use dc_disk::{go_on_disks, run_on_disks};
 use dc_memmedia::{MemDisks, MemSink};
 use dc_model::Entry;
@@ -34,8 +34,11 @@ fn halted(
     disks: &mut MemDisks,
     out: &mut MemSink,
 ) -> Result<Course, Fail> {
-    let setup = setup_for(alloc, case, entries)?;
-    match run_on_disks(alloc, setup, entries, Vec::new(alloc), false, disks, out) {
+    let setting = Setting {
+        scheduled: scheduled(alloc, case, entries)?,
+        stops: Vec::new(alloc),
+    };
+    match run_on_disks(alloc, setting, false, disks, out) {
         Ok(course) => Ok(course),
         Err(fault) => Err(Fail::new(format_args!("{case}: {fault}"))),
     }
@@ -50,12 +53,14 @@ fn gone_on(
     disks: &mut MemDisks,
     out: &mut MemSink,
 ) -> Result<Result<Course, RereadFault>, Fail> {
-    let setup = setup_for(alloc, case, entries)?;
-    if !may_go_on(earlier, setup.images.len()) || earlier.entries as usize > entries.len() {
+    let scheduled = scheduled(alloc, case, entries)?;
+    let taken = earlier.entries as usize <= scheduled.schedule.len();
+    if !taken || !may_go_on(earlier, scheduled.setup.images.len()) {
         return Err(Fail::new("no earlier part"));
     }
     let stops = Vec::new(alloc);
-    Ok(go_on_disks(alloc, setup, earlier, entries, stops, disks, out))
+    let setting = Setting { scheduled, stops };
+    Ok(go_on_disks(alloc, setting, earlier, disks, out))
 }
 
 /// A case that is halted before an entry, and goes on: the lines of both parts together are those of one run.

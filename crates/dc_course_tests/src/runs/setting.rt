@@ -1,6 +1,6 @@
 //! What a case begins with: its guests, their inputs, and its schedule.
 
-ghost use Rattle.std.specs.Prelude.{◌≡◌, ◌<◌, ◌≤◌, All, IfOk, false, length, true};
+ghost use Rattle.std.specs.Prelude.{◌≡◌, ◌<◌, All, IfOk, false, true};
 ghost use Rattle.dc_elf.specs.Loaded.{CanStart};
 ghost use Rattle.dc_protocols.specs.Rules.{is_causal};
 ghost use Rattle.dc_world.specs.Worlds.{IsOfProcesses};

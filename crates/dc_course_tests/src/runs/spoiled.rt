@@ -2,7 +2,8 @@
 
 ghost use Rattle.std.specs.Prelude.{None};
 
-use crate::runs::runs::{Ran, output_of, setup_for};
+use crate::runs::runs::{Ran, output_of, scheduled};
+use dc_course::Setting;
 use dc_media::{DeviceFault, Keeps, MakeFault};
 use dc_memmedia::MemKeeps;
 use dc_model::Entry;
@@ -63,20 +64,15 @@ impl<K: Keeps + Drop> Keeps for Spoiled<K> {
 
 /// The run of a case through these entries, over memory that is so.
 pub fn run_spoiled(alloc: Global, case: &str, entries: &[Entry]) -> Result<Ran, Fail> {
-    let setup = setup_for(alloc, case, entries)?;
+    let setting = Setting {
+        scheduled: scheduled(alloc, case, entries)?,
+        stops: Vec::new(alloc),
+    };
     let mut out = output_of(alloc, case)?;
     let mut dev = Spoiled {
         keeps: MemKeeps::new(alloc, Vec::new(alloc))?,
     };
-    let answer = run_on_memory(
-        alloc,
-        setup,
-        entries,
-        Vec::new(alloc),
-        false,
-        &mut dev,
-        &mut out,
-    );
+    let answer = run_on_memory(alloc, setting, false, &mut dev, &mut out);
     let Spoiled { keeps } = dev;
     Ok(Ran { answer, keeps, out })
 }

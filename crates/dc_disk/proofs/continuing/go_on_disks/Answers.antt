@@ -34,7 +34,7 @@ returns-clause-later g c p = subst (λ k. (g.D.Disks.stops c.args.disks.now p �
 pub returns-clause-failed : goal.returns-clause-failed
 returns-clause-failed g c p e =
     let told = c.go_on-course.ensures.failed p e in
-    subst (λ k. (p < length c.args.setup.images.items) × Rose (g.D.Disks.faults c.args.disks.now p) (g.D.Disks.faults k p)) {x = c.go_on-course.new.dev.device.now} (search rules)
+    subst (λ k. (p < length c.args.setting.scheduled.setup.images.items) × Rose (g.D.Disks.faults c.args.disks.now p) (g.D.Disks.faults k p)) {x = c.go_on-course.new.dev.device.now} (search rules)
     (told.0, subst (λ k. Rose (g.D.Disks.faults k p) (g.D.Disks.faults c.go_on-course.new.dev.device.now p)) (ap (λ b. b.now) c.new-armed.ensures.device) told.1)
 
 -- faults that stayed, with stops that are no fewer: these stayed too, or rose
@@ -61,7 +61,7 @@ returns-clause-stopped g c p e =
     let rose = told.1 in
     let none = c.new-armed.ensures.came p in
     let few = said_err c.go_on-course.result (fault.Stopped p) e c.go_on-course.ensures.unplanned p in
-    subst (λ k. (p < length c.args.setup.images.items) × Rose (g.D.Disks.stops c.args.disks.now p) (g.D.Disks.stops k p)) {x = c.go_on-course.new.dev.device.now} (search rules)
+    subst (λ k. (p < length c.args.setting.scheduled.setup.images.items) × Rose (g.D.Disks.stops c.args.disks.now p) (g.D.Disks.stops k p)) {x = c.go_on-course.new.dev.device.now} (search rules)
     (told.0, subst (λ k. Rose (g.D.Disks.stops k p) (g.D.Disks.stops c.go_on-course.new.dev.device.now p)) (ap (λ b. b.now) c.new-armed.ensures.device) (omega (arith, rose, none, few)))
 
 pub returns-clause-tells : goal.returns-clause-tells
@@ -69,7 +69,7 @@ returns-clause-tells g c p =
     let lent : c.new-armed.result.device.now ≡ c.args.disks.now = ap (λ b. b.now) c.new-armed.ensures.device in
     subst (λ k. KeepsTold (of_disks g.D.Disks) c.args.disks.now k p) {x = c.go_on-course.new.dev.device.now} (search rules)
     (λ few sound told. c.go_on-course.ensures.tells p
-    (let all = c.go_on-course.ensures.planned p in let none = c.new-armed.ensures.came p in let long = c.requires.entries in omega (arith, all, none, few, long)) sound
+    (let all = c.go_on-course.ensures.planned p in let none = c.new-armed.ensures.came p in let long = c.args.setting.scheduled.entries in omega (arith, all, none, few, long)) sound
     (subst (λ x. IsSome (g.D.Disks.told x p)) (sym lent) told))
 
 pub returns-clause-others : goal.returns-clause-others
@@ -86,9 +86,9 @@ returns-clause-others g c q high =
 pub returns-clause-unsuited : goal.returns-clause-unsuited
 unfolding logs_read
 returns-clause-unsuited g c p e =
-    let of = system_in (setting_from c.args.setup c.args.schedule.now c.args.stops.items c.args.earlier.now.entries) in
+    let of = system_in (setting_from c.args.setting.scheduled c.args.setting.stops.items c.args.earlier.now.entries) in
     let acts = c.args.earlier.now.acts.now in
-    let images = c.args.setup.images.items in
+    let images = c.args.setting.scheduled.setup.images.items in
     let lent : c.new-armed.result.device.now ≡ c.args.disks.now = ap (λ b. b.now) c.new-armed.ensures.device in
     let found = c.go_on-course.ensures.unsuited p e in
     subst (λ k. (x : AreLogsRead g.D.Disks of images acts c.args.disks.now k) × IsFirstUnsuited of x.given x.decided x.stored p) {x = c.go_on-course.new.dev.device.now} (search rules)
@@ -97,16 +97,16 @@ returns-clause-unsuited g c p e =
 
 pub returns-clause-refused : goal.returns-clause-refused
 returns-clause-refused g c p fault e =
-    let images = c.args.setup.images.items in
+    let images = c.args.setting.scheduled.setup.images.items in
     let refuses = c.go_on-course.ensures.refused p fault e in
     subst (λ k. (d : ℕ) × LogRefuses g.D.Disks images d k p fault) {x = c.go_on-course.new.dev.device.now} (search rules)
     (refuses.0, log_refuses g.D.Disks (λ d. d.device.now) (λ s. shape_of s.store.frame) (record { sizes = λ s. refl; forms = λ s. refl; kernels = λ s. s.store.frame.layout; events = λ s. s.store.frame.events; firsts = λ s. refl; leaves_to = λ s x d r l. l; leaves_from = λ s x d r l. l; numbers_to = λ s x d l. l; numbers_from = λ s x d l. l; steady_to = λ s x kept none. record { kept = kept; high = λ e held. inr (omega (arith, none)) }; steady_from = λ s x steady. steady.kept }) images c.new-armed.result c.go_on-course.new.dev refuses.0 p fault refuses.1)
 
 pub returns-clause-headline : goal.returns-clause-headline
 returns-clause-headline g c =
-    let setting = setting_from c.args.setup c.args.schedule.now c.args.stops.items c.args.earlier.now.entries in
+    let setting = setting_from c.args.setting.scheduled c.args.setting.stops.items c.args.earlier.now.entries in
     let out = output (g.O.Sink.held c.args.out.now) (g.O.Sink.held c.go_on-course.new.out) in
-    let images = c.args.setup.images.items in
+    let images = c.args.setting.scheduled.setup.images.items in
     let acts = c.args.earlier.now.acts.now in
     let disk = g.D.Disks in
     subst (λ k. IfOk c.go_on-course.result (λ course. TellsStores (of_disks disk) (length images) c.args.disks.now k
@@ -118,24 +118,24 @@ returns-clause-headline g c =
     let lent : armed.device.now ≡ c.args.disks.now = ap (λ b. b.now) c.new-armed.ensures.device in
     let part = says (record {
       told = λ p less. subst (λ x. IsSome (disk.told x p)) (sym lent) (tells.told p less);
-      stops = λ p less. let all = c.go_on-course.ensures.planned p in let none = c.new-armed.ensures.came p in let few = tells.stops p less in let long = c.requires.entries in omega (arith, all, none, few, long);
+      stops = λ p less. let all = c.go_on-course.ensures.planned p in let none = c.new-armed.ensures.came p in let few = tells.stops p less in let long = c.args.setting.scheduled.entries in omega (arith, all, none, few, long);
       faults = tells.faults;
     }) lines
-    (subst (λ ss. IsEarlier (setting_from c.args.setup c.args.schedule.now ss c.args.earlier.now.entries) c.args.earlier.now lines) (sym c.new-armed.ensures.stops) earlier) in
-    disk_part disk c.args.setup c.args.earlier.now c.args.schedule.now armed.plan.stops c.args.stops.items lines (account_of course) course.ending out (λ d. d.device.now) armed dev part.0 c.args.disks.now part.3 part.4
-    c.new-armed.ensures.stops lent c.args.setup.some part.2 (λ s. shape_of s.store.frame) (record { sizes = λ s. refl; forms = λ s. refl; kernels = λ s. s.store.frame.layout; events = λ s. s.store.frame.events; firsts = λ s. refl; leaves_to = λ s x d r l. l; leaves_from = λ s x d r l. l; numbers_to = λ s x d l. l; numbers_from = λ s x d l. l; steady_to = λ s x kept none. record { kept = kept; high = λ e held. inr (omega (arith, none)) }; steady_from = λ s x steady. steady.kept })) c.go_on-course.ensures.headline)
+    (subst (λ ss. IsEarlier (setting_from c.args.setting.scheduled ss c.args.earlier.now.entries) c.args.earlier.now lines) (sym c.new-armed.ensures.stops) earlier) in
+    disk_part disk c.args.setting.scheduled c.args.earlier.now armed.plan.stops c.args.setting.stops.items lines (account_of course) course.ending out (λ d. d.device.now) armed dev part.0 c.args.disks.now part.3 part.4
+    c.new-armed.ensures.stops lent part.2 (λ s. shape_of s.store.frame) (record { sizes = λ s. refl; forms = λ s. refl; kernels = λ s. s.store.frame.layout; events = λ s. s.store.frame.events; firsts = λ s. refl; leaves_to = λ s x d r l. l; leaves_from = λ s x d r l. l; numbers_to = λ s x d l. l; numbers_from = λ s x d l. l; steady_to = λ s x kept none. record { kept = kept; high = λ e held. inr (omega (arith, none)) }; steady_from = λ s x steady. steady.kept })) c.go_on-course.ensures.headline)
 
 pub returns-clause-unsteady : goal.returns-clause-unsteady
 returns-clause-unsteady g c e =
-    let images = c.args.setup.images.items in
+    let images = c.args.setting.scheduled.setup.images.items in
     let lent : c.new-armed.result.device.now ≡ c.args.disks.now = ap (λ b. b.now) c.new-armed.ensures.device in
     subst (λ k. IsSome (g.D.Disks.told k 0) → IsFirstLogSteady g.D.Disks images c.args.disks.now → ⊥) {x = c.go_on-course.new.dev.device.now} (search rules)
     (λ told first. c.go_on-course.ensures.unsteady e told (first_steady g.D.Disks (λ d. d.device.now) (λ s. shape_of s.store.frame) (record { sizes = λ s. refl; forms = λ s. refl; kernels = λ s. s.store.frame.layout; events = λ s. s.store.frame.events; firsts = λ s. refl; leaves_to = λ s x d r l. l; leaves_from = λ s x d r l. l; numbers_to = λ s x d l. l; numbers_from = λ s x d l. l; steady_to = λ s x kept none. record { kept = kept; high = λ e held. inr (omega (arith, none)) }; steady_from = λ s x steady. steady.kept }) images c.new-armed.result (subst (IsFirstLogSteady g.D.Disks images) (sym lent) first)))
 
 pub returns-clause-refused_under : goal.returns-clause-refused_under
-returns-clause-refused_under g c d = subst (λ k. FirstLogHas g.D.Disks c.args.setup.images.items k d → (p : ℕ) (why : StoreFault) → IsErrOf c.go_on-course.result (fault.Refused p why) → LogRefuses g.D.Disks c.args.setup.images.items d k p why) {x = c.go_on-course.new.dev.device.now} (search rules)
+returns-clause-refused_under g c d = subst (λ k. FirstLogHas g.D.Disks c.args.setting.scheduled.setup.images.items k d → (p : ℕ) (why : StoreFault) → IsErrOf c.go_on-course.result (fault.Refused p why) → LogRefuses g.D.Disks c.args.setting.scheduled.setup.images.items d k p why) {x = c.go_on-course.new.dev.device.now} (search rules)
     (λ held p why e.
-    let images = c.args.setup.images.items in
+    let images = c.args.setting.scheduled.setup.images.items in
     let handles = said_err c.go_on-course.result (fault.Refused p why) e (c.go_on-course.ensures.handles (λ wanting. not_wanting p why c.go_on-course.result e wanting)) in
     log_refuses g.D.Disks (λ d. d.device.now) (λ s. shape_of s.store.frame) (record { sizes = λ s. refl; forms = λ s. refl; kernels = λ s. s.store.frame.layout; events = λ s. s.store.frame.events; firsts = λ s. refl; leaves_to = λ s x d r l. l; leaves_from = λ s x d r l. l; numbers_to = λ s x d l. l; numbers_from = λ s x d l. l; steady_to = λ s x kept none. record { kept = kept; high = λ e held. inr (omega (arith, none)) }; steady_from = λ s x steady. steady.kept }) images c.new-armed.result c.go_on-course.new.dev d p why
     (c.go_on-course.ensures.refused_under d
@@ -144,7 +144,7 @@ returns-clause-refused_under g c d = subst (λ k. FirstLogHas g.D.Disks c.args.s
 pub returns-clause-stood : goal.returns-clause-stood
 returns-clause-stood g c enough =
     let lent : c.new-armed.result.device.now ≡ c.args.disks.now = ap (λ b. b.now) c.new-armed.ensures.device in
-    let images = c.args.setup.images.items in
+    let images = c.args.setting.scheduled.setup.images.items in
     let armed = c.new-armed.result in
     let dev = c.go_on-course.new.dev in
     subst (λ k. OnErr c.go_on-course.result ((d : ℕ) → FirstLogHas g.D.Disks images k d → FirstLogHas g.D.Disks images c.args.disks.now d × LogsStood g.D.Disks images d c.args.disks.now k)) {x = c.go_on-course.new.dev.device.now} (search rules)
@@ -158,6 +158,6 @@ returns-clause-stood g c enough =
 -- the other answers say what each refusal means, and none means that of logs that a run left
 pub returns-clause-resumable : goal.returns-clause-resumable
 returns-clause-resumable g c left tells =
-    resumable g.D.Disks (setting_from c.args.setup c.args.schedule.now c.args.stops.items c.args.earlier.now.entries) c.args.setup.images.items refl c.args.earlier.now.entries c.args.earlier.now.lines c.args.earlier.now.acts.now
-    c.args.disks.now _ c.args.setup.some left tells c.go_on-course.result
+    resumable g.D.Disks (setting_from c.args.setting.scheduled c.args.setting.stops.items c.args.earlier.now.entries) c.args.setting.scheduled.setup.images.items refl c.args.earlier.now.entries c.args.earlier.now.lines c.args.earlier.now.acts.now
+    c.args.disks.now _ c.args.setting.scheduled.setup.some left tells c.go_on-course.result
     (returns-clause-unsuited g c) (returns-clause-unsteady g c) c.go_on-course.ensures.illegal (returns-clause-refused_under g c) (returns-clause-stood g c)

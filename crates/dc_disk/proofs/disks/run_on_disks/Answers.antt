@@ -23,32 +23,32 @@ returns-clause-later g c p = subst (λ k. (g.D.Disks.stops c.args.disks.now p �
 pub returns-clause-failed : goal.returns-clause-failed
 returns-clause-failed g c p e =
     let told = c.run-course.ensures.failed p e in
-    subst (λ k. (p < length c.args.setup.images.items) × Rose (g.D.Disks.faults c.args.disks.now p) (g.D.Disks.faults k p)) {x = c.run-course.new.dev.device.now} (search rules)
+    subst (λ k. (p < length c.args.setting.scheduled.setup.images.items) × Rose (g.D.Disks.faults c.args.disks.now p) (g.D.Disks.faults k p)) {x = c.run-course.new.dev.device.now} (search rules)
     (told.0, subst (λ k. Rose (g.D.Disks.faults k p) (g.D.Disks.faults c.run-course.new.dev.device.now p)) (ap (λ b. b.now) c.new-armed.ensures.device) told.1)
 
 pub returns-clause-headline : goal.returns-clause-headline
 returns-clause-headline g c =
-    let setting = setting_of c.args.setup c.args.schedule.now c.args.stops.items in
+    let setting = setting_of c.args.setting in
     let out = output (g.O.Sink.held c.args.out.now) (g.O.Sink.held c.run-course.new.out) in
-    subst (λ k. IfOk c.run-course.result (λ course. TellsStores (of_disks g.D.Disks) (length c.args.setup.images.items) c.args.disks.now k →
+    subst (λ k. IfOk c.run-course.result (λ course. TellsStores (of_disks g.D.Disks) (length c.args.setting.scheduled.setup.images.items) c.args.disks.now k →
     IsCourse setting (account_of course) course.ending out (counts_of g.D.Disks.stops (capped_by g.D.Disks.calls) c.args.disks.now k) (λ core x. LogsLeft g.D.Disks setting core x))) {x = c.run-course.new.dev.device.now} (search rules)
     (IfOk-weaker c.run-course.result _ _ (λ course says tells.
     let armed = c.new-armed.result in
     let dev = c.run-course.new.dev in
     let lent : armed.device.now ≡ c.args.disks.now = ap (λ b. b.now) c.new-armed.ensures.device in
-    disk_course g.D.Disks c.args.setup c.args.schedule.now armed.plan.stops c.args.stops.items (account_of course) course.ending out (λ d. d.device.now) armed dev c.args.disks.now
+    disk_course g.D.Disks c.args.setting.scheduled armed.plan.stops c.args.setting.stops.items (account_of course) course.ending out (λ d. d.device.now) armed dev c.args.disks.now
     (says (record {
       told = λ p less. subst (λ x. IsSome (g.D.Disks.told x p)) (sym lent) (tells.told p less);
-      stops = λ p less. let all = c.run-course.ensures.planned p in let none = c.new-armed.ensures.came p in let few = tells.stops p less in let long = c.requires.entries in omega (arith, all, none, few, long);
+      stops = λ p less. let all = c.run-course.ensures.planned p in let none = c.new-armed.ensures.came p in let few = tells.stops p less in let long = c.args.setting.scheduled.entries in omega (arith, all, none, few, long);
       faults = tells.faults;
-    })) c.new-armed.ensures.stops lent c.args.setup.some (λ s. shape_of s.store.frame) (record { sizes = λ s. refl; forms = λ s. refl; kernels = λ s. s.store.frame.layout; events = λ s. s.store.frame.events; firsts = λ s. refl; leaves_to = λ s x d r l. l; leaves_from = λ s x d r l. l; numbers_to = λ s x d l. l; numbers_from = λ s x d l. l; steady_to = λ s x kept none. record { kept = kept; high = λ e held. inr (omega (arith, none)) }; steady_from = λ s x steady. steady.kept })) c.run-course.ensures.headline)
+    })) c.new-armed.ensures.stops lent (λ s. shape_of s.store.frame) (record { sizes = λ s. refl; forms = λ s. refl; kernels = λ s. s.store.frame.layout; events = λ s. s.store.frame.events; firsts = λ s. refl; leaves_to = λ s x d r l. l; leaves_from = λ s x d r l. l; numbers_to = λ s x d l. l; numbers_from = λ s x d l. l; steady_to = λ s x kept none. record { kept = kept; high = λ e held. inr (omega (arith, none)) }; steady_from = λ s x steady. steady.kept })) c.run-course.ensures.headline)
 
 pub returns-clause-tells : goal.returns-clause-tells
 returns-clause-tells g c p =
     let lent : c.new-armed.result.device.now ≡ c.args.disks.now = ap (λ b. b.now) c.new-armed.ensures.device in
     subst (λ k. KeepsTold (of_disks g.D.Disks) c.args.disks.now k p) {x = c.run-course.new.dev.device.now} (search rules)
     (λ few sound told. c.run-course.ensures.tells p
-    (let all = c.run-course.ensures.planned p in let none = c.new-armed.ensures.came p in let long = c.requires.entries in omega (arith, all, none, few, long)) sound
+    (let all = c.run-course.ensures.planned p in let none = c.new-armed.ensures.came p in let long = c.args.setting.scheduled.entries in omega (arith, all, none, few, long)) sound
     (subst (λ x. IsSome (g.D.Disks.told x p)) (sym lent) told))
 
 pub returns-clause-others : goal.returns-clause-others
@@ -76,7 +76,7 @@ returns-clause-wanting g c e p =
 pub returns-clause-stop : goal.returns-clause-stop
 returns-clause-stop g c =
     let lent : c.new-armed.result.device.now ≡ c.args.disks.now = ap (λ b. b.now) c.new-armed.ensures.device in
-    subst (λ k. IfOk c.run-course.result (λ course. c.args.stops.items ≡ [] → (p : ℕ) → course.ending ≡ ending.Stopped p → (p < length c.args.setup.images.items) × Rose (g.D.Disks.stops c.args.disks.now p) (g.D.Disks.stops k p))) {x = c.run-course.new.dev.device.now} (search rules)
+    subst (λ k. IfOk c.run-course.result (λ course. c.args.setting.stops.items ≡ [] → (p : ℕ) → course.ending ≡ ending.Stopped p → (p < length c.args.setting.scheduled.setup.images.items) × Rose (g.D.Disks.stops c.args.disks.now p) (g.D.Disks.stops k p))) {x = c.run-course.new.dev.device.now} (search rules)
     (IfOk-weaker c.run-course.result _ _ (λ course says none p e.
     let stop = says p e in
     let zero = c.new-armed.ensures.came p in

@@ -23,32 +23,32 @@ returns-clause-later g c p = subst (λ k. (g.K.Keeps.stops c.args.keeps.now p �
 pub returns-clause-failed : goal.returns-clause-failed
 returns-clause-failed g c p e =
     let told = c.run-course.ensures.failed p e in
-    subst (λ k. (p < length c.args.setup.images.items) × Rose (g.K.Keeps.faults c.args.keeps.now p) (g.K.Keeps.faults k p)) {x = c.run-course.new.dev.device.now} (search rules)
+    subst (λ k. (p < length c.args.setting.scheduled.setup.images.items) × Rose (g.K.Keeps.faults c.args.keeps.now p) (g.K.Keeps.faults k p)) {x = c.run-course.new.dev.device.now} (search rules)
     (told.0, subst (λ k. Rose (g.K.Keeps.faults k p) (g.K.Keeps.faults c.run-course.new.dev.device.now p)) (ap (λ b. b.now) c.new-armed.ensures.device) told.1)
 
 pub returns-clause-headline : goal.returns-clause-headline
 returns-clause-headline g c =
-    let setting = setting_of c.args.setup c.args.schedule.now c.args.stops.items in
+    let setting = setting_of c.args.setting in
     let out = output (g.O.Sink.held c.args.out.now) (g.O.Sink.held c.run-course.new.out) in
-    subst (λ k. IfOk c.run-course.result (λ course. TellsStores (of_words g.K.Keeps) (length c.args.setup.images.items) c.args.keeps.now k →
+    subst (λ k. IfOk c.run-course.result (λ course. TellsStores (of_words g.K.Keeps) (length c.args.setting.scheduled.setup.images.items) c.args.keeps.now k →
     IsCourse setting (account_of course) course.ending out (counts_of g.K.Keeps.stops (capped_by g.K.Keeps.calls) c.args.keeps.now k) (λ core x. SegmentsLeft g.K.Keeps setting core x))) {x = c.run-course.new.dev.device.now} (search rules)
     (IfOk-weaker c.run-course.result _ _ (λ course says tells.
     let armed = c.new-armed.result in
     let dev = c.run-course.new.dev in
     let lent : armed.device.now ≡ c.args.keeps.now = ap (λ b. b.now) c.new-armed.ensures.device in
-    memory_course g.K.Keeps c.args.setup c.args.schedule.now armed.plan.stops c.args.stops.items (account_of course) course.ending out (λ d. d.device.now) armed dev c.args.keeps.now
+    memory_course g.K.Keeps c.args.setting.scheduled armed.plan.stops c.args.setting.stops.items (account_of course) course.ending out (λ d. d.device.now) armed dev c.args.keeps.now
     (says (record {
       told = λ p less. subst (λ x. IsSome (g.K.Keeps.told x p)) (sym lent) (tells.told p less);
-      stops = λ p less. let all = c.run-course.ensures.planned p in let none = c.new-armed.ensures.came p in let few = tells.stops p less in let long = c.requires.entries in omega (arith, all, none, few, long);
+      stops = λ p less. let all = c.run-course.ensures.planned p in let none = c.new-armed.ensures.came p in let few = tells.stops p less in let long = c.args.setting.scheduled.entries in omega (arith, all, none, few, long);
       faults = tells.faults;
-    })) c.new-armed.ensures.stops lent c.args.setup.some (λ s. shape_of s.store.frame) (λ s. refl) (λ d s is. is) (λ x s d r l. l) (λ x s d l. l)) c.run-course.ensures.headline)
+    })) c.new-armed.ensures.stops lent (λ s. shape_of s.store.frame) (λ s. refl) (λ d s is. is) (λ x s d r l. l) (λ x s d l. l)) c.run-course.ensures.headline)
 
 pub returns-clause-tells : goal.returns-clause-tells
 returns-clause-tells g c p =
     let lent : c.new-armed.result.device.now ≡ c.args.keeps.now = ap (λ b. b.now) c.new-armed.ensures.device in
     subst (λ k. KeepsTold (of_words g.K.Keeps) c.args.keeps.now k p) {x = c.run-course.new.dev.device.now} (search rules)
     (λ few sound told. c.run-course.ensures.tells p
-    (let all = c.run-course.ensures.planned p in let none = c.new-armed.ensures.came p in let long = c.requires.entries in omega (arith, all, none, few, long)) sound
+    (let all = c.run-course.ensures.planned p in let none = c.new-armed.ensures.came p in let long = c.args.setting.scheduled.entries in omega (arith, all, none, few, long)) sound
     (subst (λ x. IsSome (g.K.Keeps.told x p)) (sym lent) told))
 
 pub returns-clause-others : goal.returns-clause-others
@@ -76,7 +76,7 @@ returns-clause-wanting g c e p =
 pub returns-clause-stop : goal.returns-clause-stop
 returns-clause-stop g c =
     let lent : c.new-armed.result.device.now ≡ c.args.keeps.now = ap (λ b. b.now) c.new-armed.ensures.device in
-    subst (λ k. IfOk c.run-course.result (λ course. c.args.stops.items ≡ [] → (p : ℕ) → course.ending ≡ ending.Stopped p → (p < length c.args.setup.images.items) × Rose (g.K.Keeps.stops c.args.keeps.now p) (g.K.Keeps.stops k p))) {x = c.run-course.new.dev.device.now} (search rules)
+    subst (λ k. IfOk c.run-course.result (λ course. c.args.setting.stops.items ≡ [] → (p : ℕ) → course.ending ≡ ending.Stopped p → (p < length c.args.setting.scheduled.setup.images.items) × Rose (g.K.Keeps.stops c.args.keeps.now p) (g.K.Keeps.stops k p))) {x = c.run-course.new.dev.device.now} (search rules)
     (IfOk-weaker c.run-course.result _ _ (λ course says none p e.
     let stop = says p e in
     let zero = c.new-armed.ensures.came p in

@@ -3,6 +3,7 @@ use Rattle.std.proofs.lemmas.List.{length-map}
 use Rattle.dc_elf.specs.Loaded.{seen_image}
 use Rattle.dc_schedule.specs.Entries.{IsSchedule}
 use Rattle.dc_run.proofs.Given.{given_run}
+use Rattle.dc_run.proofs.Headlines.{entries_named}
 use Rattle.std.proofs.lemmas.Result.{err_from_is_err_and}
 use Rattle.dc_plan.specs.Plans.{plan_view}
 use Rattle.dc_run.specs.declared.refusal.Refusal.TheVariants.{Library}
@@ -22,3 +23,7 @@ returns-clause-given g c = let long = length-map c.in_ok-images.images.items see
     let as_many = length-map c.args.plan.guests.items string_bytes in
     let is : IsSchedule (length c.in_ok-images.images.items) c.in_ok-schedule.schedule.items = search rules in
     given_run _ _ _ (omega (arith, long, count, names, most, as_many)) c.in_ok-images.ensures.typed c.requires.records (subst (λ n. IsSchedule n c.in_ok-schedule.schedule.items) (sym long) is)
+
+pub invariant_of-setting-clause-processes : goal.invariant_of-setting-clause-processes
+invariant_of-setting-clause-processes g c = let is : IsSchedule (length c.in_ok-images.images.items) c.in_ok-schedule.schedule.items = search rules in
+    entries_named (length c.in_ok-images.images.items) 0 c.in_ok-schedule.schedule.items is.1

@@ -15,17 +15,17 @@ returns-in-Err-clause-reached g c files w known fault = asked_to_open files (hal
 
 pub returns-clause-told : goal.returns-clause-told
 returns-clause-told g c files known =
-    let reads = read_for files c.in-Ok.setting _ _ _ (search rules) (c.in-Ok-report_at.ensures.told files (c.in-Ok.ensures.files ∙ known)) in
-    subst (Answers going_of c.going_with.result) (sym (going_is files (halted_view c.args.names.now) (setting_of c.in-Ok.setting) c.in-Ok.setting.halt (seen c.in-Ok-report_at.report) (c.in-Ok.ensures.told files known) (c.in-Ok.ensures.halt files known) reads)) c.going_with.ensures.told
+    let reads = read_for files c.in-Ok.opened _ _ _ (search rules) (c.in-Ok-report_at.ensures.told files (c.in-Ok.ensures.files ∙ known)) in
+    subst (Answers going_of c.going_with.result) (sym (going_is files (halted_view c.args.names.now) (setting_of c.in-Ok.opened) c.in-Ok.opened.halt (seen c.in-Ok-report_at.report) (c.in-Ok.ensures.told files known) (c.in-Ok.ensures.halt files known) reads)) c.going_with.ensures.told
 
 pub returns-clause-acts : goal.returns-clause-acts
 returns-clause-acts g c = ok_by c.going_with.result c.going_with.ensures.same c.going_with.ensures.halted (λ (x : Going) same halted.
-    let below = halted_below c.len-n.result c.in-Ok.setting.schedule.items (seen c.in-Ok-report_at.report) c.in-Ok-report_at.ensures.is halted in
+    let below = halted_below c.len-n.result c.in-Ok.opened.setting.scheduled.schedule.items (seen c.in-Ok-report_at.report) c.in-Ok-report_at.ensures.is halted in
     subst (λ r. length r.acts.items ≤ r.entries) (sym same.1) (acts_below_few c.len-n.result c.in-Ok-report_at.report.entries c.in-Ok-report_at.report.acts.items c.in-Ok-report_at.ensures.is.acts below))
 
 pub returns-clause-before : goal.returns-clause-before
 returns-clause-before g c = ok_by c.going_with.result c.going_with.ensures.same c.going_with.ensures.halted (λ (x : Going) same halted.
-    subst (λ r. TurnsBelow r.entries r.acts.items) (sym same.1) (halted_below c.len-n.result c.in-Ok.setting.schedule.items (seen c.in-Ok-report_at.report) c.in-Ok-report_at.ensures.is halted))
+    subst (λ r. TurnsBelow r.entries r.acts.items) (sym same.1) (halted_below c.len-n.result c.in-Ok.opened.setting.scheduled.schedule.items (seen c.in-Ok-report_at.report) c.in-Ok-report_at.ensures.is halted))
 
 pub returns-clause-reached : goal.returns-clause-reached
 returns-clause-reached g c files w known fault = absurd (c.going_with.ensures.own w fault)

@@ -83,8 +83,8 @@ went g c =
     let again : c.leaves_over-halted.result ≡ is_halted_again (going_of c.in-Ok.going) = search rules in
     is_resumed (going_of c.in-Ok.going) g.D.Disks c.in-Ok-go_on_with.course c.reported.result _ out report c.leaves_over-halted.result again
     (c.reported.ensures.acts ∙ ap (λ o. o.acts) c.outcome_of.ensures) (c.reported.ensures.marks ∙ ap (λ o. o.marks) c.outcome_of.ensures) (c.reported.ensures.lines ∙ ap (λ o. o.lines) c.outcome_of.ensures)
-    c.in-Ok-go_on_with.ensures.unkept c.in-Ok-go_on_with.ensures.kept (left_on g.D.Disks (going_of c.in-Ok.going) (run_account c.in-Ok-go_on_with.course) c.in-Ok-go_on_with.course.ending _ _ (subst (λ n. 0 < n) (sym (length-map c.in-Ok.going.setting.images.items seen_image)) c.in-Ok.going.setting.some)
-    c.in-Ok.going.setting.entries.0 c.in-Ok.ensures.ran c.in-Ok.ensures.before c.in-Ok.ensures.taken.1 c.in-Ok-go_on_with.ensures.kept) reports
+    c.in-Ok-go_on_with.ensures.unkept c.in-Ok-go_on_with.ensures.kept (left_on g.D.Disks (going_of c.in-Ok.going) (run_account c.in-Ok-go_on_with.course) c.in-Ok-go_on_with.course.ending _ _ (subst (λ n. 0 < n) (sym (length-map c.in-Ok.going.opened.setting.scheduled.setup.images.items seen_image)) c.in-Ok.going.opened.setting.scheduled.setup.some)
+    c.in-Ok.going.opened.entries.0 c.in-Ok.ensures.ran c.in-Ok.ensures.before c.in-Ok.ensures.taken.1 c.in-Ok-go_on_with.ensures.kept) reports
 
 pub returns-in-Ok-go_on_with-clause-resumed : goal.returns-in-Ok-go_on_with-clause-resumed
 returns-in-Ok-go_on_with-clause-resumed g c on =
@@ -128,4 +128,4 @@ returns-in-Err-go_on_with-clause-stood g c idle may = going_so _ (halted_view c.
 
 pub returns-in-Err-go_on_with-clause-disks_others : goal.returns-in-Err-go_on_with-clause-disks_others
 returns-in-Err-go_on_with-clause-disks_others g c = for_known _ (λ files here. rw (c.in-Ok.ensures.told files here)
-    (subst (λ n. AreLeftFrom n (of_disks g.D.Disks) c.args.disks.now c.go_on_with.new.disks) (sym (length-map c.in-Ok.going.setting.images.items seen_image)) c.in-Err-go_on_with.ensures.others))
+    (subst (λ n. AreLeftFrom n (of_disks g.D.Disks) c.args.disks.now c.go_on_with.new.disks) (sym (length-map c.in-Ok.going.opened.setting.scheduled.setup.images.items seen_image)) c.in-Err-go_on_with.ensures.others))
