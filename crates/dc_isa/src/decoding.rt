@@ -1,10 +1,14 @@
-ghost use Rattle.std.specs.Prelude.{◌≡◌, ◌↔◌, IfSome};
+ghost use Rattle.std.specs.Prelude.{◌≡◌, ◌↔◌, IfSome, true};
 ghost use Rattle.dc_isa.specs.Fields.{field, jump_offset, branch_offset, store_immediate, fence_bits};
 ghost use Rattle.dc_isa.specs.Table.{Codes, Fits, branch_funct3, immediate_funct3, load_funct3, register_funct3, shift_funct3, store_funct3, shift_funct7, register_funct7};
 ghost use Rattle.dc_isa.specs.Decoded.{decoded, immediate_at, load_at, store_at, branch_at, shift_at, register_at, jump_register_row, branch_row, load_row, store_row, immediate_row, register_row, system_row, fence_row};
 ghost use Rattle.dc_isa.specs.declared.instr.Instr.{Instr as Coded};
+ghost use Rattle.dc_isa.specs.declared.instr.Instr.TheVariants.{Ecall};
 
 use crate::{BranchOp, ImmediateOp, Instr, LoadOp, RegisterOp, ShiftOp, StoreOp, UpperOp};
+
+/// The one word that codes ECALL.
+const ECALL: u32 = 0x73;
 
 /// The instruction that a word codes.
 pub fn decode(word: u32) -> Option<Instr>
@@ -46,6 +50,13 @@ fn instr_of(word: u32) -> Option<Instr>
         0x0f => fence_instr(word),
         _ => None,
     }
+}
+
+/// Whether a word codes ECALL.
+pub fn is_ecall(word: u32) -> bool
+    ensures { (result ≡ true) ↔ Codes Ecall word }
+{
+    word == ECALL
 }
 
 /// JALR, of a word with its opcode.
@@ -167,7 +178,7 @@ fn system_instr(word: u32) -> Option<Instr>
     ensures fits { IfSome result (λ i. Fits i) }
 {
     match word {
-        0x73 => Some(Instr::Ecall),
+        ECALL => Some(Instr::Ecall),
         0x10_0073 => Some(Instr::Ebreak),
         _ => None,
     }

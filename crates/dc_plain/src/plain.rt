@@ -147,9 +147,8 @@ fn play(
 {
     visibles.reserve(1)?;
     let process = &mut processes[p as usize];
-    process.reserve()?;
+    let sends = process.reserve()?;
     let k = process.visible;
-    let sends = process.sends();
     match process.turn(answer) {
         Some(body) => {
             let _ = visibles.push(Visible { p, k, body });

@@ -54,13 +54,6 @@ fn empty_lists(alloc: Global, count: u32) -> Result<Vec<Vec<Message>>, AllocErro
     Ok(lists)
 }
 
-/// Whether a call sends a message.
-fn sends_by(call: Option<Call>) -> bool
-    ensures { result ≡ sends_by call }
-{
-    matches!(call, Some(Call::Send(_, _, _)))
-}
-
 impl Process {
     /// Process `p` of `count` before its first act.
     pub fn new(alloc: Global, p: u32, count: u32, image: &Image) -> Result<Process, AllocError>
@@ -89,24 +82,20 @@ impl Process {
         !self.guest.has_ended() && answer.may_answer(kind)
     }
 
-    /// Makes room for the message that it sends next, if it sends one.
-    pub fn reserve(&mut self) -> Result<(), AllocError>
+    /// Makes room for the message that it sends next, if it sends one. It says whether it does.
+    pub fn reserve(&mut self) -> Result<bool, AllocError>
         ensures same { local_of self.new ≡ local_of self.old }
         ensures received { self.new.received ≡ self.old.received }
         ensures room { OnOk result (HasRoom self.new) }
+        ensures sends { IfOk result (λ sends. self.old.guest.ended ≡ false → sends ≡ is_send (coming self.old.guest)) }
     {
-        if let Some(Call::Send(to, _, _)) = self.guest.next_call() {
-            self.sent[to as usize].reserve(1)?;
+        match self.guest.next_call() {
+            Some(Call::Send(to, _, _)) => {
+                self.sent[to as usize].reserve(1)?;
+                Ok(true)
+            }
+            _ => Ok(false),
         }
-        Ok(())
-    }
-
-    /// Whether its next event sends a message.
-    pub fn sends(&self) -> bool
-        requires live { self.now.guest.ended ≡ false }
-        ensures { result ≡ is_send (coming self.now.guest) }
-    {
-        sends_by(self.guest.next_call())
     }
 
     /// Takes its next event with this answer: what it shows, if anything.

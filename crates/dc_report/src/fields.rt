@@ -1,14 +1,16 @@
-ghost use Rattle.std.specs.Prelude.{◌≡◌, ◌≤◌, ◌<◌, ◌^◌, ℕ, List, length};
+ghost use Rattle.std.specs.Prelude.{◌≡◌, ◌≤◌, ◌<◌, ◌^◌, ◌++◌, ◌∷◌, ℕ, IfSome, List, codes, decimal, length, true};
+ghost use Rattle.dc_limits.specs.declared.bounds.TheConstants.{ENTRIES};
 ghost use Rattle.dc_model.specs.declared.act.Taken.{Taken};
-ghost use Rattle.dc_model.specs.declared.act.Act.TheVariants.{Clock, Random};
+ghost use Rattle.dc_model.specs.declared.act.Act.TheVariants.{Clock, Plain, Random};
 ghost use Rattle.dc_words.specs.Texts.{fields_of};
+ghost use Rattle.dc_report.specs.Reports.{act_text};
 ghost use Rattle.dc_report.specs.Reading.{act_by, act_by_one, act_by_three, act_by_two, bounded, input_by, is_past, is_status, line_by};
 ghost use Rattle.dc_report.specs.Parts.{act_fields, admitted_act, below, close_fields, closes, line_read, received_from, sent_by, status_of, summed, tallied, weighed};
 
 use crate::ReportKind;
 use dc_limits::ENTRIES;
 use dc_model::{Act, Taken};
-use dc_words::{NumberFault, first_field, read_number};
+use dc_words::{NumberFault, first_field, first_number, read_number};
 
 /// What the last line of a report says, besides the count of its acts.
 #[derive(Clone, Copy, Debug, PartialEq, Eq)]
@@ -281,12 +283,50 @@ fn close_line(next: u32, acts: u32, fields: &[u8]) -> Result<Closing, ReportKind
     }
 }
 
+/// What stands behind the name in the line of an act, where a line begins with it.
+fn behind_name(line: &[u8]) -> Option<&[u8]>
+    ensures { IfSome result (λ fields. line.now ≡ codes "act " ++ fields.now) }
+{
+    match line {
+        [b'a', b'c', b't', b' ', fields @ ..] => Some(fields),
+        _ => None,
+    }
+}
+
+/// Whether this is what a plain act told.
+fn is_plain(told: &[u8]) -> bool
+    ensures { result ≡ true → told.now ≡ act_text Plain }
+{
+    matches!(told, [b'p', b'l', b'a', b'i', b'n'])
+}
+
+/// The act of a line, where it is a plain one that may come. It is read in one pass, since most acts of most runs are such.
+fn plain_act(n: u32, next: u32, line: &[u8]) -> Option<Taken>
+    requires { 0 < n }
+    ensures text { IfSome result (λ x. line.now ≡ codes "act " ++ (decimal x.t ++ 32 ∷ (decimal x.p ++ 32 ∷ act_text x.act))) }
+    ensures fits { IfSome result (λ x. (x.act ≡ Plain) × (x.p < n) × (next ≤ x.t) × (x.t < ENTRIES)) }
+{
+    let fields = behind_name(line)?;
+    let (t, fields) = first_number(b' ', u64::from(ENTRIES - 1), fields)?;
+    let (p, told) = first_number(b' ', u64::from(n - 1), fields)?;
+    let t = t as u32;
+    if t < next || !is_plain(told) {
+        return None;
+    }
+    let p = p as u32;
+    let act = Act::Plain;
+    Some(Taken { t, p, act })
+}
+
 /// A line of a report of `n` processes, behind so many acts with turns below `next`.
 pub fn read_line(n: u32, next: u32, acts: u32, line: &[u8]) -> Result<ReportLine, ReportKind>
     requires some { 0 < n }
     requires few { acts ≤ ENTRIES }
     ensures { (list : List Taken) → length list ≡ acts → line_read list result ≡ line_by n next list (fields_of 32 line.now) }
 {
+    if let Some(taken) = plain_act(n, next, line) {
+        return Ok(ReportLine::Act(taken));
+    }
     let Some((name, fields)) = first_field(b' ', line) else {
         return Err(ReportKind::Form);
     };

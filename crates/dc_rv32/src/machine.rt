@@ -1,8 +1,9 @@
-ghost use Rattle.std.specs.Prelude.{◌≡◌, ◌≤◌, ◌<◌, ◌+◌, ◌*◌, ◌/◌, ◌%◌, ◌^◌, ℕ, List, length, IfErr, IfOk, IfSome, OnErr, OnOk, slice_index, true};
+ghost use Rattle.std.specs.Prelude.{◌≡◌, ◌≤◌, ◌<◌, ◌+◌, ◌*◌, ◌/◌, ◌%◌, ◌^◌, ℕ, List, None, length, IfErr, IfOk, IfSome, OnErr, OnOk, slice_index, true};
 ghost use Rattle.dc_isa.specs.Fields.{extended};
 ghost use Rattle.dc_isa.specs.Table.{Fits};
 ghost use Rattle.dc_rv32.specs.Machine.{after_fetch, is_call, machine_of, meaning, stepped, written, IsCause, UnlessRetired, is_store, stores, stores_fetched};
 ghost use Rattle.dc_media.specs.Told.{Becomes};
+ghost use Rattle.dc_words.specs.Words.{bytes_in, word_at};
 ghost use Rattle.dc_rv32.specs.Stores.{OnceAtMost};
 
 use crate::Bus;
@@ -10,7 +11,7 @@ use crate::arithmetic::{of_immediate, of_registers, of_shift, of_upper, sign_ext
 use crate::branches::{branch, is_taken, jump};
 use crate::bytes::word_from;
 use crate::memory::{load, store};
-use dc_isa::{Instr, Regs, decode};
+use dc_isa::{Instr, Regs, decode, is_ecall, words_decode_by_the_table};
 
 const NO_WORD: u32 = 1;
 
@@ -120,6 +121,18 @@ fn run<B: Bus>(regs: &mut Regs, bus: &mut B, instr: &Instr) -> Result<Stepped, B
     }
 }
 
+/// The word at pc, if one lies there.
+fn word_at_pc<B: Bus>(regs: &Regs, bus: &B) -> Option<u32>
+    requires live { B.live bus.now }
+    ensures some { IfSome result (λ word. (regs.now.pc + 4 ≤ 4 * B.count bus.now) × IfSome (B.told bus.now) (λ words. word ≡ word_at (bytes_in words) regs.now.pc)) }
+    ensures none { result ≡ None → 4 * B.count bus.now < regs.now.pc + 4 }
+{
+    if u64::from(regs.pc) + 4 > u64::from(bus.size()) {
+        return None;
+    }
+    Some(word_from(bus, regs.pc))
+}
+
 /// The instruction at pc, or the cause of the trap there.
 fn fetch<B: Bus>(regs: &Regs, bus: &B) -> Result<Instr, u32>
     requires live { B.live bus.now }
@@ -128,10 +141,10 @@ fn fetch<B: Bus>(regs: &Regs, bus: &B) -> Result<Instr, u32>
     ensures fits { IfOk result Fits }
     ensures cause { IfErr result (λ cause. cause ≤ 7) }
 {
-    if u64::from(regs.pc) + 4 > u64::from(bus.size()) {
+    let Some(word) = word_at_pc(regs, bus) else {
         return Err(NO_WORD);
-    }
-    match decode(word_from(bus, regs.pc)) {
+    };
+    match decode(word) {
         Some(instr) => Ok(instr),
         None => Err(ILLEGAL),
     }
@@ -142,9 +155,11 @@ pub fn is_call<B: Bus>(regs: &Regs, bus: &B) -> bool
     requires live { B.live bus.now }
     ensures { IfSome (B.told bus.now) (λ words. result ≡ is_call (stepped (machine_of regs.now words)).1) }
 {
-    match fetch(regs, bus) {
-        Ok(Instr::Ecall) => true,
-        _ => false,
+    // For the proof: of the words only that of ECALL is decoded to a call.
+    words_decode_by_the_table();
+    match word_at_pc(regs, bus) {
+        Some(word) => is_ecall(word),
+        None => false,
     }
 }
 

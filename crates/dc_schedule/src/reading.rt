@@ -1,13 +1,16 @@
-ghost use Rattle.std.specs.Prelude.{◌≡◌, ◌≤◌, ◌<◌, ◌⊎◌, ◌++◌, ◌∷◌, [], All, Err, IfOk, length, if◌then◌else◌};
+ghost use Rattle.std.specs.Prelude.{◌≡◌, ◌≤◌, ◌<◌, ◌⊎◌, ◌++◌, ◌∷◌, ℕ, suc, [], All, Err, IfOk, IfSome, IsErrOf, length, if◌then◌else◌};
+ghost use Rattle.dc_limits.specs.declared.bounds.TheConstants.{ENTRIES};
+ghost use Rattle.dc_model.specs.declared.entry.Entry.TheVariants as entries;
 ghost use Rattle.dc_words.specs.Texts.{lines_of};
-ghost use Rattle.dc_schedule.specs.Entries.{IsSchedule, IsTurn, clock_after, schedule_text};
-ghost use Rattle.dc_schedule.specs.Schedules.{Reads, entry_of, power_of, schedule_from, schedule_of, stop_of, turn_of, turns_of};
+ghost use Rattle.dc_schedule.specs.Entries.{IsEntry, IsSchedule, IsTurn, clock_after, entry_text, schedule_text};
+ghost use Rattle.dc_schedule.specs.Schedules.{Reads, entry_of, power_of, schedule_from, schedule_of, stop_of, turn_of, turns_of, with_front};
+ghost use Rattle.dc_schedule.specs.declared.fault.ScheduleKind.{ScheduleKind as Kinds};
 ghost use Rattle.dc_schedule.specs.declared.fault.ScheduleKind.TheVariants.{Form};
 
 use crate::{ReadError, ScheduleFault, ScheduleKind};
 use dc_limits::ENTRIES;
 use dc_model::{Entry, Turn};
-use dc_words::{NumberFault, first_field, first_line, read_number};
+use dc_words::{NumberFault, first_field, first_line, first_number, read_number};
 use std::alloc::Global;
 
 /// A turn of a process below `n`, where the clock stood at `last`.
@@ -82,6 +85,47 @@ fn entry(stops: bool, n: u32, last: u64, line: &[u8]) -> Result<Entry, ScheduleK
     turn(n, last, first, second, third)
 }
 
+/// The greatest clock that is read with its line in one pass.
+const QUICK_CLOCK: u64 = (1 << 60) - 1;
+
+/// The turn that a text begins with, and what follows its line, where the line is whole and the turn may come. It is read in one pass.
+fn first_turn(n: u32, last: u64, text: &[u8]) -> Option<(Turn, &[u8])>
+    requires { 0 < n }
+    ensures { IfSome result (λ x. (text.now ≡ entry_text (entries.Turn x.0) ++ x.1.now) × IsEntry n last (entries.Turn x.0)) }
+{
+    let (p, rest) = first_number(b' ', u64::from(n - 1), text)?;
+    let (word, rest) = first_number(b' ', u64::from(u32::MAX), rest)?;
+    let (clock, rest) = first_number(b'\n', QUICK_CLOCK, rest)?;
+    if clock < last {
+        return None;
+    }
+    let turn = Turn {
+        p: p as u32,
+        word: word as u32,
+        clock,
+    };
+    Some((turn, rest))
+}
+
+/// The entry of the first line of a text that is not empty, and what follows the line.
+fn first_entry(stops: bool, n: u32, last: u64, text: &[u8]) -> Result<(Entry, &[u8]), ScheduleKind>
+    requires some { 0 < n }
+    requires line { 0 < length text.now }
+    ensures read { IfOk result (λ x. (number : ℕ) → number ≤ ENTRIES
+        → schedule_from stops n number last (lines_of text.now) ≡ with_front x.0 (schedule_from stops n (suc number) (clock_after last x.0) (lines_of x.1.now))) }
+    ensures shorter { IfOk result (λ x. length x.1.now < length text.now) }
+    ensures refused { (kind : Kinds) → IsErrOf result kind → (number : ℕ) → number ≤ ENTRIES → schedule_from stops n number last (lines_of text.now) ≡ Err (record { line = number; kind = kind }) }
+{
+    if let Some((turn, rest)) = first_turn(n, last, text) {
+        return Ok((Entry::Turn(turn), rest));
+    }
+    let (line, rest) = first_line(text);
+    match entry(stops, n, last, line) {
+        Ok(entry) => Ok((entry, rest)),
+        Err(kind) => Err(kind),
+    }
+}
+
 /// The clock after an entry, where it stood at `last`.
 fn clock_after(last: u64, entry: &Entry) -> u64
     ensures { result ≡ clock_after last entry.now }
@@ -107,18 +151,17 @@ fn read_entries(alloc: Global, stops: bool, text: &[u8], n: u32) -> Result<Vec<E
             let kind = ScheduleKind::TooMany;
             return Err(ReadError::Refused(ScheduleFault { line, kind }));
         }
-        let (first, after) = first_line(rest);
-        match entry(stops, n, last, first) {
+        match first_entry(stops, n, last, rest) {
             Err(kind) => return Err(ReadError::Refused(ScheduleFault { line, kind })),
-            Ok(entry) => {
+            Ok((entry, after)) => {
                 last = clock_after(last, &entry);
                 if entries.push(entry).is_err() {
                     return Err(ReadError::Memory);
                 }
+                rest = after;
             }
         }
         line += 1;
-        rest = after;
     }
     Ok(entries)
 }

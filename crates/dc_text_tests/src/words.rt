@@ -2,8 +2,8 @@ ghost use Rattle.std.specs.Prelude.{◌<◌, length};
 
 use crate::holding::holds;
 use dc_words::{
-    NotHex, NumberFault, bytes_of, first_field, first_line, hex_line, read_hex, read_number,
-    words_of,
+    NotHex, NumberFault, bytes_of, first_field, first_line, first_number, hex_line, read_hex,
+    read_number, words_of,
 };
 use std::alloc::Global;
 use std::test::Fail;
@@ -31,6 +31,31 @@ const TOO_GREAT: &str = "\
 4294967296 4294967295
 18446744073709551616 18446744073709551615
 340282366920938463463374607431768211457 18446744073709551615
+";
+
+/// Texts, each with the greatest number that may stand in front of a blank, and with what is read, if something is: the number, and what
+/// stands behind the blank.
+const FIRST_NUMBERS: &str = "\
+0 |0|0|
+0 0 104217|0|0|0 104217
+104217 x|104217|104217|x
+1152921504606846975  7|1152921504606846975|1152921504606846975| 7
+|9
+ 1|9
+1|9
+0|9
+00 |9
+01 |9
+0x |9
+1x |9
++1 |9
+/ |9
+: |9
+1 |0
+8 |7
+10 |9
+1152921504606846976 |1152921504606846975
+99999999999999999999 |1152921504606846975
 ";
 
 #[test]
@@ -115,6 +140,45 @@ fn what_is_no_number_is_refused() -> Result<(), Fail> {
             read_number(text.as_bytes(), 1000) == Err(NumberFault::NotNumber),
             text,
         )?;
+    }
+    Ok(())
+}
+
+fn is_first(row: &str) -> Result<(), Fail> {
+    let Some((text, told)) = row.split_once('|') else {
+        return Err(Fail::new(row));
+    };
+    let (max, told) = match told.split_once('|') {
+        Some((max, told)) => (max, Some(told)),
+        None => (told, None),
+    };
+    let max = max.parse::<u64>()?;
+    if max >= 1 << 60 {
+        return Err(Fail::new(row));
+    }
+    let read = first_number(b' ', max, text.as_bytes());
+    let Some(told) = told else {
+        return holds(read.is_none(), row);
+    };
+    has_read(read, told, row)
+}
+
+/// Fails where this is not what was read.
+fn has_read(read: Option<(u64, &[u8])>, told: &str, row: &str) -> Result<(), Fail> {
+    let Some((number, rest)) = told.split_once('|') else {
+        return Err(Fail::new(row));
+    };
+    let Some((value, after)) = read else {
+        return Err(Fail::new(row));
+    };
+    holds(value == number.parse::<u64>()?, row)?;
+    holds(after == rest.as_bytes(), row)
+}
+
+#[test]
+fn a_number_in_front_of_a_blank_is_read() -> Result<(), Fail> {
+    for row in FIRST_NUMBERS.lines() {
+        is_first(row)?;
     }
     Ok(())
 }

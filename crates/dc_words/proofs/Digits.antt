@@ -12,16 +12,16 @@ use Rattle.dc_words.specs.Numbers.{can_begin, is_digit, is_number, number_of, pa
 use Rattle.dc_words.specs.declared.numbers.NumberFault.TheVariants.{NotNumber, Range}
 
 -- digits only add to a value
-after_ge : (n : ℕ) (cs : List ℕ) → n ≤ digits_value_after 10 n cs
+pub after_ge : (n : ℕ) (cs : List ℕ) → n ≤ digits_value_after 10 n cs
 after_ge n [] = omega arith
 after_ge n (c ∷ cs) = let h = after_ge (n * 10 + digit_value c) cs in omega (arith, h)
 
 -- the value of a digit
-digit_is : (c : ℕ) → 48 ≤ c → c ≤ 57 → digit_value c ≡ c - 48
+pub digit_is : (c : ℕ) → 48 ≤ c → c ≤ 57 → digit_value c ≡ c - 48
 digit_is c low high = let h : digit_value c + 48 ≡ c = digit_value_digit c (low, high) in omega (arith, h)
 
 -- the first of some digits
-first_is : (c : ℕ) (cs : List ℕ) → list_all is_digit (c ∷ cs) ≡ true → (48 ≤ c) × (c ≤ 57)
+pub first_is : (c : ℕ) (cs : List ℕ) → list_all is_digit (c ∷ cs) ≡ true → (48 ≤ c) × (c ≤ 57)
 first_is c cs h = grind (arith, nat_tests)
 
 -- a number over the greatest is out of range

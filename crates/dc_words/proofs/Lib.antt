@@ -1,5 +1,6 @@
 mod Digits
 mod Finding
+mod Leading
 mod Spelling
 pub mod Bytes
 pub mod Splitting

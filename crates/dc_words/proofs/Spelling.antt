@@ -4,6 +4,7 @@ use Rattle.std.proofs.Common.{◌∷◌, length, get_or, nat_le, Ok, Err, if◌t
 use Rattle.std.specs.Char.{digit_value}
 use Rattle.std.specs.List.{list_all}
 use Rattle.std.specs.Str.Parse.{digits_value, AllDigits}
+use Rattle.std.proofs.Math.Bool.{or-true}
 use Rattle.std.proofs.lemmas.Bool.{and_parts, leb-true, le-leb, eq-eqb}
 use Rattle.std.proofs.lemmas.Bool.Decides.{nat_tests}
 use Rattle.std.proofs.lemmas.Str.{digit_value_digit}
@@ -63,14 +64,10 @@ digits_back (c ∷ cs) d = let b = digit_from_value c d.0 in rw (is_digit_from c
 number_from : (cs : List ℕ) → 0 < length cs → AllDigits 10 cs → (length cs ≡ 1) ⊎ (48 < get_or cs 0 0) → is_number cs ≡ true
 number_from [] some d first = absurd (omega arith)
 number_from (c ∷ cs) some d (inl one) = rw (digits_back (c ∷ cs) d, eq-eqb (length cs) 0 (omega (arith, one))) refl
-number_from (c ∷ cs) some d (inr later) = rw (digits_back (c ∷ cs) d, not_48 c later) (or_true (length cs == 0))
+number_from (c ∷ cs) some d (inr later) = rw (digits_back (c ∷ cs) d, not_48 c later) (or-true (length cs == 0))
   where
     not_48 : (c : ℕ) → 48 < c → (c == 48) ≡ false
     not_48 c h = grind (arith, nat_tests)
-
-    or_true : (b : Bool) → (b || true) ≡ true
-    or_true true = refl
-    or_true false = refl
 
 -- what is written is read again
 pub number_again : (max n : ℕ) → n ≤ max → n < 2 ^ 64 → number_of max (decimal n) ≡ Ok n

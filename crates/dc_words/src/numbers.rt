@@ -1,6 +1,6 @@
-ghost use Rattle.std.specs.Prelude.{◌≡◌, ◌≤◌, ◌+◌, ◌*◌, ◌-◌, ℕ, Ok, IfOk, SomeIff, decimal, true};
+ghost use Rattle.std.specs.Prelude.{◌≡◌, ◌≤◌, ◌<◌, ◌+◌, ◌*◌, ◌-◌, ◌^◌, ◌++◌, ◌∷◌, ℕ, List, None, Ok, Some, IfOk, IfSome, SomeIff, decimal, false, true};
 ghost use Rattle.std.specs.List.{list_all};
-ghost use Rattle.dc_words.specs.Numbers.{can_begin, is_digit, number_of, past_by};
+ghost use Rattle.dc_words.specs.Numbers.{can_begin, is_digit, number_of, past_by, value};
 
 use thiserror::Error;
 
@@ -89,4 +89,61 @@ fn number_in(text: &[u8], max: u64) -> Result<u64, NumberFault>
         rest = after;
     }
     Ok(value)
+}
+
+/// What stands behind that byte, where a text begins with it.
+fn behind(stop: u8, text: &[u8]) -> Option<&[u8]>
+    ensures some { IfSome result (λ rest. text.now ≡ stop ∷ rest.now) }
+    ensures none { result ≡ None → (rest : List ℕ) → text.now ≡ stop ∷ rest → ⊥ }
+{
+    match text {
+        [c, rest @ ..] if *c == stop => Some(rest),
+        _ => None,
+    }
+}
+
+/// The number of the digits up to that byte, and what stands behind the byte.
+fn number_up_to(stop: u8, max: u64, text: &[u8]) -> Option<(u64, &[u8])>
+    requires apart { is_digit stop ≡ false }
+    requires short { max < 2 ^ 60 }
+    ensures some { IfSome result (λ x. (digits : List ℕ) × (list_all is_digit digits ≡ true) × (text.now ≡ digits ++ stop ∷ x.1.now) × (value digits ≡ x.0) × (x.0 ≤ max)) }
+    ensures none { result ≡ None → (digits rest : List ℕ) → list_all is_digit digits ≡ true → value digits ≤ max → text.now ≡ digits ++ stop ∷ rest → ⊥ }
+{
+    let mut value: u64 = 0;
+    let mut rest = text;
+    while let [c, after @ ..] = rest {
+        if !is_digit(*c) {
+            return if *c == stop {
+                Some((value, after))
+            } else {
+                None
+            };
+        }
+        value = value * 10 + u64::from(*c - b'0');
+        if value > max {
+            return None;
+        }
+        rest = after;
+    }
+    None
+}
+
+/// The number that a text begins with, where it is up to a greatest one and that byte follows it, and what stands behind the byte. It is
+/// read in one pass.
+pub fn first_number(stop: u8, max: u64, text: &[u8]) -> Option<(u64, &[u8])>
+    requires apart { is_digit stop ≡ false }
+    requires short { max < 2 ^ 60 }
+    ensures some { IfSome result (λ x. (text.now ≡ decimal x.0 ++ stop ∷ x.1.now) × (x.0 ≤ max)) }
+    ensures none { result ≡ None → (n : ℕ) (rest : List ℕ) → n ≤ max → text.now ≡ decimal n ++ stop ∷ rest → ⊥ }
+{
+    let [c, after @ ..] = text else {
+        return None;
+    };
+    if *c == b'0' {
+        return Some((0, behind(stop, after)?));
+    }
+    if !is_digit(*c) {
+        return None;
+    }
+    number_up_to(stop, max, text)
 }
