@@ -5,7 +5,7 @@ ghost use Rattle.std.specs.List.{All};
 ghost use Rattle.dc_audit.specs.Journals.{IsOfSixteen};
 ghost use Rattle.dc_deeds.specs.Deeds.{Leaves};
 ghost use Rattle.dc_deeds.specs.Events.{HasReceiver, deed_lines, have_unlogged, lines_by};
-ghost use Rattle.dc_proc.specs.Ups.{IsFit, IsWhole, kernel_of};
+ghost use Rattle.dc_proc.specs.Ups.{IsFit, IsWhole};
 ghost use Rattle.dc_proc.specs.declared.up.Up.{Up as Ups};
 ghost use Rattle.dc_processes.specs.Answers.{HasCallRoom};
 ghost use Rattle.dc_processes.specs.Processes.{IsWell};
@@ -37,9 +37,9 @@ fn any_unlogged(processes: &Processes) -> bool
 /// Whether a call is a send for whose receiver as many messages are kept as there may be.
 fn is_blocked(up: &Up, call: Option<Call>) -> bool
     requires whole { IsWhole up.now }
-    requires receiver { HasReceiver (kernel_of up.now) call }
-    ensures blocked { result ≡ true → HasCallRoom (kernel_of up.now) call → ⊥ }
-    ensures room { result ≡ false → HasCallRoom (kernel_of up.now) call }
+    requires receiver { HasReceiver up.now.kernel call }
+    ensures blocked { result ≡ true → HasCallRoom up.now.kernel call → ⊥ }
+    ensures room { result ≡ false → HasCallRoom up.now.kernel call }
 {
     match call {
         Some(Call::Send(q, _, _)) => up.kernel().links().is_full(q),

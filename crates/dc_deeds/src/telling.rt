@@ -4,7 +4,7 @@ ghost use Rattle.std.specs.Prelude.{◌≡◌};
 ghost use Rattle.dc_deeds.specs.Events.{HasReceiver, deed_by, receipt_by, replays_at, sent_by};
 ghost use Rattle.dc_guest.specs.Answers.{answer_of};
 ghost use Rattle.dc_proc.specs.Events.{IsSender};
-ghost use Rattle.dc_proc.specs.Ups.{IsWhole, kernel_of};
+ghost use Rattle.dc_proc.specs.Ups.{IsWhole};
 ghost use Rattle.dc_recovery.specs.Parts.{sets_unlogged};
 ghost use Rattle.dc_savework.specs.Journal as journal;
 
@@ -40,8 +40,8 @@ fn told(chance: bool) -> Deed
 
 /// What a request for a message comes to: the message that answers it, under its number, or that there is none yet.
 fn receipt(up: &Up, answer: &Answer, chance: bool) -> Deed
-    requires sender { IsSender (kernel_of up.now) (answer_of answer.now) }
-    ensures { result ≡ receipt_by (kernel_of up.now) chance (answer_of answer.now) }
+    requires sender { IsSender up.now.kernel (answer_of answer.now) }
+    ensures { result ≡ receipt_by up.now.kernel chance (answer_of answer.now) }
 {
     match *answer {
         Answer::ReceiveFrom(sender, _) => {
@@ -54,8 +54,8 @@ fn receipt(up: &Up, answer: &Answer, chance: bool) -> Deed
 /// The message that a call sends, under its number.
 fn sent(up: &Up, call: Option<Call>) -> Option<Deed>
     requires whole { IsWhole up.now }
-    requires receiver { HasReceiver (kernel_of up.now) call }
-    ensures { result ≡ sent_by (kernel_of up.now) call }
+    requires receiver { HasReceiver up.now.kernel call }
+    ensures { result ≡ sent_by up.now.kernel call }
 {
     match call {
         Some(Call::Send(q, _, _)) => Some(Deed::Sends(q, up.kernel().links().sent(q))),
@@ -72,9 +72,9 @@ pub fn event_deed(
     chance: bool,
 ) -> Option<Deed>
     requires whole { IsWhole up.now }
-    requires receiver { HasReceiver (kernel_of up.now) call }
-    requires sender { IsSender (kernel_of up.now) (answer_of answer.now) }
-    ensures { result ≡ deed_by (kernel_of up.now) chance (answer_of answer.now) kind call }
+    requires receiver { HasReceiver up.now.kernel call }
+    requires sender { IsSender up.now.kernel (answer_of answer.now) }
+    ensures { result ≡ deed_by up.now.kernel chance (answer_of answer.now) kind call }
 {
     match kind {
         Kind::Internal => None,

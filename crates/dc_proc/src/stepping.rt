@@ -8,7 +8,6 @@ ghost use Rattle.dc_guest.specs.Nexts.{IfRetired, IfWaits, IsSameGuest, NextFits
 ghost use Rattle.dc_media.specs.Told.{Becomes};
 ghost use Rattle.dc_model.specs.Guests.Answer.{Plain};
 ghost use Rattle.dc_checkpoint.specs.Calls.{on};
-ghost use Rattle.dc_proc.specs.Ups.{guest_in, kernel_of, size_of};
 ghost use Rattle.dc_proc.specs.Calls.{Stores};
 ghost use Rattle.dc_proc.specs.Events.{HasNextRoom, HasRoom};
 ghost use Rattle.dc_recovery.specs.Parts.{may_store};
@@ -110,9 +109,9 @@ impl Up {
     pub fn next_call<C: Checkpoint>(&self, store: &C, dev: &C::Device) -> Option<Call>
         requires lent { C.lent store.now dev.now }
         requires ready { C.ready store.now dev.now }
-        requires sized { size_of self.now ≡ 4 * C.size store.now }
-        ensures exact { IfSome (C.contents store.now dev.now) (λ words. result ≡ called_by (next_of (over (guest_in self.now) words))) }
-        ensures fits { IfSome result (λ call. NextFits (4 * C.size store.now) (guest_in self.now).number (guest_in self.now).count (Next.Call call)) }
+        requires sized { self.now.size ≡ 4 * C.size store.now }
+        ensures exact { IfSome (C.contents store.now dev.now) (λ words. result ≡ called_by (next_of (over self.now.guest words))) }
+        ensures fits { IfSome result (λ call. NextFits (4 * C.size store.now) self.now.guest.number self.now.guest.count (Next.Call call)) }
     {
         let bus = Looked {
             store,
@@ -126,11 +125,11 @@ impl Up {
     pub fn next_kind<C: Checkpoint>(&self, store: &C, dev: &C::Device) -> Kind
         requires lent { C.lent store.now dev.now }
         requires ready { C.ready store.now dev.now }
-        requires sized { size_of self.now ≡ 4 * C.size store.now }
-        requires number { (guest_in self.now).number ≡ (kernel_of self.now).p }
-        requires count { (guest_in self.now).count ≡ (kernel_of self.now).n }
-        requires runs { (guest_in self.now).ended ≡ false }
-        ensures { IfSome (C.contents store.now dev.now) (λ words. result ≡ kind_of (next_of (over (guest_in self.now) words))) }
+        requires sized { self.now.size ≡ 4 * C.size store.now }
+        requires number { self.now.guest.number ≡ self.now.kernel.p }
+        requires count { self.now.guest.count ≡ self.now.kernel.n }
+        requires runs { self.now.guest.ended ≡ false }
+        ensures { IfSome (C.contents store.now dev.now) (λ words. result ≡ kind_of (next_of (over self.now.guest words))) }
     {
         // What comes is found by a guest that steps over a memory that stores nothing.
         let mut guest = Guest::at(self.kernel.p(), self.kernel.n(), *self.guest.regs(), false);
@@ -149,11 +148,11 @@ impl Up {
     pub fn is_full<C: Checkpoint>(&self, store: &C, dev: &C::Device) -> bool
         requires lent { C.lent store.now dev.now }
         requires ready { C.ready store.now dev.now }
-        requires sized { size_of self.now ≡ 4 * C.size store.now }
-        requires number { (guest_in self.now).number ≡ (kernel_of self.now).p }
-        requires count { (guest_in self.now).count ≡ (kernel_of self.now).n }
-        ensures room { result ≡ false → IfSome (C.contents store.now dev.now) (λ words. HasNextRoom (kernel_of self.now) (next_of (over (guest_in self.now) words))) }
-        ensures full { result ≡ true → IfSome (C.contents store.now dev.now) (λ words. HasNextRoom (kernel_of self.now) (next_of (over (guest_in self.now) words)) → ⊥) }
+        requires sized { self.now.size ≡ 4 * C.size store.now }
+        requires number { self.now.guest.number ≡ self.now.kernel.p }
+        requires count { self.now.guest.count ≡ self.now.kernel.n }
+        ensures room { result ≡ false → IfSome (C.contents store.now dev.now) (λ words. HasNextRoom self.now.kernel (next_of (over self.now.guest words))) }
+        ensures full { result ≡ true → IfSome (C.contents store.now dev.now) (λ words. HasNextRoom self.now.kernel (next_of (over self.now.guest words)) → ⊥) }
     {
         match self.next_call(store, dev) {
             Some(Call::Send(q, _, _)) => self.kernel.links().is_full(q),
@@ -165,8 +164,8 @@ impl Up {
     pub fn may_take<C: Checkpoint>(&self, answer: &Answer, store: &C, dev: &C::Device) -> bool
         requires lent { C.lent store.now dev.now }
         requires ready { C.ready store.now dev.now }
-        requires sized { size_of self.now ≡ 4 * C.size store.now }
-        ensures { IfSome (C.contents store.now dev.now) (λ words. result ≡ may_answer (answer_of answer.now) (kind_of (next_of (over (guest_in self.now) words)))) }
+        requires sized { self.now.size ≡ 4 * C.size store.now }
+        ensures { IfSome (C.contents store.now dev.now) (λ words. result ≡ may_answer (answer_of answer.now) (kind_of (next_of (over self.now.guest words)))) }
     {
         match self.next_call(store, dev) {
             Some(call) => answer.may_answer(Next::Call(call).kind()),

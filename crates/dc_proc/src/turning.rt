@@ -11,7 +11,7 @@ ghost use Rattle.dc_proc.specs.Carried.{process};
 ghost use Rattle.dc_proc.specs.Events.{HasCounts, HasCountsFor, HasNextReceiver, HasNextRoom, IsSender};
 ghost use Rattle.dc_proc.specs.Processes.{IsNumbered, IsPaired};
 ghost use Rattle.dc_proc.specs.Turns.{IsShown, StopsTurn, TakesTurn, acts_with, is_none, makes_eight, shown_of, since_of};
-ghost use Rattle.dc_proc.specs.Ups.{IsSameUp, IsWhole, guest_in, held, kernel_of, protocol_of, size_of};
+ghost use Rattle.dc_proc.specs.Ups.{IsSameUp, IsWhole, held};
 ghost use Rattle.dc_protocols.specs.Rules.{at_inputs, is_joint, rule_of};
 ghost use Rattle.dc_recovery.specs.Alone.{without_commits};
 
@@ -61,9 +61,8 @@ impl Up {
     /// What its protocol asks at an event of this kind that is answered so; `any` is what it does not know by itself: whether an
     /// unlogged nondeterministic event matters to it that some process had since its last commit.
     pub fn asked(&self, kind: Kind, answer: &Answer, any: bool) -> Rule
-        requires sender { IsSender (kernel_of self.now) (answer_of answer.now) }
-        requires whole { IsWhole self.now }
-        ensures { result ≡ rule_of (protocol_of self.now) kind (since_of self.now kind (answer_of answer.now) any) }
+        requires { IsSender self.now.kernel (answer_of answer.now) }
+        ensures { result ≡ rule_of self.now.protocol kind (since_of self.now kind (answer_of answer.now) any) }
     {
         let since = Since {
             unlogged: self.unlogged,
@@ -77,8 +76,7 @@ impl Up {
 
     /// What its protocol asks of the process itself: where all fall together, no commit.
     fn rule(&self, kind: Kind, answer: &Answer) -> Rule
-        requires sender { IsSender self.now.kernel (answer_of answer.now) }
-        requires whole { IsWhole self.now }
+        requires { IsSender self.now.kernel (answer_of answer.now) }
         ensures { result ≡ without_commits (is_joint self.now.protocol) (rule_of self.now.protocol kind (since_of self.now kind (answer_of answer.now) false)) }
     {
         let asked = self.asked(kind, answer, false);
@@ -204,15 +202,15 @@ impl Up {
     ) -> Result<Mark, CheckFault>
         requires lent { C.lent store.old dev.old }
         requires ready { C.ready store.old dev.old }
-        requires sized { size_of self.old ≡ 4 * C.size store.old }
+        requires sized { self.old.size ≡ 4 * C.size store.old }
         requires paired { IsPaired (held self.old) (C.form store.old) (C.number store.old) (C.logged store.old) }
         requires whole { IsWhole self.old }
-        requires runs { (guest_in self.old).ended ≡ false }
-        requires free { IfSome (C.contents store.old dev.old) (λ words. HasNextRoom (kernel_of self.old) (next_of (over (guest_in self.old) words))) }
-        requires kind { IfSome (C.contents store.old dev.old) (λ words. may_answer (answer_of answered.now.answer) (kind_of (next_of (over (guest_in self.old) words))) ≡ true) }
-        requires sender { IsSender (kernel_of self.old) (answer_of answered.now.answer) }
-        requires counts { HasCounts (kernel_of self.old) }
-        requires number { (kernel_of self.old).commit < 2 ^ 32 - 2 }
+        requires runs { self.old.guest.ended ≡ false }
+        requires free { IfSome (C.contents store.old dev.old) (λ words. HasNextRoom self.old.kernel (next_of (over self.old.guest words))) }
+        requires kind { IfSome (C.contents store.old dev.old) (λ words. may_answer (answer_of answered.now.answer) (kind_of (next_of (over self.old.guest words))) ≡ true) }
+        requires sender { IsSender self.old.kernel (answer_of answered.now.answer) }
+        requires counts { HasCounts self.old.kernel }
+        requires number { self.old.kernel.commit < 2 ^ 32 - 2 }
         requires room { length acts.old.items < acts.old.room }
         requires few { length acts.old.items < 2 ^ 32 - 1 }
         requires nothing { shown.old ≡ None }
@@ -220,22 +218,22 @@ impl Up {
         ensures ready { OnOk result (C.ready store.new dev.new) }
         ensures paired { OnOk result (IsPaired (held self.new) (C.form store.new) (C.number store.new) (C.logged store.new)) }
         ensures whole { IsWhole self.new }
-        ensures steady { is_joint (protocol_of self.old) ≡ true → C.steady store.old dev.old → C.steady store.new dev.new × AreAmong (C.numbers store.old dev.old) (C.numbers store.new dev.new) }
-        ensures uncommitted { is_joint (protocol_of self.old) ≡ true → OnOk result ((held self.new).kernel.commit ≡ (held self.old).kernel.commit) }
-        ensures narrows { is_joint (protocol_of self.old) ≡ true → Narrows (C.floor store.old) (C.leaves store.old dev.old) (C.leaves store.new dev.new) }
+        ensures steady { is_joint self.old.protocol ≡ true → C.steady store.old dev.old → C.steady store.new dev.new × AreAmong (C.numbers store.old dev.old) (C.numbers store.new dev.new) }
+        ensures uncommitted { is_joint self.old.protocol ≡ true → OnOk result ((held self.new).kernel.commit ≡ (held self.old).kernel.commit) }
+        ensures narrows { is_joint self.old.protocol ≡ true → Narrows (C.floor store.old) (C.leaves store.old dev.old) (C.leaves store.new dev.new) }
         ensures quiet { OnOk result ((held self.new).kernel.commit ≡ (held self.old).kernel.commit → (held self.new).based ≡ (held self.old).based) }
-        ensures counts { OnOk result ((turns : ℕ) → HasCountsFor (turns + 1) (kernel_of self.old) → HasCountsFor turns (kernel_of self.new)) }
-        ensures numbered { (d most : ℕ) → C.floor store.old ≤ d → (kernel_of self.old).commit ≤ most → IsNumbered most (C.leaves store.old dev.old d) → IsNumbered (most + 2) (C.leaves store.new dev.new d) }
+        ensures counts { OnOk result ((turns : ℕ) → HasCountsFor (turns + 1) self.old.kernel → HasCountsFor turns self.new.kernel) }
+        ensures numbered { (d most : ℕ) → C.floor store.old ≤ d → self.old.kernel.commit ≤ most → IsNumbered most (C.leaves store.old dev.old d) → IsNumbered (most + 2) (C.leaves store.new dev.new d) }
         ensures same { IsSameUp self.old self.new }
         ensures room { acts.old.room ≤ acts.new.room }
         ensures grown { length acts.new.items ≤ length acts.old.items + 1 }
-        ensures goes { OnOk result (TakesTurn C.Checkpoint (protocol_of self.old) (answer_of answered.now.answer) (process store.old dev.old (held self.old)) (process store.new dev.new (held self.new))) }
-        ensures acts { OnOk result (IfSome (C.contents store.old dev.old) (λ words. acts.new.items ≡ acts_with acts.old.items (kernel_of self.old) answered.now.t (answer_of answered.now.answer))) }
-        ensures showed { IfOk result (λ mark. IsShown (kernel_of self.old).p mark shown.new (λ done. IfSome (C.contents store.old dev.old) (λ words. done ≡ shown_of (effect_of (event_of (next_of (over (guest_in self.old) words)) (machine_over (guest_in self.old) words))) (kernel_of self.old).visible))) }
+        ensures goes { OnOk result (TakesTurn C.Checkpoint self.old.protocol (answer_of answered.now.answer) (process store.old dev.old (held self.old)) (process store.new dev.new (held self.new))) }
+        ensures acts { OnOk result (IfSome (C.contents store.old dev.old) (λ words. acts.new.items ≡ acts_with acts.old.items self.old.kernel answered.now.t (answer_of answered.now.answer))) }
+        ensures showed { IfOk result (λ mark. IsShown self.old.kernel.p mark shown.new (λ done. IfSome (C.contents store.old dev.old) (λ words. done ≡ shown_of (effect_of (event_of (next_of (over self.old.guest words)) (machine_over self.old.guest words))) self.old.kernel.visible))) }
         ensures unshown { OnErr result (shown.new ≡ None) }
-        ensures stopped { OnErr result (StopsTurn C.Checkpoint (protocol_of self.old) (answer_of answered.now.answer) (process store.old dev.old (held self.old)) (process store.new dev.new (held self.new)) (record {
+        ensures stopped { OnErr result (StopsTurn C.Checkpoint self.old.protocol (answer_of answered.now.answer) (process store.old dev.old (held self.old)) (process store.new dev.new (held self.new)) (record {
           before = acts.old.items;
-          more = acts_with acts.old.items (kernel_of self.old) answered.now.t (answer_of answered.now.answer);
+          more = acts_with acts.old.items self.old.kernel answered.now.t (answer_of answered.now.answer);
           after = acts.new.items;
         })) }
     {

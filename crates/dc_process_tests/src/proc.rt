@@ -2,7 +2,6 @@
 
 ghost use Rattle.std.specs.Prelude.{◌≡◌, ◌*◌, ◌<◌, ◌≤◌, IfOk, IfSome, length};
 ghost use Rattle.dc_elf.specs.Loaded.{CanStart};
-ghost use Rattle.dc_proc.specs.Downs.{IsDown};
 ghost use Rattle.dc_proc.specs.Ups.{IsFit};
 
 mod messages;
@@ -155,9 +154,8 @@ fn rise<C: Checkpoint>(
     course: &mut Course,
 ) -> Option<Up>
     requires lent { C.lent store.old dev.old }
-    requires of { (down.saved.kernel.n ≡ (C.form store.old).n) × (down.saved.kernel.p ≡ (C.form store.old).p) }
+    requires of { (down.n ≡ (C.form store.old).n) × (down.p ≡ (C.form store.old).p) }
     requires sized { down.size ≡ 4 * C.size store.old }
-    requires down { IsDown down }
     ensures fit { IfSome result (λ up. IsFit C.Checkpoint up store.new dev.new) }
 {
     let Ok(up) = down.recover(store, dev) else {

@@ -163,7 +163,7 @@ module _ {C D : Type 0} (g : checkpoint.Ghosts C D) (laws : Laws g) (images : Li
   here : IsAt S p (own p c.acts) (c.procs p) words (held u0)
   here = here_going g S c old go world p inside c0 at0 u0 slot0 words told0
 
-  known : (q : ℕ) → q < S.guests.count → slice_index u0.others.items q ≡ others_of S.guests c p q
+  known : (q : ℕ) → q < S.guests.count → slice_index u0.others q ≡ others_of S.guests c p q
   known q less = known_going g S c old go world p inside c0 at0 u0 slot0 words told0 q less
 
   -- under a decided number the floor of its store is no higher
@@ -200,11 +200,11 @@ module _ {C D : Type 0} (g : checkpoint.Ghosts C D) (laws : Laws g) (images : Li
         (subst (λ ds. IsAt S p ds (status_alone S p (own p c.acts) (c.procs p) a Nowhere) words1 (held u1)) (sym more_is)
         (subst (λ o. IsProcess S p more (status_alone S p (own p c.acts) (c.procs p) a Nowhere) o (held u1)) told1 over_next.process))
 
-    module _ (slot1 : slot_at new.slots p ≡ Some (Up u1)) (slots_same : (q : ℕ) → q ≢ p → slot_at new.slots q ≡ slot_at old.slots q) (others_same : u1.others.items ≡ u0.others.items) where
+    module _ (slot1 : slot_at new.slots p ≡ Some (Up u1)) (slots_same : (q : ℕ) → q ≢ p → slot_at new.slots q ≡ slot_at old.slots q) (others_same : u1.others ≡ u0.others) where
       abbrev u : Seen
       u = record { words = words1; held = held u1 }
 
-      known_next : (q : ℕ) → q < S.guests.count → slice_index u1.others.items q ≡ others_of S.guests d p q
+      known_next : (q : ℕ) → q < S.guests.count → slice_index u1.others q ≡ others_of S.guests d p q
       known_next q less = ap (λ xs. slice_index xs q) others_same ∙ known q less ∙ sym (learned_still S t c go p a q p)
 
       seen_self : (x : Seen) → x ≡ seen_of g new p → x.words ≡ words1 → x.held ≡ held u1 → HasLearned S.guests.count (others_of S.guests d p) u x

@@ -96,10 +96,10 @@ module _ {C D : Type 0} (g : checkpoint.Ghosts C D) (images : List Image) (c : C
 
   -- what the code finds
   abbrev found : Answer → Kind → Bool → Since
-  found a k b = record { unlogged = u.unlogged; any = b; full = nat_eq u.log_left 0; eighth = makes_eight u.kernel.received u.based.items a; replay = at_inputs k && not (is_none (held u).unread) }
+  found a k b = record { unlogged = u.unlogged; any = b; full = nat_eq u.log_left 0; eighth = makes_eight u.kernel.received u.based a; replay = at_inputs k && not (is_none (held u).unread) }
 
   pub asked_at : (whole : IsWhole u) (runs : u.guest.ended ≡ false) (a : Answer) (sender : IsSender u.kernel a) (kind : Kind) → kind ≡ kind_of (next_of (over u.guest words)) → (any : Bool) → any ≡ have_unlogged x.slots → (rule : Rule) → u.protocol ≡ x.protocol
-      → rule ≡ rule_of u.protocol kind (record { unlogged = u.unlogged; any = any; full = nat_eq u.log_left 0; eighth = makes_eight u.kernel.received u.based.items a; replay = at_inputs kind && not (is_none (held u).unread) })
+      → rule ≡ rule_of u.protocol kind (record { unlogged = u.unlogged; any = any; full = nat_eq u.log_left 0; eighth = makes_eight u.kernel.received u.based a; replay = at_inputs kind && not (is_none (held u).unread) })
       → rule ≡ rule_at S c p a
   asked_at whole runs a sender kind kind_is any any_is rule protocol rule_is = rule_is
       ∙ ap (λ pr. rule_of pr kind (found a kind any)) protocol

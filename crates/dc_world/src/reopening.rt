@@ -9,7 +9,6 @@ ghost use Rattle.dc_kernel.specs.Kernels.{IsKernel};
 ghost use Rattle.dc_media.specs.Causes.{Rose};
 ghost use Rattle.dc_model.specs.FailureFree.{run};
 ghost use Rattle.dc_model.specs.declared.visible.Visible.{Visible as Visibles};
-ghost use Rattle.dc_proc.specs.Downs.{IsDown, based_of};
 ghost use Rattle.dc_proc.specs.Downs.{IsOf as IsDownOf};
 ghost use Rattle.dc_processes.specs.Stages.{IsWorld, KeepsTelling, stage_of};
 ghost use Rattle.dc_protocols.specs.Rules.{is_causal};
@@ -118,8 +117,7 @@ fn down_at<C: Checkpoint>(
     requires kernel { IsKernel n p saved.old.kernel }
     requires log { length saved.old.log.items ≤ LOGGED_EVENTS }
     requires room { LOGGED_EVENTS ≤ vec_capacity saved.old.log }
-    ensures based { IfOk result (λ down. (s : ℕ) → s < n → slice_index (based_of down) s ≡ slice_index saved.old.kernel.received s) }
-    ensures down { IfOk result IsDown }
+    ensures based { IfOk result (λ down. (s : ℕ) → s < n → slice_index down.based s ≡ slice_index saved.old.kernel.received s) }
     ensures of { IfOk result (IsDownOf n p protocol (length image.now.memory.items)) }
     ensures falls { OnOk result (FallsStore (showing_of C.Checkpoint) store.old store.new) }
 {

@@ -167,13 +167,13 @@ returns-in-Err-clause-fell g c stores at index images schedule core words alone 
     let alone_is = alone_given g.C.Checkpoint S schedule c.args.processes.now.entries core now old world p c.args.store.now at u0 there inside words told_old a given in
     let called = told_at (λ ws. c.args.call ≡ called_by (next_of (over u0.guest ws))) (g.C.Checkpoint.contents c.args.store.now c.args.dev.now) words told_old c.requires.next.found in
     let acts_fall : c.fall.new.processes.acts.items ≡ c.take_in.new.acts.items = ap (λ (w : Processes). w.acts.items) c.fall.ensures.rest in
-    let stopped : IsStopped S (record { p = p; answers = own p core.acts; st = core.procs p }) a (slice_index u0.others.items) (g.C.Checkpoint.leaves c.take_in.new.store c.take_in.new.dev 0)
-    (record { before = c.args.processes.now.acts.items; more = acts_with c.args.processes.now.acts.items u0.kernel c.args.processes.now.entries a; after = c.take_in.new.acts.items }) u1.based.items =
+    let stopped : IsStopped S (record { p = p; answers = own p core.acts; st = core.procs p }) a (slice_index u0.others) (g.C.Checkpoint.leaves c.take_in.new.store c.take_in.new.dev 0)
+    (record { before = c.args.processes.now.acts.items; more = acts_with c.args.processes.now.acts.items u0.kernel c.args.processes.now.entries a; after = c.take_in.new.acts.items }) u1.based =
     subst (λ q. StopsTurn g.C.Checkpoint q a (process c.args.store.now c.args.dev.now (held u0)) (process c.take_in.new.store c.take_in.new.dev (held u1))
     (record { before = c.args.processes.now.acts.items; more = acts_with c.args.processes.now.acts.items u0.kernel c.args.processes.now.entries a; after = c.take_in.new.acts.items })) of.3 t.stopped
     images inputs p (own p core.acts) (core.procs p) 0 words c.requires.next.floor told_old is_in alone_is in
-    let down : IsStopped S (record { p = p; answers = own p core.acts; st = core.procs p }) a (slice_index u0.others.items) (g.C.Checkpoint.leaves c.fall.new.store c.take_in.new.dev 0)
-    (record { before = c.args.processes.now.acts.items; more = acts_with c.args.processes.now.acts.items u0.kernel c.args.processes.now.entries a; after = c.fall.new.processes.acts.items }) u1.based.items = record {
+    let down : IsStopped S (record { p = p; answers = own p core.acts; st = core.procs p }) a (slice_index u0.others) (g.C.Checkpoint.leaves c.fall.new.store c.take_in.new.dev 0)
+    (record { before = c.args.processes.now.acts.items; more = acts_with c.args.processes.now.acts.items u0.kernel c.args.processes.now.entries a; after = c.fall.new.processes.acts.items }) u1.based = record {
       place = stopped.place;
       somewhere = stopped.somewhere;
       may = stopped.may;
@@ -184,7 +184,7 @@ returns-in-Err-clause-fell g c stores at index images schedule core words alone 
       stopped.place,
       stopped.somewhere,
       stopped.may,
-      world_stopped g.C.Checkpoint laws images inputs pr alone schedule c.args.processes.now.entries core now old new world p inside c.args.store.now c.fall.new.store at u0 there words told_old a given u1.based.items down
+      world_stopped g.C.Checkpoint laws images inputs pr alone schedule c.args.processes.now.entries core now old new world p inside c.args.store.now c.fall.new.store at u0 there words told_old a given u1.based down
           refl index c.in-Err.ensures.call.touches.others c.fall.ensures.falls.down
           (c.fall.ensures.falls.based_same ∙ ap based_in (still_there slots0 (slice_set slots0 p c.take_in.new.slot) c.fall.new.processes.slots.items p u1 c.requires.process put_is))
           (hears_fallen slots0 (slice_set slots0 p c.take_in.new.slot) c.fall.new.processes.slots.items p u1 c.requires.process put_is c.fall.ensures.learns)

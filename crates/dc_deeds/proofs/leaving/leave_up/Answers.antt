@@ -47,8 +47,8 @@ returns-then-is_blocked-clause-left g c stores at index images schedule core tol
 pub answer-answer-requires-clause-of : goal.answer-answer-requires-clause-of
 answer-answer-requires-clause-of g c = c.requires.well.each c.args.turn.now.p (Up c.args.up.now) c.requires.process c.requires.there
 
-pub asked-asked-requires-clause-sender : goal.asked-asked-requires-clause-sender
-asked-asked-requires-clause-sender g c =
+pub asked-asked-requires : goal.asked-asked-requires
+asked-asked-requires g c =
     let of : IsOf c.args.processes.now.protocol (length c.args.processes.now.slots.items) c.args.turn.now.p (Up c.args.up.now) = c.requires.well.each c.args.turn.now.p (Up c.args.up.now) c.requires.process c.requires.there in
     sender_is c.args.up.now.kernel (length c.args.processes.now.slots.items) c.args.turn.now.p of.1 of.2 (answer_of c.answer-answer.result) c.answer-answer.ensures.sender
 

@@ -34,7 +34,7 @@ commit_if-requires-2-clause-whole g c = whole_next c.append_if.new.self c.note_e
 
 pub returns-clause-acts : goal.returns-clause-acts
 returns-clause-acts g c = c.add_act.ensures.acts ∙ acts_same c.args.acts.now.items c.args.self.now.kernel c.commit_if.new.self.kernel c.args.answered.now.t (answer_of c.args.answered.now.answer)
-    (commit_bare c.rule-asked.result.before c.args.self.now c.commit_if.new.self c.commit_if.new.self.based.items c.in_ok-commit_if.ensures.held c.in_ok-commit_if.ensures.kept)
+    (commit_bare c.rule-asked.result.before c.args.self.now c.commit_if.new.self c.commit_if.new.self.based c.in_ok-commit_if.ensures.held c.in_ok-commit_if.ensures.kept)
 
 pub returns-in_err-append_if-clause-call : goal.returns-in_err-append_if-clause-call
 returns-in_err-append_if-clause-call g c = let laws : DeviceLaws g.C.Checkpoint = record {
@@ -83,15 +83,15 @@ returns-clause-showed g c = record {
   mark_is = c.hand_on.ensures.mark;
   shown_is = c.hand_on.ensures.shown ∙ ap (λ q. visible_shown q c.note_event-done.result) (search rules);
   showed = shown_here _ c.args.next.now c.effect-effect.result c.args.self.now.guest c.args.self.now.kernel c.append_if.new.self.kernel _ c.effect-effect.ensures.effect
-      (append_kernel c.rule-asked.result.log c.commit_if.new.self c.append_if.new.self _ c.in_ok-append_if.ensures.held c.in_ok-append_if.ensures.kept ∙ commit_bare c.rule-asked.result.before c.args.self.now c.commit_if.new.self c.commit_if.new.self.based.items c.in_ok-commit_if.ensures.held c.in_ok-commit_if.ensures.kept) (search rules);
+      (append_kernel c.rule-asked.result.log c.commit_if.new.self c.append_if.new.self _ c.in_ok-append_if.ensures.held c.in_ok-append_if.ensures.kept ∙ commit_bare c.rule-asked.result.before c.args.self.now c.commit_if.new.self c.commit_if.new.self.based c.in_ok-commit_if.ensures.held c.in_ok-commit_if.ensures.kept) (search rules);
 }
 
 pub returns-in_err-commit_if-clause-stopped : goal.returns-in_err-commit_if-clause-stopped
 returns-in_err-commit_if-clause-stopped g c = any_err c.from_residual.result (λ images inputs p answers st d words from told stood alone.
     let here : IsAt (system images inputs c.args.self.now.protocol) p answers st words (held c.args.self.now) = told_at (λ ws. IsAt (system images inputs c.args.self.now.protocol) p answers st ws (held c.args.self.now)) (g.C.Checkpoint.contents c.args.store.now c.args.dev.now) words told stood.process in
     let found : c.args.next.now ≡ next_of (over c.args.self.now.guest words) = told_at (λ ws. c.args.next.now ≡ next_of (over c.args.self.now.guest ws)) (g.C.Checkpoint.contents c.args.store.now c.args.dev.now) words told c.requires.found in
-    stopped_before images inputs c.args.self.now.protocol p answers st (answer_of c.args.answered.now.answer) words c.args.self.now c.requires.whole here c.requires.runs stood.going c.requires.sender c.args.next.now c.kind-kind.result c.rule-asked.result c.replays-replay.result found c.kind-kind.ensures c.rule-asked.ensures c.replays-replay.ensures (slice_index c.args.self.now.others.items) (g.C.Checkpoint.leaves c.commit_if.new.store c.commit_if.new.dev d) (record { before = c.args.acts.now.items; more = acts_with c.args.acts.now.items c.args.self.now.kernel c.args.answered.now.t (answer_of c.args.answered.now.answer); after = c.args.acts.now.items }) c.commit_if.new.self.based.items c.in_err-commit_if.ensures.due (c.in_err-commit_if.ensures.torn images inputs c.args.self.now.protocol p answers st d from stood) refl
-    (now_based (system images inputs c.args.self.now.protocol) p answers st (answer_of c.args.answered.now.answer) words (held c.args.self.now) here stood.going c.commit_if.new.self.based.items c.in_err-commit_if.ensures.based))
+    stopped_before images inputs c.args.self.now.protocol p answers st (answer_of c.args.answered.now.answer) words c.args.self.now c.requires.whole here c.requires.runs stood.going c.requires.sender c.args.next.now c.kind-kind.result c.rule-asked.result c.replays-replay.result found c.kind-kind.ensures c.rule-asked.ensures c.replays-replay.ensures (slice_index c.args.self.now.others) (g.C.Checkpoint.leaves c.commit_if.new.store c.commit_if.new.dev d) (record { before = c.args.acts.now.items; more = acts_with c.args.acts.now.items c.args.self.now.kernel c.args.answered.now.t (answer_of c.args.answered.now.answer); after = c.args.acts.now.items }) c.commit_if.new.self.based c.in_err-commit_if.ensures.due (c.in_err-commit_if.ensures.torn images inputs c.args.self.now.protocol p answers st d from stood) refl
+    (now_based (system images inputs c.args.self.now.protocol) p answers st (answer_of c.args.answered.now.answer) words (held c.args.self.now) here stood.going c.commit_if.new.self.based c.in_err-commit_if.ensures.based))
 
 pub returns-in_err-append_if-clause-stopped : goal.returns-in_err-append_if-clause-stopped
 returns-in_err-append_if-clause-stopped g c = any_err c.from_residual-in_err-append_if.result (λ images inputs p answers st d words from told stood alone.
@@ -99,16 +99,16 @@ returns-in_err-append_if-clause-stopped g c = any_err c.from_residual-in_err-app
     let found : c.args.next.now ≡ next_of (over c.args.self.now.guest words) = told_at (λ ws. c.args.next.now ≡ next_of (over c.args.self.now.guest ws)) (g.C.Checkpoint.contents c.args.store.now c.args.dev.now) words told c.requires.found in
     let over1 = over_added (system images inputs c.args.self.now.protocol) p answers st (first_of c.rule-asked.result.before st) (answer_of c.args.answered.now.answer) (g.C.Checkpoint.contents c.commit_if.new.store c.commit_if.new.dev) (held c.commit_if.new.self) (g.C.Checkpoint.leaves c.commit_if.new.store c.commit_if.new.dev d) (c.in_ok-commit_if.ensures.goes images inputs c.args.self.now.protocol p answers st d from stood) in
     let from1 : g.C.Checkpoint.floor c.commit_if.new.store ≤ d = omega (arith, from, c.in_ok-commit_if.ensures.call.floor) in
-    let bare1 = commit_bare c.rule-asked.result.before c.args.self.now c.commit_if.new.self c.commit_if.new.self.based.items c.in_ok-commit_if.ensures.held c.in_ok-commit_if.ensures.kept in
+    let bare1 = commit_bare c.rule-asked.result.before c.args.self.now c.commit_if.new.self c.commit_if.new.self.based c.in_ok-commit_if.ensures.held c.in_ok-commit_if.ensures.kept in
     let kinds : may_answer (answer_of c.args.answered.now.answer) c.kind-kind.result ≡ true = subst (λ k. may_answer (answer_of c.args.answered.now.answer) k ≡ true) (sym c.kind-kind.ensures) (told_at (λ ws. may_answer (answer_of c.args.answered.now.answer) (kind_of c.args.next.now) ≡ true) (g.C.Checkpoint.contents c.args.store.now c.args.dev.now) words told c.requires.kind) in
     let logs : c.rule-asked.result.log ≡ true → logged_of c.record_of-rec.result ≡ (record { position = st.position; answer = (answer_of c.args.answered.now.answer) }) = λ due. c.record_of-rec.ensures.logged c.kind-kind.result (log_at_inputs c.args.self.now.protocol c.kind-kind.result (since_of c.args.self.now c.kind-kind.result (answer_of c.args.answered.now.answer) false) c.rule-asked.result c.rule-asked.ensures due) kinds
     ∙ ap (λ i. record { position = i; answer = (answer_of c.args.answered.now.answer) }) (ap (λ (k : Kernel). k.position) bare1 ∙ here.kernel_is.position) in
-    stopped_log images inputs c.args.self.now.protocol p answers st (answer_of c.args.answered.now.answer) words c.args.self.now c.requires.whole here c.requires.runs stood.going c.requires.sender c.args.next.now c.kind-kind.result c.rule-asked.result c.replays-replay.result found c.kind-kind.ensures c.rule-asked.ensures c.replays-replay.ensures (slice_index c.args.self.now.others.items) (g.C.Checkpoint.leaves c.append_if.new.store c.append_if.new.dev d) (record { before = c.args.acts.now.items; more = acts_with c.args.acts.now.items c.args.self.now.kernel c.args.answered.now.t (answer_of c.args.answered.now.answer); after = c.add_act.new.acts.items }) c.append_if.new.self.based.items c.in_err-append_if.ensures.due
-    (stands_as (system images inputs c.args.self.now.protocol) p (answers_alone answers st (answer_of c.args.answered.now.answer) Nowhere) (torn_log (record { position = st.position; answer = (answer_of c.args.answered.now.answer) }) (first_of c.rule-asked.result.before st)) (g.C.Checkpoint.leaves c.append_if.new.store c.append_if.new.dev d) c.commit_if.new.self.others.items c.args.self.now.others.items c.in_ok-commit_if.ensures.same.others_same
-    (subst (λ y. Stands (system images inputs c.args.self.now.protocol).guests p (answers_alone answers st (answer_of c.args.answered.now.answer) Nowhere) (slice_index c.commit_if.new.self.others.items) (torn_log y (first_of c.rule-asked.result.before st)) (g.C.Checkpoint.leaves c.append_if.new.store c.append_if.new.dev d)) (logs c.in_err-append_if.ensures.due) (c.in_err-append_if.ensures.torn images inputs c.args.self.now.protocol p (answers_alone answers st (answer_of c.args.answered.now.answer) Nowhere) (first_of c.rule-asked.result.before st) d from1 over1)))
+    stopped_log images inputs c.args.self.now.protocol p answers st (answer_of c.args.answered.now.answer) words c.args.self.now c.requires.whole here c.requires.runs stood.going c.requires.sender c.args.next.now c.kind-kind.result c.rule-asked.result c.replays-replay.result found c.kind-kind.ensures c.rule-asked.ensures c.replays-replay.ensures (slice_index c.args.self.now.others) (g.C.Checkpoint.leaves c.append_if.new.store c.append_if.new.dev d) (record { before = c.args.acts.now.items; more = acts_with c.args.acts.now.items c.args.self.now.kernel c.args.answered.now.t (answer_of c.args.answered.now.answer); after = c.add_act.new.acts.items }) c.append_if.new.self.based c.in_err-append_if.ensures.due
+    (stands_as (system images inputs c.args.self.now.protocol) p (answers_alone answers st (answer_of c.args.answered.now.answer) Nowhere) (torn_log (record { position = st.position; answer = (answer_of c.args.answered.now.answer) }) (first_of c.rule-asked.result.before st)) (g.C.Checkpoint.leaves c.append_if.new.store c.append_if.new.dev d) c.commit_if.new.self.others c.args.self.now.others c.in_ok-commit_if.ensures.same.others_same
+    (subst (λ y. Stands (system images inputs c.args.self.now.protocol).guests p (answers_alone answers st (answer_of c.args.answered.now.answer) Nowhere) (slice_index c.commit_if.new.self.others) (torn_log y (first_of c.rule-asked.result.before st)) (g.C.Checkpoint.leaves c.append_if.new.store c.append_if.new.dev d)) (logs c.in_err-append_if.ensures.due) (c.in_err-append_if.ensures.torn images inputs c.args.self.now.protocol p (answers_alone answers st (answer_of c.args.answered.now.answer) Nowhere) (first_of c.rule-asked.result.before st) d from1 over1)))
     (c.add_act.ensures.acts ∙ acts_same c.args.acts.now.items c.args.self.now.kernel c.commit_if.new.self.kernel c.args.answered.now.t (answer_of c.args.answered.now.answer) bare1)
-    (parts_based (system images inputs c.args.self.now.protocol) p answers st (answer_of c.args.answered.now.answer) words (held c.args.self.now) here stood.going c.rule-asked.result.before false (record { position = st.position; answer = (answer_of c.args.answered.now.answer) }) c.append_if.new.self.based.items c.commit_if.new.self.based.items
-    c.in_ok-commit_if.ensures.copied (λ f. ap (λ (u : Up). u.based.items) (c.in_ok-commit_if.ensures.kept f)) c.append_if.ensures.based))
+    (parts_based (system images inputs c.args.self.now.protocol) p answers st (answer_of c.args.answered.now.answer) words (held c.args.self.now) here stood.going c.rule-asked.result.before false (record { position = st.position; answer = (answer_of c.args.answered.now.answer) }) c.append_if.new.self.based c.commit_if.new.self.based
+    c.in_ok-commit_if.ensures.copied (λ f. ap (λ (u : Up). u.based) (c.in_ok-commit_if.ensures.kept f)) c.append_if.ensures.based))
 
 pub returns-in_err-advance-clause-stopped : goal.returns-in_err-advance-clause-stopped
 returns-in_err-advance-clause-stopped g c = any_err c.from_residual-in_err-advance.result (λ images inputs p answers st d words from told stood alone.
@@ -116,19 +116,19 @@ returns-in_err-advance-clause-stopped g c = any_err c.from_residual-in_err-advan
     let found : c.args.next.now ≡ next_of (over c.args.self.now.guest words) = told_at (λ ws. c.args.next.now ≡ next_of (over c.args.self.now.guest ws)) (g.C.Checkpoint.contents c.args.store.now c.args.dev.now) words told c.requires.found in
     let over1 = over_added (system images inputs c.args.self.now.protocol) p answers st (first_of c.rule-asked.result.before st) (answer_of c.args.answered.now.answer) (g.C.Checkpoint.contents c.commit_if.new.store c.commit_if.new.dev) (held c.commit_if.new.self) (g.C.Checkpoint.leaves c.commit_if.new.store c.commit_if.new.dev d) (c.in_ok-commit_if.ensures.goes images inputs c.args.self.now.protocol p answers st d from stood) in
     let from1 : g.C.Checkpoint.floor c.commit_if.new.store ≤ d = omega (arith, from, c.in_ok-commit_if.ensures.call.floor) in
-    let bare1 = commit_bare c.rule-asked.result.before c.args.self.now c.commit_if.new.self c.commit_if.new.self.based.items c.in_ok-commit_if.ensures.held c.in_ok-commit_if.ensures.kept in
+    let bare1 = commit_bare c.rule-asked.result.before c.args.self.now c.commit_if.new.self c.commit_if.new.self.based c.in_ok-commit_if.ensures.held c.in_ok-commit_if.ensures.kept in
     let kinds : may_answer (answer_of c.args.answered.now.answer) c.kind-kind.result ≡ true = subst (λ k. may_answer (answer_of c.args.answered.now.answer) k ≡ true) (sym c.kind-kind.ensures) (told_at (λ ws. may_answer (answer_of c.args.answered.now.answer) (kind_of c.args.next.now) ≡ true) (g.C.Checkpoint.contents c.args.store.now c.args.dev.now) words told c.requires.kind) in
     let logs : c.rule-asked.result.log ≡ true → logged_of c.record_of-rec.result ≡ (record { position = st.position; answer = (answer_of c.args.answered.now.answer) }) = λ due. c.record_of-rec.ensures.logged c.kind-kind.result (log_at_inputs c.args.self.now.protocol c.kind-kind.result (since_of c.args.self.now c.kind-kind.result (answer_of c.args.answered.now.answer) false) c.rule-asked.result c.rule-asked.ensures due) kinds
     ∙ ap (λ i. record { position = i; answer = (answer_of c.args.answered.now.answer) }) (ap (λ (k : Kernel). k.position) bare1 ∙ here.kernel_is.position) in
     let over2 = over_as (system images inputs c.args.self.now.protocol) p (answers_alone answers st (answer_of c.args.answered.now.answer) Nowhere) (g.C.Checkpoint.contents c.append_if.new.store c.append_if.new.dev) (held c.append_if.new.self) (g.C.Checkpoint.leaves c.append_if.new.store c.append_if.new.dev d) (second_of c.rule-asked.result.log (logged_of c.record_of-rec.result) (first_of c.rule-asked.result.before st)) (second_of c.rule-asked.result.log (record { position = st.position; answer = (answer_of c.args.answered.now.answer) }) (first_of c.rule-asked.result.before st)) (record_is c.rule-asked.result.log (logged_of c.record_of-rec.result) (record { position = st.position; answer = (answer_of c.args.answered.now.answer) }) (first_of c.rule-asked.result.before st) logs)
     (c.in_ok-append_if.ensures.goes images inputs c.args.self.now.protocol p (answers_alone answers st (answer_of c.args.answered.now.answer) Nowhere) (first_of c.rule-asked.result.before st) d from1 over1) in
     let from2 : g.C.Checkpoint.floor c.append_if.new.store ≤ d = omega (arith, from1, c.in_ok-append_if.ensures.call.floor) in
-    stopped_event images inputs c.args.self.now.protocol p answers st (answer_of c.args.answered.now.answer) words c.args.self.now c.requires.whole here c.requires.runs stood.going c.requires.sender c.args.next.now c.kind-kind.result c.rule-asked.result c.replays-replay.result found c.kind-kind.ensures c.rule-asked.ensures c.replays-replay.ensures (slice_index c.args.self.now.others.items) (g.C.Checkpoint.leaves c.advance.new.store c.advance.new.dev d) (record { before = c.args.acts.now.items; more = acts_with c.args.acts.now.items c.args.self.now.kernel c.args.answered.now.t (answer_of c.args.answered.now.answer); after = c.add_act.new.acts.items }) c.advance.new.self.based.items c.in_err-advance.ensures.may
-    (stands_as (system images inputs c.args.self.now.protocol) p (answers_alone answers st (answer_of c.args.answered.now.answer) Nowhere) (fallen (second_of c.rule-asked.result.log (record { position = st.position; answer = (answer_of c.args.answered.now.answer) }) (first_of c.rule-asked.result.before st))) (g.C.Checkpoint.leaves c.advance.new.store c.advance.new.dev d) c.append_if.new.self.others.items c.args.self.now.others.items (c.in_ok-append_if.ensures.same.others_same ∙ c.in_ok-commit_if.ensures.same.others_same)
+    stopped_event images inputs c.args.self.now.protocol p answers st (answer_of c.args.answered.now.answer) words c.args.self.now c.requires.whole here c.requires.runs stood.going c.requires.sender c.args.next.now c.kind-kind.result c.rule-asked.result c.replays-replay.result found c.kind-kind.ensures c.rule-asked.ensures c.replays-replay.ensures (slice_index c.args.self.now.others) (g.C.Checkpoint.leaves c.advance.new.store c.advance.new.dev d) (record { before = c.args.acts.now.items; more = acts_with c.args.acts.now.items c.args.self.now.kernel c.args.answered.now.t (answer_of c.args.answered.now.answer); after = c.add_act.new.acts.items }) c.advance.new.self.based c.in_err-advance.ensures.may
+    (stands_as (system images inputs c.args.self.now.protocol) p (answers_alone answers st (answer_of c.args.answered.now.answer) Nowhere) (fallen (second_of c.rule-asked.result.log (record { position = st.position; answer = (answer_of c.args.answered.now.answer) }) (first_of c.rule-asked.result.before st))) (g.C.Checkpoint.leaves c.advance.new.store c.advance.new.dev d) c.append_if.new.self.others c.args.self.now.others (c.in_ok-append_if.ensures.same.others_same ∙ c.in_ok-commit_if.ensures.same.others_same)
     (λ r l. over2.stands r (c.in_err-advance.ensures.stores.adds_nothing.stands d r from2 l)))
     (c.add_act.ensures.acts ∙ acts_same c.args.acts.now.items c.args.self.now.kernel c.commit_if.new.self.kernel c.args.answered.now.t (answer_of c.args.answered.now.answer) bare1)
-    (parts_based (system images inputs c.args.self.now.protocol) p answers st (answer_of c.args.answered.now.answer) words (held c.args.self.now) here stood.going c.rule-asked.result.before c.rule-asked.result.log (record { position = st.position; answer = (answer_of c.args.answered.now.answer) }) c.advance.new.self.based.items c.commit_if.new.self.based.items
-    c.in_ok-commit_if.ensures.copied (λ f. ap (λ (u : Up). u.based.items) (c.in_ok-commit_if.ensures.kept f)) (ap (λ (u : Up). u.based.items) c.advance.ensures.rest ∙ c.append_if.ensures.based)))
+    (parts_based (system images inputs c.args.self.now.protocol) p answers st (answer_of c.args.answered.now.answer) words (held c.args.self.now) here stood.going c.rule-asked.result.before c.rule-asked.result.log (record { position = st.position; answer = (answer_of c.args.answered.now.answer) }) c.advance.new.self.based c.commit_if.new.self.based
+    c.in_ok-commit_if.ensures.copied (λ f. ap (λ (u : Up). u.based) (c.in_ok-commit_if.ensures.kept f)) (ap (λ (u : Up). u.based) c.advance.ensures.rest ∙ c.append_if.ensures.based)))
 
 pub returns-in_err-commit_if-2-clause-stopped : goal.returns-in_err-commit_if-2-clause-stopped
 returns-in_err-commit_if-2-clause-stopped g c = any_err c.from_residual-in_err-commit_if-2.result (λ images inputs p answers st d words from told stood alone.
@@ -136,7 +136,7 @@ returns-in_err-commit_if-2-clause-stopped g c = any_err c.from_residual-in_err-c
     let found : c.args.next.now ≡ next_of (over c.args.self.now.guest words) = told_at (λ ws. c.args.next.now ≡ next_of (over c.args.self.now.guest ws)) (g.C.Checkpoint.contents c.args.store.now c.args.dev.now) words told c.requires.found in
     let over1 = over_added (system images inputs c.args.self.now.protocol) p answers st (first_of c.rule-asked.result.before st) (answer_of c.args.answered.now.answer) (g.C.Checkpoint.contents c.commit_if.new.store c.commit_if.new.dev) (held c.commit_if.new.self) (g.C.Checkpoint.leaves c.commit_if.new.store c.commit_if.new.dev d) (c.in_ok-commit_if.ensures.goes images inputs c.args.self.now.protocol p answers st d from stood) in
     let from1 : g.C.Checkpoint.floor c.commit_if.new.store ≤ d = omega (arith, from, c.in_ok-commit_if.ensures.call.floor) in
-    let bare1 = commit_bare c.rule-asked.result.before c.args.self.now c.commit_if.new.self c.commit_if.new.self.based.items c.in_ok-commit_if.ensures.held c.in_ok-commit_if.ensures.kept in
+    let bare1 = commit_bare c.rule-asked.result.before c.args.self.now c.commit_if.new.self c.commit_if.new.self.based c.in_ok-commit_if.ensures.held c.in_ok-commit_if.ensures.kept in
     let kinds : may_answer (answer_of c.args.answered.now.answer) c.kind-kind.result ≡ true = subst (λ k. may_answer (answer_of c.args.answered.now.answer) k ≡ true) (sym c.kind-kind.ensures) (told_at (λ ws. may_answer (answer_of c.args.answered.now.answer) (kind_of c.args.next.now) ≡ true) (g.C.Checkpoint.contents c.args.store.now c.args.dev.now) words told c.requires.kind) in
     let logs : c.rule-asked.result.log ≡ true → logged_of c.record_of-rec.result ≡ (record { position = st.position; answer = (answer_of c.args.answered.now.answer) }) = λ due. c.record_of-rec.ensures.logged c.kind-kind.result (log_at_inputs c.args.self.now.protocol c.kind-kind.result (since_of c.args.self.now c.kind-kind.result (answer_of c.args.answered.now.answer) false) c.rule-asked.result c.rule-asked.ensures due) kinds
     ∙ ap (λ i. record { position = i; answer = (answer_of c.args.answered.now.answer) }) (ap (λ (k : Kernel). k.position) bare1 ∙ here.kernel_is.position) in
@@ -152,12 +152,12 @@ returns-in_err-commit_if-2-clause-stopped g c = any_err c.from_residual-in_err-c
     (still (λ ws. c.effect-effect.result ≡ effect_of (event_of c.args.next.now (machine_over c.append_if.new.self.guest ws))) (g.C.Checkpoint.contents c.args.store.now c.args.dev.now) (g.C.Checkpoint.contents c.append_if.new.store c.append_if.new.dev) same2 (subst (λ (b : Bare). IfSome (g.C.Checkpoint.contents c.args.store.now c.args.dev.now) (λ ws. c.effect-effect.result ≡ effect_of (event_of c.args.next.now (machine_over b ws)))) (sym guest2) c.effect-effect.ensures.effect))
     (search rules) (λ r l. c.in_ok-advance.ensures.stores.adds_nothing.stands d r from2 l) in
     let from4 : g.C.Checkpoint.floor c.advance.new.store ≤ d = omega (arith, from2, c.in_ok-advance.ensures.stores.call.floor) in
-    stopped_after images inputs c.args.self.now.protocol p answers st (answer_of c.args.answered.now.answer) words c.args.self.now c.requires.whole here c.requires.runs stood.going c.requires.sender c.args.next.now c.kind-kind.result c.rule-asked.result c.replays-replay.result found c.kind-kind.ensures c.rule-asked.ensures c.replays-replay.ensures (slice_index c.args.self.now.others.items) (g.C.Checkpoint.leaves c.commit_if-2.new.store c.commit_if-2.new.dev d) (record { before = c.args.acts.now.items; more = acts_with c.args.acts.now.items c.args.self.now.kernel c.args.answered.now.t (answer_of c.args.answered.now.answer); after = c.add_act.new.acts.items }) c.commit_if-2.new.self.based.items c.in_err-commit_if-2.ensures.due
-    (stands_as (system images inputs c.args.self.now.protocol) p (answers_alone answers st (answer_of c.args.answered.now.answer) Nowhere) (torn (event_later c.replays-replay.result (sets_unlogged c.rule-asked.result.log c.replays-replay.result (answer_of c.args.answered.now.answer)) (second_of c.rule-asked.result.log (record { position = st.position; answer = (answer_of c.args.answered.now.answer) }) (first_of c.rule-asked.result.before st)))) (g.C.Checkpoint.leaves c.commit_if-2.new.store c.commit_if-2.new.dev d) c.note_event-done.new.self.others.items c.args.self.now.others.items (search rules)
+    stopped_after images inputs c.args.self.now.protocol p answers st (answer_of c.args.answered.now.answer) words c.args.self.now c.requires.whole here c.requires.runs stood.going c.requires.sender c.args.next.now c.kind-kind.result c.rule-asked.result c.replays-replay.result found c.kind-kind.ensures c.rule-asked.ensures c.replays-replay.ensures (slice_index c.args.self.now.others) (g.C.Checkpoint.leaves c.commit_if-2.new.store c.commit_if-2.new.dev d) (record { before = c.args.acts.now.items; more = acts_with c.args.acts.now.items c.args.self.now.kernel c.args.answered.now.t (answer_of c.args.answered.now.answer); after = c.add_act.new.acts.items }) c.commit_if-2.new.self.based c.in_err-commit_if-2.ensures.due
+    (stands_as (system images inputs c.args.self.now.protocol) p (answers_alone answers st (answer_of c.args.answered.now.answer) Nowhere) (torn (event_later c.replays-replay.result (sets_unlogged c.rule-asked.result.log c.replays-replay.result (answer_of c.args.answered.now.answer)) (second_of c.rule-asked.result.log (record { position = st.position; answer = (answer_of c.args.answered.now.answer) }) (first_of c.rule-asked.result.before st)))) (g.C.Checkpoint.leaves c.commit_if-2.new.store c.commit_if-2.new.dev d) c.note_event-done.new.self.others c.args.self.now.others (search rules)
     (c.in_err-commit_if-2.ensures.torn images inputs c.args.self.now.protocol p (answers_alone answers st (answer_of c.args.answered.now.answer) Nowhere) (event_later c.replays-replay.result (sets_unlogged c.rule-asked.result.log c.replays-replay.result (answer_of c.args.answered.now.answer)) (second_of c.rule-asked.result.log (record { position = st.position; answer = (answer_of c.args.answered.now.answer) }) (first_of c.rule-asked.result.before st))) d from4 over4))
     (c.add_act.ensures.acts ∙ acts_same c.args.acts.now.items c.args.self.now.kernel c.commit_if.new.self.kernel c.args.answered.now.t (answer_of c.args.answered.now.answer) bare1)
-    (parts_based (system images inputs c.args.self.now.protocol) p answers st (answer_of c.args.answered.now.answer) words (held c.args.self.now) here stood.going c.rule-asked.result.before c.rule-asked.result.log (record { position = st.position; answer = (answer_of c.args.answered.now.answer) }) c.commit_if-2.new.self.based.items c.commit_if.new.self.based.items
-    c.in_ok-commit_if.ensures.copied (λ f. ap (λ (u : Up). u.based.items) (c.in_ok-commit_if.ensures.kept f)) (c.in_err-commit_if-2.ensures.based ∙ ap (λ (u : Up). u.based.items) c.note_event-done.ensures.rest ∙ ap (λ (u : Up). u.based.items) c.advance.ensures.rest ∙ c.append_if.ensures.based)))
+    (parts_based (system images inputs c.args.self.now.protocol) p answers st (answer_of c.args.answered.now.answer) words (held c.args.self.now) here stood.going c.rule-asked.result.before c.rule-asked.result.log (record { position = st.position; answer = (answer_of c.args.answered.now.answer) }) c.commit_if-2.new.self.based c.commit_if.new.self.based
+    c.in_ok-commit_if.ensures.copied (λ f. ap (λ (u : Up). u.based) (c.in_ok-commit_if.ensures.kept f)) (c.in_err-commit_if-2.ensures.based ∙ ap (λ (u : Up). u.based) c.note_event-done.ensures.rest ∙ ap (λ (u : Up). u.based) c.advance.ensures.rest ∙ c.append_if.ensures.based)))
 
 pub returns-clause-goes : goal.returns-clause-goes
 returns-clause-goes g c images inputs p answers st d words from told stood alone =
@@ -165,7 +165,7 @@ returns-clause-goes g c images inputs p answers st d words from told stood alone
     let found : c.args.next.now ≡ next_of (over c.args.self.now.guest words) = told_at (λ ws. c.args.next.now ≡ next_of (over c.args.self.now.guest ws)) (g.C.Checkpoint.contents c.args.store.now c.args.dev.now) words told c.requires.found in
     let over1 = over_added (system images inputs c.args.self.now.protocol) p answers st (first_of c.rule-asked.result.before st) (answer_of c.args.answered.now.answer) (g.C.Checkpoint.contents c.commit_if.new.store c.commit_if.new.dev) (held c.commit_if.new.self) (g.C.Checkpoint.leaves c.commit_if.new.store c.commit_if.new.dev d) (c.in_ok-commit_if.ensures.goes images inputs c.args.self.now.protocol p answers st d from stood) in
     let from1 : g.C.Checkpoint.floor c.commit_if.new.store ≤ d = omega (arith, from, c.in_ok-commit_if.ensures.call.floor) in
-    let bare1 = commit_bare c.rule-asked.result.before c.args.self.now c.commit_if.new.self c.commit_if.new.self.based.items c.in_ok-commit_if.ensures.held c.in_ok-commit_if.ensures.kept in
+    let bare1 = commit_bare c.rule-asked.result.before c.args.self.now c.commit_if.new.self c.commit_if.new.self.based c.in_ok-commit_if.ensures.held c.in_ok-commit_if.ensures.kept in
     let kinds : may_answer (answer_of c.args.answered.now.answer) c.kind-kind.result ≡ true = subst (λ k. may_answer (answer_of c.args.answered.now.answer) k ≡ true) (sym c.kind-kind.ensures) (told_at (λ ws. may_answer (answer_of c.args.answered.now.answer) (kind_of c.args.next.now) ≡ true) (g.C.Checkpoint.contents c.args.store.now c.args.dev.now) words told c.requires.kind) in
     let logs : c.rule-asked.result.log ≡ true → logged_of c.record_of-rec.result ≡ (record { position = st.position; answer = (answer_of c.args.answered.now.answer) }) = λ due. c.record_of-rec.ensures.logged c.kind-kind.result (log_at_inputs c.args.self.now.protocol c.kind-kind.result (since_of c.args.self.now c.kind-kind.result (answer_of c.args.answered.now.answer) false) c.rule-asked.result c.rule-asked.ensures due) kinds
     ∙ ap (λ i. record { position = i; answer = (answer_of c.args.answered.now.answer) }) (ap (λ (k : Kernel). k.position) bare1 ∙ here.kernel_is.position) in
@@ -185,22 +185,22 @@ returns-clause-goes g c images inputs p answers st d words from told stood alone
 
 pub returns-clause-quiet : goal.returns-clause-quiet
 returns-clause-quiet g c = quiet_turn c.args.self.now c.commit_if.new.self c.note_event-done.new.self c.commit_if-2.new.self
-    (commit_number c.rule-asked.result.before c.args.self.now c.commit_if.new.self c.commit_if.new.self.based.items c.in_ok-commit_if.ensures.held c.in_ok-commit_if.ensures.kept)
-    (ap (λ (k : Kernel). k.commit) c.note_event-done.ensures.kernel ∙ commit_after c.advance.new.self.others.items c.args.next.now (answer_of c.args.answered.now.answer) c.effect-effect.result c.advance.new.self.kernel
+    (commit_number c.rule-asked.result.before c.args.self.now c.commit_if.new.self c.commit_if.new.self.based c.in_ok-commit_if.ensures.held c.in_ok-commit_if.ensures.kept)
+    (ap (λ (k : Kernel). k.commit) c.note_event-done.ensures.kernel ∙ commit_after c.advance.new.self.others c.args.next.now (answer_of c.args.answered.now.answer) c.effect-effect.result c.advance.new.self.kernel
     ∙ ap (λ (u : Up). u.kernel.commit) c.in_ok-advance.ensures.rest ∙ append_number c.rule-asked.result.log c.commit_if.new.self c.append_if.new.self _ c.in_ok-append_if.ensures.held c.in_ok-append_if.ensures.kept)
-    (ap (λ (u : Up). u.based.items) c.note_event-done.ensures.rest ∙ ap (λ (u : Up). u.based.items) c.in_ok-advance.ensures.rest ∙ c.in_ok-append_if.ensures.based)
-    (commit_number c.rule-asked.result.after c.note_event-done.new.self c.commit_if-2.new.self c.commit_if-2.new.self.based.items c.in_ok-commit_if-2.ensures.held c.in_ok-commit_if-2.ensures.kept)
+    (ap (λ (u : Up). u.based) c.note_event-done.ensures.rest ∙ ap (λ (u : Up). u.based) c.in_ok-advance.ensures.rest ∙ c.in_ok-append_if.ensures.based)
+    (commit_number c.rule-asked.result.after c.note_event-done.new.self c.commit_if-2.new.self c.commit_if-2.new.self.based c.in_ok-commit_if-2.ensures.held c.in_ok-commit_if-2.ensures.kept)
 
 pub returns-clause-counts : goal.returns-clause-counts
 returns-clause-counts g c turns has =
-    let one = commit_number c.rule-asked.result.before c.args.self.now c.commit_if.new.self c.commit_if.new.self.based.items c.in_ok-commit_if.ensures.held c.in_ok-commit_if.ensures.kept in
-    let two = commit_number c.rule-asked.result.after c.note_event-done.new.self c.commit_if-2.new.self c.commit_if-2.new.self.based.items c.in_ok-commit_if-2.ensures.held c.in_ok-commit_if-2.ensures.kept in
-    let mid = ap (λ (k : Kernel). k.commit) c.note_event-done.ensures.kernel ∙ commit_after c.advance.new.self.others.items c.args.next.now (answer_of c.args.answered.now.answer) c.effect-effect.result c.advance.new.self.kernel
+    let one = commit_number c.rule-asked.result.before c.args.self.now c.commit_if.new.self c.commit_if.new.self.based c.in_ok-commit_if.ensures.held c.in_ok-commit_if.ensures.kept in
+    let two = commit_number c.rule-asked.result.after c.note_event-done.new.self c.commit_if-2.new.self c.commit_if-2.new.self.based c.in_ok-commit_if-2.ensures.held c.in_ok-commit_if-2.ensures.kept in
+    let mid = ap (λ (k : Kernel). k.commit) c.note_event-done.ensures.kernel ∙ commit_after c.advance.new.self.others c.args.next.now (answer_of c.args.answered.now.answer) c.effect-effect.result c.advance.new.self.kernel
     ∙ ap (λ (u : Up). u.kernel.commit) c.in_ok-advance.ensures.rest ∙ append_number c.rule-asked.result.log c.commit_if.new.self c.append_if.new.self _ c.in_ok-append_if.ensures.held c.in_ok-append_if.ensures.kept in
-    counts_after turns c.advance.new.self.others.items c.args.next.now (answer_of c.args.answered.now.answer) c.effect-effect.result c.args.self.now.kernel c.advance.new.self.kernel c.commit_if-2.new.self.kernel
+    counts_after turns c.advance.new.self.others c.args.next.now (answer_of c.args.answered.now.answer) c.effect-effect.result c.args.self.now.kernel c.advance.new.self.kernel c.commit_if-2.new.self.kernel
     (ap (λ (u : Up). bare u.kernel) c.in_ok-advance.ensures.rest ∙ append_kernel c.rule-asked.result.log c.commit_if.new.self c.append_if.new.self _ c.in_ok-append_if.ensures.held c.in_ok-append_if.ensures.kept
-    ∙ commit_bare c.rule-asked.result.before c.args.self.now c.commit_if.new.self c.commit_if.new.self.based.items c.in_ok-commit_if.ensures.held c.in_ok-commit_if.ensures.kept)
-    (commit_bare c.rule-asked.result.after c.note_event-done.new.self c.commit_if-2.new.self c.commit_if-2.new.self.based.items c.in_ok-commit_if-2.ensures.held c.in_ok-commit_if-2.ensures.kept ∙ ap bare c.note_event-done.ensures.kernel)
+    ∙ commit_bare c.rule-asked.result.before c.args.self.now c.commit_if.new.self c.commit_if.new.self.based c.in_ok-commit_if.ensures.held c.in_ok-commit_if.ensures.kept)
+    (commit_bare c.rule-asked.result.after c.note_event-done.new.self c.commit_if-2.new.self c.commit_if-2.new.self.based c.in_ok-commit_if-2.ensures.held c.in_ok-commit_if-2.ensures.kept ∙ ap bare c.note_event-done.ensures.kernel)
     (omega (arith, one.1, two.1, mid)) c.requires.whole.received_long c.requires.whole.links_long has
 
 pub returns-in_err-commit_if-clause-numbered : goal.returns-in_err-commit_if-clause-numbered
@@ -222,7 +222,7 @@ returns-in_err-commit_if-2-clause-numbered g c d most from below is =
     let from1 : g.C.Checkpoint.floor c.commit_if.new.store ≤ d = omega (arith, from, c.in_ok-commit_if.ensures.call.floor) in
     let from2 : g.C.Checkpoint.floor c.append_if.new.store ≤ d = omega (arith, from1, c.in_ok-append_if.ensures.call.floor) in
     let from3 : g.C.Checkpoint.floor c.advance.new.store ≤ d = omega (arith, from2, c.in_ok-advance.ensures.stores.call.floor) in
-    numbered_more (most + 1 + 1) (most + 2) (g.C.Checkpoint.leaves c.commit_if-2.new.store c.commit_if-2.new.dev d) (omega arith) (c.commit_if-2.ensures.numbered d (most + 1) from3 (let one = commit_number c.rule-asked.result.before c.args.self.now c.commit_if.new.self c.commit_if.new.self.based.items c.in_ok-commit_if.ensures.held c.in_ok-commit_if.ensures.kept in let mid = ap (λ (k : Kernel). k.commit) c.note_event-done.ensures.kernel ∙ commit_after c.advance.new.self.others.items c.args.next.now (answer_of c.args.answered.now.answer) c.effect-effect.result c.advance.new.self.kernel
+    numbered_more (most + 1 + 1) (most + 2) (g.C.Checkpoint.leaves c.commit_if-2.new.store c.commit_if-2.new.dev d) (omega arith) (c.commit_if-2.ensures.numbered d (most + 1) from3 (let one = commit_number c.rule-asked.result.before c.args.self.now c.commit_if.new.self c.commit_if.new.self.based c.in_ok-commit_if.ensures.held c.in_ok-commit_if.ensures.kept in let mid = ap (λ (k : Kernel). k.commit) c.note_event-done.ensures.kernel ∙ commit_after c.advance.new.self.others c.args.next.now (answer_of c.args.answered.now.answer) c.effect-effect.result c.advance.new.self.kernel
     ∙ ap (λ (u : Up). u.kernel.commit) c.in_ok-advance.ensures.rest ∙ append_number c.rule-asked.result.log c.commit_if.new.self c.append_if.new.self _ c.in_ok-append_if.ensures.held c.in_ok-append_if.ensures.kept in omega (arith, one.1, mid, below)) (numbered_less (most + 1) (g.C.Checkpoint.leaves c.append_if.new.store c.append_if.new.dev d) (g.C.Checkpoint.leaves c.advance.new.store c.advance.new.dev d) (λ r l. c.advance.ensures.stores.adds_nothing.stands d r from2 l) (c.append_if.ensures.numbered d (most + 1) from1 (c.commit_if.ensures.numbered d most from below is))))
 
 pub returns-clause-numbered : goal.returns-clause-numbered
@@ -230,7 +230,7 @@ returns-clause-numbered g c d most from below is =
     let from1 : g.C.Checkpoint.floor c.commit_if.new.store ≤ d = omega (arith, from, c.in_ok-commit_if.ensures.call.floor) in
     let from2 : g.C.Checkpoint.floor c.append_if.new.store ≤ d = omega (arith, from1, c.in_ok-append_if.ensures.call.floor) in
     let from3 : g.C.Checkpoint.floor c.advance.new.store ≤ d = omega (arith, from2, c.in_ok-advance.ensures.stores.call.floor) in
-    numbered_more (most + 1 + 1) (most + 2) (g.C.Checkpoint.leaves c.commit_if-2.new.store c.commit_if-2.new.dev d) (omega arith) (c.commit_if-2.ensures.numbered d (most + 1) from3 (let one = commit_number c.rule-asked.result.before c.args.self.now c.commit_if.new.self c.commit_if.new.self.based.items c.in_ok-commit_if.ensures.held c.in_ok-commit_if.ensures.kept in let mid = ap (λ (k : Kernel). k.commit) c.note_event-done.ensures.kernel ∙ commit_after c.advance.new.self.others.items c.args.next.now (answer_of c.args.answered.now.answer) c.effect-effect.result c.advance.new.self.kernel
+    numbered_more (most + 1 + 1) (most + 2) (g.C.Checkpoint.leaves c.commit_if-2.new.store c.commit_if-2.new.dev d) (omega arith) (c.commit_if-2.ensures.numbered d (most + 1) from3 (let one = commit_number c.rule-asked.result.before c.args.self.now c.commit_if.new.self c.commit_if.new.self.based c.in_ok-commit_if.ensures.held c.in_ok-commit_if.ensures.kept in let mid = ap (λ (k : Kernel). k.commit) c.note_event-done.ensures.kernel ∙ commit_after c.advance.new.self.others c.args.next.now (answer_of c.args.answered.now.answer) c.effect-effect.result c.advance.new.self.kernel
     ∙ ap (λ (u : Up). u.kernel.commit) c.in_ok-advance.ensures.rest ∙ append_number c.rule-asked.result.log c.commit_if.new.self c.append_if.new.self _ c.in_ok-append_if.ensures.held c.in_ok-append_if.ensures.kept in omega (arith, one.1, mid, below)) (numbered_less (most + 1) (g.C.Checkpoint.leaves c.append_if.new.store c.append_if.new.dev d) (g.C.Checkpoint.leaves c.advance.new.store c.advance.new.dev d) (λ r l. c.advance.ensures.stores.adds_nothing.stands d r from2 l) (c.append_if.ensures.numbered d (most + 1) from1 (c.commit_if.ensures.numbered d most from below is))))
 
 -- where all fall together, nothing but the event's stores is done

@@ -50,10 +50,10 @@ returns-in-Err-clause-stopped g c images inputs p answers st d words from told s
     let plain : answer_of c.args.answered.now.answer ≡ Plain = plain_is (answer_of c.args.answered.now.answer) (ap (λ n. may_answer (answer_of c.args.answered.now.answer) (kind_of n)) (sym retires) ∙ may) in
     let over1 = over_added S p answers st st Plain (g.C.Checkpoint.contents c.args.store.now c.args.dev.now) (held c.args.self.now) (g.C.Checkpoint.leaves c.args.store.now c.args.dev.now d) stood in
     stopped_retiring images inputs c.args.self.now.protocol p answers st words c.args.self.now c.requires.whole here c.requires.runs retires (answer_of c.args.answered.now.answer) plain
-    (told_at (λ ws. stores (machine_over c.args.self.now.guest ws) ≡ true) (g.C.Checkpoint.contents c.args.store.now c.args.dev.now) words told c.in-Err.ensures.storing) (slice_index c.args.self.now.others.items)
-    (g.C.Checkpoint.leaves c.step.new.store c.step.new.dev d) (record { before = c.args.acts.now.items; more = acts_with c.args.acts.now.items c.args.self.now.kernel c.args.answered.now.t (answer_of c.args.answered.now.answer); after = c.add_act-in-Err.new.acts.items }) c.step.new.self.based.items
+    (told_at (λ ws. stores (machine_over c.args.self.now.guest ws) ≡ true) (g.C.Checkpoint.contents c.args.store.now c.args.dev.now) words told c.in-Err.ensures.storing) (slice_index c.args.self.now.others)
+    (g.C.Checkpoint.leaves c.step.new.store c.step.new.dev d) (record { before = c.args.acts.now.items; more = acts_with c.args.acts.now.items c.args.self.now.kernel c.args.answered.now.t (answer_of c.args.answered.now.answer); after = c.add_act-in-Err.new.acts.items }) c.step.new.self.based
     (λ r l. over1.stands r (c.in-Err.ensures.stores.adds_nothing.stands d r from l)) (search rules)
-    (parts_based S p answers st Plain words (held c.args.self.now) here stood.going false false (record { position = st.position; answer = Plain }) c.step.new.self.based.items c.args.self.now.based.items (λ e. absurd (true≢false (sym e))) (λ e. refl) (ap (λ (u : Up). u.based.items) c.in-Err.ensures.rest))
+    (parts_based S p answers st Plain words (held c.args.self.now) here stood.going false false (record { position = st.position; answer = Plain }) c.step.new.self.based c.args.self.now.based (λ e. absurd (true≢false (sym e))) (λ e. refl) (ap (λ (u : Up). u.based) c.in-Err.ensures.rest))
 
 pub returns-else-is_blocked : goal.returns-else-is_blocked
 returns-else-is_blocked g c =
