@@ -128,6 +128,7 @@ impl Frame {
         ensures up { IfOk result (λ gate. IsUp (shape_of self.now) d at half.now gate (known_of marks.new) saved.new) }
         ensures records { IfOk result (λ gate. All (IsRecord self.now.n) saved.new.log.items) }
         ensures full { marks.new.full ≡ marks.old.full }
+        ensures marks_stay { marks.new.touched ≡ marks.old.touched }
         ensures within { IfOk result (λ gate. IfSome gate (λ g. g + 8 ≤ at + self.now.half)) }
         ensures long { (length words.new ≡ length words.old) × (length marks.new.body.items ≡ length marks.old.body.items) × (length marks.new.touched.flags.items ≡ length marks.old.touched.flags.items) }
         ensures process { (saved.new.kernel.n ≡ saved.old.kernel.n) × (saved.new.kernel.p ≡ saved.old.kernel.p) }

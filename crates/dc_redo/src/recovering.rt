@@ -104,6 +104,7 @@ impl Frame {
         requires body { length marks.old.body.items ≡ 16 * self.now.lines }
         ensures known { known_of marks.new ≡ known_state 0 0 (whole_bytes (shape_of self.now)) (number_in self.now.kernel.items) false (body_of (shape_of self.now) self.now.memory.items self.now.kernel.items) marks.new.touched.flags.items }
         ensures long { (length marks.new.body.items ≡ length marks.old.body.items) × (length marks.new.touched.flags.items ≡ length marks.old.touched.flags.items) }
+        ensures marks_stay { marks.new.touched ≡ marks.old.touched }
         ensures roomy { HasRoom (shape_of self.now) (known_of marks.new) }
     {
         self.fill(&self.memory, &self.kernel, &mut marks.body);
@@ -141,6 +142,7 @@ impl Frame {
         ensures records { IfOk result (λ gates. gates.counts ≡ true → All (IsRecord self.now.n) saved.new.log.items) }
         ensures log { IfOk result (λ gates. gates.counts ≡ true → (length saved.new.log.items ≤ LOGGED_EVENTS) × (saved.new.position ≡ saved.new.kernel.position)) }
         ensures empty { IfOk result (λ gates. gates.counts ≡ false → IsEmpty (shape_of self.now) d gates.low gates.high piece.now) }
+        ensures marks_stay { marks.new.touched ≡ marks.old.touched }
         ensures within { IfOk result (λ gates. IfSome gates.low (λ at. at + 1 ≤ 2 * self.now.half) × IfSome gates.high (λ at. at + 1 ≤ 2 * self.now.half)) }
         ensures long { (length words.new ≡ length words.old) × (length marks.new.body.items ≡ length marks.old.body.items) × (length marks.new.touched.flags.items ≡ length marks.old.touched.flags.items) }
         ensures process { (saved.new.kernel.n ≡ saved.old.kernel.n) × (saved.new.kernel.p ≡ saved.old.kernel.p) }
@@ -197,7 +199,8 @@ impl Frame {
         saved.position = saved.kernel.position();
     }
 
-    /// Reads what the disk stands for under a decided number, closes the gates of what waits, and goes on from there.
+    /// Reads what the disk stands for under a decided number, closes the gates of what waits, and goes on from there. No line is marked then,
+    /// nor where it is refused.
     pub fn recover<D: Disks>(
         &self,
         dev: &mut D,
@@ -219,6 +222,7 @@ impl Frame {
         ensures ready { OnOk result (IsReady (shape_of self.now) (known_of marks.new) (D.told dev.new self.now.index)) }
         ensures gives { OnOk result (IsAtRest (λ x. reading (shape_of self.now) d x ≡ Ok (record { memory = memory_in (shape_of self.now) marks.new.body.items; kernel = text_of saved.new.kernel; log = saved.new.log.items })) (D.told dev.new self.now.index)) }
         ensures floor { marks.new.floor ≤ d }
+        ensures unmarked { marks.new.touched.flags.items ≡ replicate self.now.lines false }
         ensures number { OnOk result ((marks.new.number ≡ saved.new.kernel.commit) × (marks.new.logged ≡ length saved.new.log.items)) }
         ensures kernel { OnOk result (IsKernel self.now.n self.now.p saved.new.kernel) }
         ensures records { OnOk result (All (IsRecord self.now.n) saved.new.log.items) }
@@ -231,7 +235,7 @@ impl Frame {
         ensures others { (q : ℕ) → q ≢ self.now.index → IsSameStore (of_disks D.Disks) dev.old dev.new q }
         ensures continues { D.continues dev.old dev.new }
     {
-        marks.floor = 0;
+        marks.forget();
         match self.fetch(dev, piece) {
             Err(fault) => return Err(check_fault(fault)),
             Ok(false) => return Err(CheckFault::Refused(StoreFault::Header)),

@@ -1,4 +1,4 @@
-ghost use Rattle.std.specs.Prelude.{◌≡◌, ◌+◌, ◌*◌, ◌/◌, ◌≤◌, ℕ, List, length, IfOk, IfSome, IsSome, Ok, OnOk, false};
+ghost use Rattle.std.specs.Prelude.{◌≡◌, ◌+◌, ◌*◌, ◌/◌, ◌≤◌, ℕ, List, length, IfOk, IfSome, IsSome, Ok, OnOk, false, replicate};
 ghost use Rattle.std.proofs.Common.{sym};
 ghost use Rattle.dc_media.specs.Devices.{of_disks};
 ghost use Rattle.dc_media.specs.Told.{IsSameStore};
@@ -61,6 +61,7 @@ impl<D: Disks> Redo<D> {
         ensures same { IfOk result (λ s. (s.frame.index ≡ index) × (s.frame.size ≡ length memory.items) × ((shape_of s.frame).form ≡ form_in kernel.items)) }
         ensures first { IfOk result (λ s. (s.frame.memory ≡ memory) × (s.frame.kernel ≡ kernel)) }
         ensures floor { IfOk result (λ s. s.marks.floor ≡ 0) }
+        ensures unmarked { IfOk result (λ s. s.marks.touched.flags.items ≡ replicate s.frame.lines false) }
     {
         let frame = Frame::new(index, memory, kernel);
         let marks = Marks::new(alloc, frame.lines)?;
@@ -85,6 +86,7 @@ impl<D: Disks> Redo<D> {
         requires blank { IfSome (D.told dev.old self.old.frame.index) (λ disk. disk ≡ blank (2 * self.old.frame.half)) }
         ensures same { self.new.frame ≡ self.old.frame }
         ensures known { known_of self.new.marks ≡ known_state 0 0 (whole_bytes (shape_of self.old.frame)) (number_in self.old.frame.kernel.items) false (body_of (shape_of self.old.frame) self.old.frame.memory.items self.old.frame.kernel.items) self.new.marks.touched.flags.items }
+        ensures marks_stay { self.new.marks.touched ≡ self.old.marks.touched }
         ensures roomy { HasRoom (shape_of self.old.frame) (known_of self.new.marks) }
         ensures images { (x : List ℕ) × EachImage (D.told dev.new self.old.frame.index) (IsFresh (shape_of self.old.frame) x) }
         ensures ready { OnOk result (IsReady (shape_of self.old.frame) (known_of self.new.marks) (D.told dev.new self.old.frame.index)) }

@@ -72,6 +72,26 @@ commit 4 = ok
 bytes 13712 1 = 0
 bytes 22000 16 = 1 0 0 0 216 18 0 0 1 0 0 0 4 0 0 0
 state 0 = ok 4 40 0 1023 7
+# a recovery leaves no line marked: word 100 is word 4 of line 6, the one line that was stored to since; the text begins with line 64
+segment 1 0 1
+store 0 5 all = ok
+store 17 6 all = ok
+store 40 8 all = ok
+fall = ok
+state 0 = ok 1 10 0 1023 7
+store 100 9 all = ok
+commit 2 = ok
+bytes 4832 24 = 1 0 0 0 148 0 0 0 5 0 0 0 2 0 0 0 2 0 0 0 6 0 0 0
+bytes 4856 64 = 0 0 0 0 0 0 0 0 0 0 0 0 0 0 0 0 9 0 0 0 0 0 0 0 0 0 0 0 0 0 0 0 0 0 0 0 0 0 0 0 0 0 0 0 0 0 0 0 0 0 0 0 0 0 0 0 0 0 0 0 0 0 0 0
+bytes 4920 68 = 64 0 0 0 1 0 0 0 1 0 0 0 0 0 0 0 0 0 0 0 0 0 0 0 2 0 0 0 20 0 0 0 0 0 0 0 0 0 0 0 0 0 0 0 0 0 0 0 0 0 0 0 0 0 0 0 0 0 0 0 0 0 0 0 0 0 0 0
+bytes 4988 1 = 0
+# nor does one that writes the first state: a record of one line has 80 bytes behind its length
+segment 1 0 1
+store 17 6 all = ok
+blank 44000 = ok
+state 0 = ok 1 10 0 1023 7
+commit 2 = ok
+bytes 4832 24 = 1 0 0 0 80 0 0 0 5 0 0 0 2 0 0 0 1 0 0 0 64 0 0 0
 # an event and its text
 segment 1 0 1
 log 21 3 1 0 2 = ok
