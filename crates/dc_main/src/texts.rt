@@ -140,7 +140,7 @@ the last commits; dc.report then has both parts.
 pub const JOURNAL: &str = "\
 @ journal PLAN runs a plan as `@ run` does, and writes the journal
 of the run to dc.report in place of the report. The plan has to have a schedule,
-of turns alone, and no stop; then the journal has Save-work, as
+of turns alone, no stop and no halt; then the journal has Save-work, as
 `@ audit dc.report` finds. Where the run did not come to the end of its
 schedule the journal lacks its last line.
 ";

@@ -13,15 +13,18 @@ use Rattle.dc_words.specs.Hex.{byte_before, byte_of_digits, bytes_of_hex, value_
 use Rattle.dc_protocols.specs.Rules.{is_causal}
 use Rattle.dc_protocols.specs.declared.protocol.Protocol.{Protocol}
 use Rattle.dc_protocols.specs.declared.protocol.Protocol.TheVariants.{Cand, CandLog, Cbndv2pc, Cbndvs, CbndvsLog, Cpv2pc, Cpvs}
+use Rattle.dc_plan.proofs.Counting.{guests_allowed}
 use Rattle.dc_plan.proofs.Halting.{halt_allowed}
 use Rattle.dc_plan.proofs.Passing.{between, gave, passed}
 use Rattle.dc_plan.proofs.Sources.{source_allowed}
 use Rattle.dc_plan.proofs.Stopping.{room_for, stops_allowed, tables_have_room}
-use Rattle.dc_plan.specs.Allowed.{IsAllowed, IsRecord}
+use Rattle.dc_plan.proofs.Suiting.{plan_suits}
+use Rattle.dc_plan.specs.Allowed.{IsAllowed, IsRecord, Suits}
 use Rattle.dc_plan.specs.Plans.{Plan, are_inputs_few, are_inputs_right, at_key, guests_row, halt_row, has_known_keys, inputs_row, inputs_said, is_input_record, medium_row, memory_row, needed, optional, plan_from, plan_of, protocol_named, protocol_row, input_record_of, record_in, rows, schedule_row, seed_row, stops_row, tested, turns_row}
 use Rattle.dc_words.specs.Results.{or_fault}
 use Rattle.dc_words.specs.Words.{AllBelow}
 use Rattle.dc_plan.specs.Values.{is_array_of, is_between, is_text, is_whole, items_in, natural_in, text_in, text_or_empty}
+use Rattle.dc_plan.specs.declared.command.Command.{Command}
 use Rattle.dc_plan.specs.declared.fault.PlanFault.{PlanFault}
 use Rattle.dc_plan.specs.declared.fault.PlanFault.TheVariants.{Range, Text, Unknown}
 use Rattle.dc_plan.specs.declared.keys.Key.TheVariants as key
@@ -75,14 +78,6 @@ memory_allowed ms n e =
     let parts = and_parts (is_between 65536 1048576 d) (natural_in d % 4096 == 0) p.range_is in
     let bounds = between 65536 1048576 (as_integer d) parts.0 in
     rw (← p.said_is) (bounds.0, bounds.1, eqb-true (natural_in d % 4096) 0 parts.1)
-
-guests_allowed : (ms : Members) (guests : List (List ℕ)) → guests_row ms ≡ Ok guests → (1 ≤ length guests) × (length guests ≤ 8)
-guests_allowed ms guests e =
-    let value = gave (needed key.Guests ms) _ guests e in
-    let d : Data = value.value in
-    let p = passed key.Guests (is_array_of is_text d) (nat_le (length (items_in d)) 8) (nat_le 1 (length (items_in d))) (map text_in (items_in d)) guests value.after in
-    let count : length guests ≡ length (items_in d) = ap length (sym p.said_is) ∙ length-map (items_in d) text_in in
-    rw count (leb-true 1 (length (items_in d)) p.range_is, leb-true (length (items_in d)) 8 p.few_is)
 
 inputs_allowed : (ms : Members) (guests : ℕ) (inputs : List (List (List ℕ))) → inputs_row guests ms ≡ Ok inputs → length inputs ≡ guests
 inputs_allowed ms guests inputs e = at (at_key key.Inputs ms) e
@@ -166,21 +161,21 @@ records_allowed ms guests inputs e = at (at_key key.Inputs ms) e
         let p = passed key.Inputs (is_array_of (is_array_of is_text) d) (are_inputs_few d) (are_inputs_right guests d) (inputs_said guests (Some (items_in d))) inputs e in
         subst (AllByRecursion (AllByRecursion IsRecord)) p.said_is (lists_right (items_in d))
 
-rows_allowed : (ms : Members) (plan : Plan) → rows ms ≡ Ok plan → IsAllowed plan
-rows_allowed ms plan e =
+rows_allowed : (by : Command) (ms : Members) (plan : Plan) → rows by ms ≡ Ok plan → IsAllowed plan
+rows_allowed by ms plan e =
     let protocol = gave (protocol_row ms) _ plan e in
-    let medium = gave (medium_row ms) _ plan protocol.after in
+    let medium = gave (medium_row by ms) _ plan protocol.after in
     let memory = gave (memory_row ms) _ plan medium.after in
     let guests = gave (guests_row ms) _ plan memory.after in
     let inputs = gave (inputs_row (length guests.value) ms) _ plan guests.after in
     let schedule = gave (schedule_row ms) _ plan inputs.after in
-    let seed = gave (seed_row ms) _ plan schedule.after in
+    let seed = gave (seed_row by ms) _ plan schedule.after in
     let turns = gave (turns_row ms) _ plan seed.after in
-    let stops = gave (stops_row medium.value (length guests.value) ms) _ plan turns.after in
+    let stops = gave (stops_row by medium.value (length guests.value) ms) _ plan turns.after in
     let sized = memory_allowed ms memory.value memory.first in
     let counted = guests_allowed ms guests.value guests.first in
-    let stopped = stops_allowed medium.value (length guests.value) counted.0 ms stops.value stops.first in
-    let halt = gave (halt_row medium.value ms) _ plan stops.after in
+    let stopped = stops_allowed medium.value (length guests.value) counted.0 by ms stops.value stops.first in
+    let halt = gave (halt_row by medium.value ms) _ plan stops.after in
     let is = said_is _ plan halt.after in
     rw (← is) (record {
       seven = protocol_allowed ms protocol.value protocol.first;
@@ -191,30 +186,36 @@ rows_allowed ms plan e =
       guests_most = counted.1;
       inputs = inputs_allowed ms (length guests.value) inputs.value inputs.first;
       records = records_allowed ms (length guests.value) inputs.value inputs.first;
-      schedule = source_allowed ms schedule.value seed.value turns.value schedule.first seed.first turns.first;
-      stops = stopped.each;
-      stops_most = stopped.most;
-      halt = halt_allowed medium.value ms halt.value halt.first;
+      schedule = source_allowed by ms schedule.value seed.value turns.value schedule.first seed.first turns.first;
+      stops = stopped.0.each;
+      stops_most = stopped.0.most;
+      halt = halt_allowed by medium.value ms halt.value halt.first;
     })
   where
     said_is : (said plan : Plan) → ◌≡◌ {A = Result Plan PlanFault} (Ok said) (Ok plan) → said ≡ plan
     said_is said plan e = cc
 
-plan_allowed : (ms : Members) (plan : Plan) → plan_from ms ≡ Ok plan → IsAllowed plan
-plan_allowed ms plan e = ⊎_elim
-    (λ good. rows_allowed ms plan (sym (ap (λ b. if b then rows ms else Err Unknown) good) ∙ e))
-    (λ bad. let never : Err Unknown ≡ Ok plan = sym (ap (λ b. if b then rows ms else Err Unknown) bad) ∙ e in absurd (let none : ⊥ = cc in none))
+plan_allowed : (by : Command) (ms : Members) (plan : Plan) → plan_from by ms ≡ Ok plan → IsAllowed plan
+plan_allowed by ms plan e = ⊎_elim
+    (λ good. rows_allowed by ms plan (sym (ap (λ b. if b then rows by ms else Err Unknown) good) ∙ e))
+    (λ bad. let never : Err Unknown ≡ Ok plan = sym (ap (λ b. if b then rows by ms else Err Unknown) bad) ∙ e in absurd (let none : ⊥ = cc in none))
     (cases_Bool (has_known_keys ms))
 
-pub read_allowed : (bytes : List ℕ) (plan : Plan) → plan_of bytes ≡ Ok plan → IsAllowed plan
+pub read_allowed : (by : Command) (bytes : List ℕ) (plan : Plan) → plan_of by bytes ≡ Ok plan → IsAllowed plan
 unfolding plan_of
-read_allowed bytes plan e =
-    let document = gave (or_fault Text (if is_utf8 bytes then parse_document bytes else None)) plan_from plan e in
-    plan_allowed document.value plan document.after
+read_allowed by bytes plan e =
+    let document = gave (or_fault Text (if is_utf8 bytes then parse_document bytes else None)) (plan_from by) plan e in
+    plan_allowed by document.value plan document.after
+
+pub read_suits : (by : Command) (bytes : List ℕ) (plan : Plan) → plan_of by bytes ≡ Ok plan → Suits by plan
+unfolding plan_of
+read_suits by bytes plan e =
+    let document = gave (or_fault Text (if is_utf8 bytes then parse_document bytes else None)) (plan_from by) plan e in
+    plan_suits by document.value plan document.after
 
 -- the stops of a plan that is read have room
-pub read_have_room : (ms : Members) (plan : Plan) (tables : List Value) → plan.stops ≡ map stop_of (map view tables) → plan_from ms ≡ Ok plan → All (λ table. HasRoom (stop_of (view table))) tables
-read_have_room ms plan tables is e =
-    let allowed = plan_allowed ms plan e in
+pub read_have_room : (by : Command) (ms : Members) (plan : Plan) (tables : List Value) → plan.stops ≡ map stop_of (map view tables) → plan_from by ms ≡ Ok plan → All (λ table. HasRoom (stop_of (view table))) tables
+read_have_room by ms plan tables is e =
+    let allowed = plan_allowed by ms plan e in
     let most = allowed.guests_most in
     tables_have_room tables (subst (All HasRoom) is (room_for plan.medium (length plan.guests) (omega (arith, most)) plan.stops allowed.stops))

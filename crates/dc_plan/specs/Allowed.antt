@@ -1,10 +1,12 @@
 -- What holds of each plan that is read.
-use Rattle.std.specs.Prelude.{◌≡◌, ◌≤◌, ◌<◌, ◌^◌, ◌%◌, ℕ, false, All, List, Option, None, Some, length}
+use Rattle.std.specs.Prelude.{◌≡◌, ◌≤◌, ◌<◌, ◌^◌, ◌%◌, ℕ, Bool, true, false, All, List, [], Option, None, Some, length}
 use Rattle.std.specs.List.{AllByRecursion}
 use Rattle.dc_limits.specs.declared.bounds.TheConstants.{ENTRIES, INPUT_BYTES}
 use Rattle.dc_limits.specs.declared.sizes.TheConstants.{PROCESSES}
 use Rattle.dc_media.specs.declared.planned.PlannedStop.{PlannedStop}
 use Rattle.dc_plan.specs.Plans.{Plan, Source, InFile, FromSeed}
+use Rattle.dc_plan.specs.declared.command.Command.{Command}
+use Rattle.dc_plan.specs.declared.command.Command.TheVariants as command
 use Rattle.dc_plan.specs.declared.plan.Medium.{Medium}
 use Rattle.dc_protocols.specs.Rules.{is_causal}
 use Rattle.dc_plan.specs.declared.plan.Medium.TheVariants as medium
@@ -53,3 +55,15 @@ pub record IsAllowed (plan : Plan) : Type 0 where
   pub stops : All (IsStopAllowed plan.medium (length plan.guests)) plan.stops
   pub stops_most : length plan.stops ≤ 1000
   pub halt : IsHaltAllowed plan.medium plan.halt
+
+-- entries that are drawn, in place of a schedule's file
+abbrev pub is_seed : Source → Bool
+is_seed (InFile name) = false
+is_seed (FromSeed start turns) = true
+
+-- a plan that has nothing of what its command forbids: a run that goes on is on a disk, and one that leaves its journal has no seed, no stops and no halt
+pub record Suits (by : Command) (plan : Plan) : Type 0 where
+  pub lasts : by ≡ command.Resume → plan.medium ≡ medium.Disk
+  pub undrawn : by ≡ command.Journal → is_seed plan.schedule ≡ false
+  pub unstopped : by ≡ command.Journal → plan.stops ≡ []
+  pub unhalted : by ≡ command.Journal → plan.halt ≡ None

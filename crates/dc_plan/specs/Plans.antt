@@ -1,7 +1,7 @@
 -- What a plan says, and the first rule that it breaks.
 --
--- A text that is no document comes first, then a key that no plan or no stop has, then the rows, a row for each key: whether the key is missing, its value of another kind, too many, out of range.
-use Rattle.std.specs.Prelude.{bytes_eq, ◌≡◌, ℕ, ◌%◌, ◌==◌, List, [], length, map, replicate, codes, Bool, true, false, ◌||◌, ◌&&◌, not, Option, Some, None, is_some, Result, Ok, Err, if◌then◌else◌, nat_le, string_bytes, unwrap_or}
+-- A text that is no document comes first, then a key that no plan or no stop has, then the rows, a row for each key: whether the key is missing, its value of another kind, too many, out of range. What the command forbids is out of range.
+use Rattle.std.specs.Prelude.{bytes_eq, ◌≡◌, ℕ, ◌%◌, ◌==◌, List, [], length, map, replicate, codes, Bool, true, false, ◌∷◌, ◌||◌, ◌&&◌, not, Option, Some, None, is_some, Result, Ok, Err, if◌then◌else◌, nat_le, string_bytes, unwrap_or}
 use Rattle.std.specs.List.{list_all}
 use Rattle.std.specs.Str.{is_utf8}
 use Rattle.dc_limits.specs.declared.bounds.TheConstants.{ENTRIES}
@@ -13,9 +13,11 @@ use Rattle.dc_words.specs.Results.{◌>>=◌, or_fault}
 use Rattle.dc_media.specs.declared.planned.PlannedStop.{PlannedStop}
 use Rattle.dc_protocols.specs.declared.protocol.Protocol.{Protocol}
 use Rattle.dc_protocols.specs.declared.protocol.Protocol.TheVariants as protocol
+use Rattle.dc_plan.specs.Commands.{may_halt, runs_on, takes}
 use Rattle.dc_plan.specs.Keys.{key_text, is_key}
 use Rattle.dc_plan.specs.Values.{is_array_of, is_between, is_text, is_whole, items_in, names_in, natural_in, text_in, text_or_empty}
 use Rattle.dc_plan.specs.Stops.{has_stop_keys, has_stop_kinds, has_stop_ranges, is_complete, stop_of}
+use Rattle.dc_plan.specs.declared.command.Command.{Command}
 use Rattle.dc_plan.specs.declared.fault.PlanError.{PlanError}
 use Rattle.dc_plan.specs.declared.fault.PlanError.TheVariants as error
 use Rattle.dc_plan.specs.declared.fault.PlanFault.{PlanFault}
@@ -81,10 +83,14 @@ abbrev pub protocol_row : Members → Result Protocol PlanFault
 protocol_row ms = needed key.Protocol ms >>= (λ d. tested key.Protocol (is_text d) true true (text_in d)
     >>= (λ name. or_fault (Range key.Protocol) (protocol_named name)))
 
--- medium: the name of a medium
-abbrev pub medium_row : Members → Result Medium PlanFault
-medium_row ms = needed key.Medium ms >>= (λ d. tested key.Medium (is_text d) true true (text_in d)
-    >>= (λ name. or_fault (Range key.Medium) (medium_named name)))
+-- a medium on which the command's run can be
+abbrev pub on_it : Command → Medium → Result Medium PlanFault
+on_it by on = tested key.Medium true true (runs_on by on) on
+
+-- medium: the name of a medium, on which the command's run can be
+abbrev pub medium_row : Command → Members → Result Medium PlanFault
+medium_row by ms = needed key.Medium ms >>= (λ d. tested key.Medium (is_text d) true true (text_in d)
+    >>= (λ name. or_fault (Range key.Medium) (medium_named name) >>= on_it by))
 
 -- memory: 64 kibibytes to 1 mebibyte in pages of 4 kibibytes
 abbrev pub memory_row : Members → Result ℕ PlanFault
@@ -136,9 +142,9 @@ schedule_row ms = if has key.Schedule ms || has key.Seed ms
     else Err (Missing key.Schedule)
 
 -- seed: a whole number below 2^63, and not beside a schedule
-abbrev pub seed_row : Members → Result (Option ℕ) PlanFault
-seed_row ms = optional None (λ d. tested key.Seed (is_whole d) true
-    (not (has key.Schedule ms) && is_between 0 9223372036854775807 d) (Some (natural_in d))) (at_key key.Seed ms)
+abbrev pub seed_row : Command → Members → Result (Option ℕ) PlanFault
+seed_row by ms = optional None (λ d. tested key.Seed (is_whole d) true
+    (takes by key.Seed && (not (has key.Schedule ms) && is_between 0 9223372036854775807 d)) (Some (natural_in d))) (at_key key.Seed ms)
 
 -- turns: up to a million, needed with a seed, and not beside a schedule
 abbrev pub turns_row : Members → Result (Option ℕ) PlanFault
@@ -146,20 +152,21 @@ turns_row ms = if has key.Turns ms || not (has key.Seed ms)
     then optional None (λ d. tested key.Turns (is_whole d) true (not (has key.Schedule ms) && is_between 0 ENTRIES d) (Some (natural_in d))) (at_key key.Turns ms)
     else Err (Missing key.Turns)
 
+-- no items
+abbrev pub is_none : List Data → Bool
+is_none [] = true
+is_none (d ∷ ds) = false
+
 -- stop: up to 1,000 tables of the keys of a stop; none where the key is absent
-abbrev pub stops_row : Medium → ℕ → Members → Result (List PlannedStop) PlanFault
-stops_row medium guests ms = optional [] (λ d. if list_all is_complete (items_in d)
-    then tested key.Stop (is_array_of has_stop_kinds d) (nat_le (length (items_in d)) 1000) (list_all (has_stop_ranges medium guests) (items_in d)) (map stop_of (items_in d))
+abbrev pub stops_row : Command → Medium → ℕ → Members → Result (List PlannedStop) PlanFault
+stops_row by medium guests ms = optional [] (λ d. if list_all is_complete (items_in d)
+    then tested key.Stop (is_array_of has_stop_kinds d) (nat_le (length (items_in d)) 1000)
+    ((takes by key.Stop || is_none (items_in d)) && list_all (has_stop_ranges medium guests) (items_in d)) (map stop_of (items_in d))
     else Err (Missing key.Stop)) (at_key key.Stop ms)
 
--- a run may be halted on a disk, which keeps what it goes on from
-abbrev pub may_halt : Medium → Bool
-may_halt medium.Rio = false
-may_halt medium.Disk = true
-
 -- halt: up to a million, and only on a disk
-abbrev pub halt_row : Medium → Members → Result (Option ℕ) PlanFault
-halt_row medium ms = optional None (λ d. tested key.Halt (is_whole d) true (may_halt medium && is_between 0 ENTRIES d) (Some (natural_in d))) (at_key key.Halt ms)
+abbrev pub halt_row : Command → Medium → Members → Result (Option ℕ) PlanFault
+halt_row by medium ms = optional None (λ d. tested key.Halt (is_whole d) true (takes by key.Halt && (may_halt medium && is_between 0 ENTRIES d)) (Some (natural_in d))) (at_key key.Halt ms)
 
 -- the file where there is one, and else the seed with its turns, neither of which is absent then
 abbrev pub source_of : Option (List ℕ) → Option ℕ → Option ℕ → Source
@@ -167,18 +174,18 @@ source_of (Some name) seed turns = InFile name
 source_of None seed turns = FromSeed (unwrap_or seed 0) (unwrap_or turns 0)
 
 -- the keys in the order of their tests
-abbrev pub rows : Members → Result Plan PlanFault
-rows ms =
+abbrev pub rows : Command → Members → Result Plan PlanFault
+rows by ms =
     protocol_row ms >>= (λ protocol.
-    medium_row ms >>= (λ medium.
+    medium_row by ms >>= (λ medium.
     memory_row ms >>= (λ memory.
     guests_row ms >>= (λ guests.
     inputs_row (length guests) ms >>= (λ inputs.
     schedule_row ms >>= (λ schedule.
-    seed_row ms >>= (λ seed.
+    seed_row by ms >>= (λ seed.
     turns_row ms >>= (λ turns.
-    stops_row medium (length guests) ms >>= (λ stops.
-    halt_row medium ms >>= (λ halt.
+    stops_row by medium (length guests) ms >>= (λ stops.
+    halt_row by medium ms >>= (λ halt.
     Ok (record { protocol = protocol; medium = medium; memory = memory; guests = guests; inputs = inputs; schedule = source_of schedule seed turns; stops = stops; halt = halt })))))))))))
 
 -- the items of the value at a key
@@ -190,13 +197,13 @@ items_at (Some d) = items_in d
 abbrev pub has_known_keys : Members → Bool
 has_known_keys ms = list_all is_key (names_in ms) && list_all has_stop_keys (items_at (at_key key.Stop ms))
 
--- what a document says, or the first rule that it breaks
-abbrev pub plan_from : Members → Result Plan PlanFault
-plan_from ms = if has_known_keys ms then rows ms else Err Unknown
+-- what a document says to a command, or the first rule that it breaks
+abbrev pub plan_from : Command → Members → Result Plan PlanFault
+plan_from by ms = if has_known_keys ms then rows by ms else Err Unknown
 
--- what the bytes of a plan say, or the first rule that they break
-unfoldable pub plan_of : List ℕ → Result Plan PlanFault
-plan_of bytes = or_fault Text (if is_utf8 bytes then parse_document bytes else None) >>= plan_from
+-- what the bytes of a plan say to a command, or the first rule that they break
+unfoldable pub plan_of : Command → List ℕ → Result Plan PlanFault
+plan_of by bytes = or_fault Text (if is_utf8 bytes then parse_document bytes else None) >>= plan_from by
 
 -- the source of a plan in the code
 abbrev pub source_view : ScheduleSource → Source

@@ -1,6 +1,7 @@
 //! Plans: what a run is to be, as a TOML document.
 #![tactic(auto)]
 
+mod command;
 mod fault;
 mod inputs;
 mod keys;
@@ -13,6 +14,7 @@ mod rows;
 mod stops;
 mod values;
 
+pub use command::Command;
 pub use fault::{PlanError, PlanFault};
 pub use keys::Key;
 pub use laws::a_stop_says_its_numbers;

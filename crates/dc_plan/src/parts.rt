@@ -7,6 +7,7 @@ ghost use Rattle.dc_plan.specs.Plans.{at_key, has_known_keys, items_at, plan_fro
 ghost use Rattle.dc_words.specs.Results.{seen};
 ghost use Rattle.dc_plan.specs.Parts.{parts_view};
 
+use crate::command::Command;
 use crate::fault::PlanFault;
 use crate::keys::{Key, at_key, is_key};
 use crate::plan::Medium;
@@ -77,19 +78,19 @@ fn has_known_keys(table: &Table) -> bool
 }
 
 /// The keys in the order of their tests.
-fn rows_in(table: &Table) -> Result<Parts<'_>, PlanFault>
-    ensures { seen parts_view result ≡ rows (table_view table.now) }
+fn rows_in(by: Command, table: &Table) -> Result<Parts<'_>, PlanFault>
+    ensures { seen parts_view result ≡ rows by (table_view table.now) }
 {
     let protocol = protocol_in(table)?;
-    let medium = medium_in(table)?;
+    let medium = medium_in(by, table)?;
     let memory = memory_in(table)?;
     let guests = guests_in(table)?;
     let inputs = inputs_in(guests.len(), table)?;
     let schedule = schedule_in(table)?;
-    let seed = seed_in(table)?;
+    let seed = seed_in(by, table)?;
     let turns = turns_in(table)?;
-    let stops = stops_in(medium, guests.len(), table)?;
-    let halt = halt_in(medium, table)?;
+    let stops = stops_in(by, medium, guests.len(), table)?;
+    let halt = halt_in(by, medium, table)?;
     Ok(Parts {
         protocol,
         medium,
@@ -104,12 +105,12 @@ fn rows_in(table: &Table) -> Result<Parts<'_>, PlanFault>
     })
 }
 
-/// What a document says as a plan, or the first rule that it breaks.
-pub fn parts_in(table: &Table) -> Result<Parts<'_>, PlanFault>
-    ensures { seen parts_view result ≡ plan_from (table_view table.now) }
+/// What a document says to a command as a plan, or the first rule that it breaks.
+pub fn parts_in(by: Command, table: &Table) -> Result<Parts<'_>, PlanFault>
+    ensures { seen parts_view result ≡ plan_from by (table_view table.now) }
 {
     if !has_known_keys(table) {
         return Err(PlanFault::Unknown);
     }
-    rows_in(table)
+    rows_in(by, table)
 }

@@ -3,10 +3,11 @@ ghost use Rattle.std.specs.Str.{is_utf8};
 ghost use Rattle.toml.specs.View.{view};
 ghost use Rattle.dc_plan.specs.Values.{items_in, text_in};
 ghost use Rattle.dc_plan.specs.Plans.{IsExact, plan_of, plan_view, input_record_of, source_of, source_view};
-ghost use Rattle.dc_plan.specs.Allowed.{IsAllowed};
+ghost use Rattle.dc_plan.specs.Allowed.{IsAllowed, Suits};
 ghost use Rattle.dc_plan.specs.Stops.{HasRoom, stop_of};
 ghost use Rattle.dc_plan.specs.Parts.{parts_view};
 
+use crate::command::Command;
 use crate::fault::{PlanError, PlanFault};
 use crate::inputs::input_record_of;
 use crate::parts::{Parts, parts_in};
@@ -117,18 +118,20 @@ fn copied(alloc: Global, parts: &Parts) -> Result<Plan, AllocError>
     })
 }
 
-/// Reads a plan from the bytes of a TOML document. Want of memory apart, this is what they say as a plan, or the first rule that
-/// they break; a plan whose text is faulty may be answered with want of memory too.
-pub fn read_plan(alloc: Global, bytes: &[u8]) -> Result<Plan, PlanError>
-    ensures exact { IsExact result (plan_of bytes.now) }
+/// Reads a plan from the bytes of a TOML document, for a command. Want of memory apart, this is what they say as a plan, or the first
+/// rule that they break, the command's among them; a plan whose text is faulty may be answered with want of memory too.
+pub fn read_plan(alloc: Global, bytes: &[u8], command: Command) -> Result<Plan, PlanError>
+    ensures exact { IsExact result (plan_of command bytes.now) }
     // Its values are in their ranges.
     ensures allowed { IfOk result (λ plan. IsAllowed (plan_view plan)) }
+    // It has nothing of what the command forbids.
+    ensures suits { IfOk result (λ plan. Suits command (plan_view plan)) }
 {
-    plan_in(alloc, bytes)
+    plan_in(alloc, bytes, command)
 }
 
-fn plan_in(alloc: Global, bytes: &[u8]) -> Result<Plan, PlanError>
-    ensures { IsExact result (plan_of bytes.now) }
+fn plan_in(alloc: Global, bytes: &[u8], command: Command) -> Result<Plan, PlanError>
+    ensures { IsExact result (plan_of command bytes.now) }
 {
     let Ok(text) = from_utf8(bytes) else {
         return Err(PlanError::Refused(PlanFault::Text));
@@ -138,7 +141,7 @@ fn plan_in(alloc: Global, bytes: &[u8]) -> Result<Plan, PlanError>
         Err(error) if error.is_memory() => return Err(PlanError::Memory),
         Err(_) => return Err(PlanError::Refused(PlanFault::Text)),
     };
-    let parts = match parts_in(&table) {
+    let parts = match parts_in(command, &table) {
         Ok(parts) => parts,
         Err(fault) => return Err(PlanError::Refused(fault)),
     };

@@ -3,10 +3,12 @@ ghost use Rattle.std.specs.Prelude.{◌≡◌, ◌≤◌, ◌&&◌, ◌==◌, So
 ghost use Rattle.std.specs.List.{list_all};
 ghost use Rattle.toml.specs.View.{view, table_view};
 ghost use Rattle.dc_plan.specs.Values.{is_array_of, is_text, items_in, text_in};
-ghost use Rattle.dc_plan.specs.Plans.{guests_row, halt_row, has, inputs_row, inputs_said, may_halt, medium_named, medium_row, memory_row, needed, protocol_named, protocol_row, schedule_row, seed_row, stops_row, turns_row};
+ghost use Rattle.dc_plan.specs.Plans.{guests_row, halt_row, has, inputs_row, inputs_said, medium_named, medium_row, memory_row, needed, protocol_named, protocol_row, schedule_row, seed_row, stops_row, turns_row};
+ghost use Rattle.dc_plan.specs.Commands.{may_halt, runs_on};
 ghost use Rattle.dc_plan.specs.Stops.{stop_of};
 ghost use Rattle.dc_words.specs.Results.{seen};
 
+use crate::command::{Command, takes};
 use crate::fault::PlanFault;
 use crate::inputs::{are_inputs_few, are_inputs_right, is_array_of_lists};
 use crate::keys::{Key, at_key};
@@ -85,17 +87,17 @@ pub fn protocol_in(table: &Table) -> Result<Protocol, PlanFault>
     }
 }
 
-/// The medium.
-pub fn medium_in(table: &Table) -> Result<Medium, PlanFault>
-    ensures { result ≡ medium_row (table_view table.now) }
+/// The medium, on which the command's run can be.
+pub fn medium_in(by: Command, table: &Table) -> Result<Medium, PlanFault>
+    ensures { result ≡ medium_row by (table_view table.now) }
 {
     let value = needed(Key::Medium, table)?;
     if !value.is_str() {
         return Err(PlanFault::Kind(Key::Medium));
     }
     match medium_named(text_in(value)) {
-        Some(medium) => Ok(medium),
-        None => Err(PlanFault::Range(Key::Medium)),
+        Some(medium) if runs_on(by, medium) => Ok(medium),
+        _ => Err(PlanFault::Range(Key::Medium)),
     }
 }
 
@@ -175,8 +177,8 @@ pub fn schedule_in(table: &Table) -> Result<Option<&str>, PlanFault>
 }
 
 /// The seed.
-pub fn seed_in(table: &Table) -> Result<Option<u64>, PlanFault>
-    ensures { result ≡ seed_row (table_view table.now) }
+pub fn seed_in(by: Command, table: &Table) -> Result<Option<u64>, PlanFault>
+    ensures { result ≡ seed_row by (table_view table.now) }
 {
     let Some(value) = at_key(Key::Seed, table) else {
         return Ok(None);
@@ -185,7 +187,7 @@ pub fn seed_in(table: &Table) -> Result<Option<u64>, PlanFault>
         return Err(PlanFault::Kind(Key::Seed));
     };
     match u64::try_from(number) {
-        Ok(seed) if !has(Key::Schedule, table) => Ok(Some(seed)),
+        Ok(seed) if takes(by, Key::Seed) && !has(Key::Schedule, table) => Ok(Some(seed)),
         _ => Err(PlanFault::Range(Key::Seed)),
     }
 }
@@ -211,8 +213,13 @@ pub fn turns_in(table: &Table) -> Result<Option<u32>, PlanFault>
 }
 
 /// The tables of the stops.
-pub fn stops_in(medium: Medium, guests: usize, table: &Table) -> Result<&[Value], PlanFault>
-    ensures { seen (λ stops. map stop_of (map view stops.now)) result ≡ stops_row medium guests (table_view table.now) }
+pub fn stops_in(
+    by: Command,
+    medium: Medium,
+    guests: usize,
+    table: &Table,
+) -> Result<&[Value], PlanFault>
+    ensures { seen (λ stops. map stop_of (map view stops.now)) result ≡ stops_row by medium guests (table_view table.now) }
 {
     let Some(value) = at_key(Key::Stop, table) else {
         return Ok(&[]);
@@ -227,6 +234,9 @@ pub fn stops_in(medium: Medium, guests: usize, table: &Table) -> Result<&[Value]
     if stops.len() > MOST_STOPS {
         return Err(PlanFault::TooMany(Key::Stop));
     }
+    if !takes(by, Key::Stop) && !stops.is_empty() {
+        return Err(PlanFault::Range(Key::Stop));
+    }
     if !are_stops_right(medium, guests, value) {
         return Err(PlanFault::Range(Key::Stop));
     }
@@ -240,9 +250,16 @@ fn may_halt(medium: Medium) -> bool
     matches!(medium, Medium::Disk)
 }
 
+/// Whether a command's run can be on that medium.
+fn runs_on(by: Command, medium: Medium) -> bool
+    ensures { result ≡ runs_on by medium }
+{
+    by != Command::Resume || may_halt(medium)
+}
+
 /// The first entry that is not run.
-pub fn halt_in(medium: Medium, table: &Table) -> Result<Option<u32>, PlanFault>
-    ensures { result ≡ halt_row medium (table_view table.now) }
+pub fn halt_in(by: Command, medium: Medium, table: &Table) -> Result<Option<u32>, PlanFault>
+    ensures { result ≡ halt_row by medium (table_view table.now) }
 {
     let Some(value) = at_key(Key::Halt, table) else {
         return Ok(None);
@@ -251,7 +268,9 @@ pub fn halt_in(medium: Medium, table: &Table) -> Result<Option<u32>, PlanFault>
         return Err(PlanFault::Kind(Key::Halt));
     };
     match u32::try_from(number) {
-        Ok(entry) if entry <= ENTRIES && may_halt(medium) => Ok(Some(entry)),
+        Ok(entry) if entry <= ENTRIES && may_halt(medium) && takes(by, Key::Halt) => Ok(Some(
+            entry,
+        )),
         _ => Err(PlanFault::Range(Key::Halt)),
     }
 }

@@ -37,22 +37,6 @@ one_marked t k line low e =
     (λ (same : line ≡ k). subst (IsMarked (set t k true)) (sym same) here)
     e
 
--- a word is stored that was another
-pub marks_word : (b : List ℕ) (t : List Bool) (i w : ℕ) → i < length b → i / 16 < length t → get_or b i 0 ≢ w → MarksThese (Differs b (set b i w)) t (set t (i / 16) true)
-marks_word b t i w low line_low ne line = (
-  λ is. ⊎_elim
-      (λ was. inl was)
-      (λ (same : line ≡ i / 16). inr (i, sym same, λ (e : get_or b i 0 ≡ get_or (set b i w) i 0). ne (e ∙ get_or-set_same b i w 0 low)))
-      (marks_one t (i / 16) line line_low is),
-  λ e. one_marked t (i / 16) line line_low (⊎_elim
-      (λ was. inl was)
-      (λ (d : Differs b (set b i w) line). ⊎_elim
-      (λ (same : d.0 ≡ i). inr (sym d.1 ∙ ap (λ n. n / 16) same))
-      (λ (other : d.0 ≢ i). absurd (d.2 (sym (get_or-set_other b i d.0 w 0 other))))
-      (cases_eq d.0 i))
-      e),
-)
-
 -- one after the other, where no word is stored twice
 pub marks_then : (a b c : List ℕ) (t u v : List Bool) → ((i : ℕ) → (get_or a i 0 ≡ get_or b i 0) ⊎ (get_or b i 0 ≡ get_or c i 0)) → MarksThese (Differs a b) t u → MarksThese (Differs b c) u v → MarksThese (Differs a c) t v
 marks_then a b c t u v once first second line = (

@@ -206,12 +206,12 @@ module _ {S : Type 0} (asked : List (String Global)) (v : Verdict) (before after
     by_setting m task of device stopped (Err refusal) opened begun never = tt
 
     -- of a run: its store is refused only where it is not told
-    pub run_complete : (known : Option Files) (order : Order) → asked_of asked ≡ Some (ToRun order) → ((p : ℕ) → v ≡ DeviceStopped p → keeps_journal order.ledger ≡ true) → IfSome known (λ files. Counted (on (medium_at files order.plan)))
+    pub run_complete : (known : Option Files) (order : Order) → asked_of asked ≡ Some (ToRun order) → ((p : ℕ) → v ≡ DeviceStopped p → keeps_journal order.ledger ≡ true) → IfSome known (λ files. Counted (on (medium_at files order)))
         → IfSome known (λ files. IsOpenedFor (λ setting u. may_have_run u) v (as_verdict (opening_of files order))) → is_of_going_on v ≡ false
-        → ((p : ℕ) (fault : StoreFault) → v ≡ StoreRefused p fault → IfSome known (λ files. IsOkAnd (as_verdict (opening_of files order)) (λ setting. (on (medium_at files order.plan)).tell (length setting.images) before after → ⊥)))
+        → ((p : ℕ) (fault : StoreFault) → v ≡ StoreRefused p fault → IfSome known (λ files. IsOkAnd (as_verdict (opening_of files order)) (λ setting. (on (medium_at files order)).tell (length setting.images) before after → ⊥)))
         → IfSome known (λ files. IfOk (work_of files asked) (Complete (on (medium_of files asked))))
     run_complete None order is stopped device opened begun never = tt
-    run_complete (Some files) order is stopped device opened begun never = rw is (by_setting (medium_at files order.plan) (task_in files order) (λ setting. refl) device (λ setting. stopped) (as_verdict (opening_of files order)) opened begun never)
+    run_complete (Some files) order is stopped device opened begun never = rw is (by_setting (medium_at files order) (task_in files order) (λ setting. refl) device (λ setting. stopped) (as_verdict (opening_of files order)) opened begun never)
 
     -- of a run that goes on
     pub resume_complete : (known : Option Files) (names : Names) → asked_of asked ≡ Some (ToResume names) → Counted (on medium.Disk) → IfSome known (λ files. IsOpenedFor (λ going u. may_have_run u) v (going_in files names))
@@ -245,20 +245,20 @@ never_refused task on o lent out report p fault e is told = let kept = is.kept t
     by_ending (is_halted task) is.ending o.verdict _ report p fault (λ q why same. subst (λ x. IsEnding (part_of task) x o.marks.items kept.last kept.core) same kept.ending_is) is.report_told e
 
 -- what follows of the task that an order opens
-pub opened_with : (known : Option Files) (order : Order) (P Q : Medium → Task → Type 0) → ((m : Medium) (task : Task) → P m task → Q m task) → IfSome known (λ files. IsOkAnd (as_verdict (opening_of files order)) (λ s. P (medium_at files order.plan) (task_in files order s)))
-    → IfSome known (λ files. IsOkAnd (as_verdict (opening_of files order)) (λ s. Q (medium_at files order.plan) (task_in files order s)))
+pub opened_with : (known : Option Files) (order : Order) (P Q : Medium → Task → Type 0) → ((m : Medium) (task : Task) → P m task → Q m task) → IfSome known (λ files. IsOkAnd (as_verdict (opening_of files order)) (λ s. P (medium_at files order) (task_in files order s)))
+    → IfSome known (λ files. IsOkAnd (as_verdict (opening_of files order)) (λ s. Q (medium_at files order) (task_in files order s)))
 opened_with None order P Q weaker is = tt
-opened_with (Some files) order P Q weaker is = by (medium_at files order.plan) (as_verdict (opening_of files order)) is
+opened_with (Some files) order P Q weaker is = by (medium_at files order) (as_verdict (opening_of files order)) is
   where
     by : (m : Medium) (r : Result Setting Verdict) → IsOkAnd r (λ s. P m (task_in files order s)) → IsOkAnd r (λ s. Q m (task_in files order s))
     by m (Ok setting) holds = weaker m (task_in files order setting) holds
     by m (Err v) holds = holds
 
 -- the same of the words' work
-pub run_of_words : (known : Option Files) (words : List (String Global)) (order : Order) (P : Medium → Task → Type 0) → asked_of words ≡ Some (ToRun order) → IfSome known (λ files. IsOkAnd (as_verdict (opening_of files order)) (λ s. P (medium_at files order.plan) (task_in files order s)))
+pub run_of_words : (known : Option Files) (words : List (String Global)) (order : Order) (P : Medium → Task → Type 0) → asked_of words ≡ Some (ToRun order) → IfSome known (λ files. IsOkAnd (as_verdict (opening_of files order)) (λ s. P (medium_at files order) (task_in files order s)))
     → IfSome known (λ files. IsOkAnd (work_of files words) (λ work. IfRun work (P (medium_of files words))))
 run_of_words None words order P asked is = tt
-run_of_words (Some files) words order P asked is = rw asked (by (medium_at files order.plan) (as_verdict (opening_of files order)) is)
+run_of_words (Some files) words order P asked is = rw asked (by (medium_at files order) (as_verdict (opening_of files order)) is)
   where
     by : (m : Medium) (r : Result Setting Verdict) → IsOkAnd r (λ s. P m (task_in files order s)) → IsOkAnd (r >>= (λ setting. Ok (Run (task_in files order setting)))) (λ work. IfRun work (P m))
     by m (Ok setting) holds = holds

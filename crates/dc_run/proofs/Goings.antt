@@ -84,7 +84,7 @@ answers_opened known told same v (inl free) = inl free
 answers_opened known told same v (inr e) = inr (same ∙ e)
 
 -- what they go on with, where they open this setting, halted there, and have this report
-pub going_is : (files : Files) (names : Halted) (setting : Setting) (halt : Option ℕ) (report : Report) → opening_of files (to_go_on names.plan) ≡ Ok setting → halt_at files names.plan ≡ halt → report_for files setting names.report ≡ Ok report
+pub going_is : (files : Files) (names : Halted) (setting : Setting) (halt : Option ℕ) (report : Report) → opening_of files (to_go_on names.plan) ≡ Ok setting → halt_at files (to_go_on names.plan) ≡ halt → report_for files setting names.report ≡ Ok report
     → going_in files names ≡ going_with halt setting report
 going_is files names setting halt report opens halts reads = rw (opens, halts, reads) refl
 

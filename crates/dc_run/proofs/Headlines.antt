@@ -65,12 +65,12 @@ run_ledger halted run outcome verdict text sink is reports = subst (λ (o : Outc
 -- what the told files open by an order: this setting, on this medium, halted there
 pub record IsOpenedSo (known : Option Files) (order : Order) (setting : Setting) (halt : Option ℕ) (medium : Medium) : Type 0 where
   pub opened : (files : Files) → known ≡ Some files → opening_of files order ≡ Ok setting
-  pub on_it : (files : Files) → known ≡ Some files → medium_at files order.plan ≡ medium
-  pub to_it : (files : Files) → known ≡ Some files → halt_at files order.plan ≡ halt
+  pub on_it : (files : Files) → known ≡ Some files → medium_at files order ≡ medium
+  pub to_it : (files : Files) → known ≡ Some files → halt_at files order ≡ halt
 
 -- what holds of that holds of the task that they open
 pub opened_so : (known : Option Files) (order : Order) (setting : Setting) (halt : Option ℕ) (medium : Medium) (P : Medium → Task → Type 0) → IsOpenedSo known order setting halt medium
-    → P medium (record { ledger = order.ledger; setting = setting; halt = halt }) → IfSome known (λ files. IsOkAnd (as_verdict (opening_of files order)) (λ s. P (medium_at files order.plan) (task_in files order s)))
+    → P medium (record { ledger = order.ledger; setting = setting; halt = halt }) → IfSome known (λ files. IsOkAnd (as_verdict (opening_of files order)) (λ s. P (medium_at files order) (task_in files order s)))
 opened_so None order setting halt medium P is holds = tt
 opened_so (Some files) order setting halt medium P is holds = rw (is.opened files refl)
     (subst (λ m. P m (task_in files order setting)) (sym (is.on_it files refl)) (subst (λ h. P medium (record { ledger = order.ledger; setting = setting; halt = h })) (sym (is.to_it files refl)) holds))

@@ -23,7 +23,7 @@ use Rattle.dc_run.specs.Media.{HasFailed, HasStopped, IsOtherSame, Lent, devices
 use Rattle.dc_run.specs.Opening.{Files, medium_at}
 
 -- what holds of a medium holds of the plan's, which is this one
-pub said_so : (known : Option Files) (plan : List ℕ) (medium : Medium) (P : Medium → Type 0) → ((files : Files) → known ≡ Some files → medium_at files plan ≡ medium) → P medium → IfSome known (λ files. P (medium_at files plan))
+pub said_so : (known : Option Files) (order : Order) (medium : Medium) (P : Medium → Type 0) → ((files : Files) → known ≡ Some files → medium_at files order ≡ medium) → P medium → IfSome known (λ files. P (medium_at files order))
 said_so None plan medium P said holds = tt
 said_so (Some files) plan medium P said holds = subst P (sym (said files refl)) holds
 
@@ -33,7 +33,7 @@ each_so None by P all = tt
 each_so (Some files) by P all = all (by files)
 
 -- the same of the words that ask for the plan
-pub medium_asked : (known : Option Files) (words : List (String Global)) (order : Order) (P : Medium → Type 0) → asked_of words ≡ Some (ToRun order) → IfSome known (λ files. P (medium_at files order.plan)) → IfSome known (λ files. P (medium_of files words))
+pub medium_asked : (known : Option Files) (words : List (String Global)) (order : Order) (P : Medium → Type 0) → asked_of words ≡ Some (ToRun order) → IfSome known (λ files. P (medium_at files order)) → IfSome known (λ files. P (medium_of files words))
 medium_asked None words order P asked is = tt
 medium_asked (Some files) words order P asked is = rw asked is
 

@@ -31,7 +31,7 @@ use Rattle.dc_run.specs.Headline.{Reports, SinkCourse, used_up_at, verdict_at}
 use Rattle.dc_run.specs.Opening.{guests, halt_at}
 use Rattle.dc_run.specs.Outcomes.{status_of}
 use Rattle.dc_run.specs.Passing.{AreShown, PartPasses}
-use Rattle.dc_run.specs.Resuming.{halt_behind}
+use Rattle.dc_run.specs.Resuming.{halt_behind, to_go_on}
 use Rattle.dc_run.specs.Settings.{IsCalm}
 use Rattle.dc_run.specs.declared.outcome.Outcome.{Outcome}
 use Rattle.dc_run.specs.declared.verdict.Outlet.TheVariants as outlet
@@ -156,7 +156,7 @@ module _ (setting : Setting) (given : IsGivenRun setting.images setting.inputs s
         let over : nat_lt (entries + length o.marks.items) (length setting.schedule) ≡ true = lt-ltb (entries + length o.marks.items) (length setting.schedule) at.1 in
         let status : status_of stood ≡ 15 = at.0 in
         let played_is = played_when_drawn (guests setting) setting.schedule o.acts.items all.world drawn all.acts_run in (
-          record { setting = setting; report = record { status = 15; entries = entries + length o.marks.items; acts = o.acts.items; lines = o.lines }; halt = halt_behind (entries + length o.marks.items) (halt_at files names.plan) },
+          record { setting = setting; report = record { status = 15; entries = entries + length o.marks.items; acts = o.acts.items; lines = o.lines }; halt = halt_behind (entries + length o.marks.items) (halt_at files (to_go_on names.plan)) },
           rw (opens, here, list, reads, status, over, played_is) refl,
           record { setting_is = refl; entries_are = refl; lines_are = refl; acts_are = refl },
         );

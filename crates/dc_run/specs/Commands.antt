@@ -149,7 +149,7 @@ stores_used _ = 0
 
 -- the medium of the run that is asked for, disks where it is to go on; where none is, the first one, whose devices stay then
 abbrev pub medium_by : Files → Option Asked → Medium
-medium_by files (Some (ToRun order)) = medium_at files order.plan
+medium_by files (Some (ToRun order)) = medium_at files order
 medium_by files (Some (ToResume names)) = medium.Disk
 medium_by files _ = medium.Rio
 

@@ -1,5 +1,5 @@
 -- What a run is opened with, by the told files, or the refusal that comes first.
-use Rattle.std.specs.Prelude.{ℕ, suc, Bool, true, false, List, [], ◌∷◌, Option, None, Some, IsOkAnd, IsSome, IsSomeAnd, Result, Ok, Err, if◌then◌else◌, length, nat_lt, slice_get, take}
+use Rattle.std.specs.Prelude.{ℕ, suc, Bool, false, List, [], ◌∷◌, Option, None, Some, IsOkAnd, IsSome, IsSomeAnd, Result, Ok, Err, length, nat_lt, slice_get, take}
 use Rattle.dc_command.specs.Command.{Order}
 use Rattle.dc_command.specs.declared.command.Ledger.{Ledger}
 use Rattle.dc_command.specs.declared.command.Ledger.TheVariants as ledger
@@ -10,11 +10,10 @@ use Rattle.dc_elf.specs.declared.faults.ElfFault.{ElfFault}
 use Rattle.dc_guest.specs.Guest.{Guest, guests_of}
 use Rattle.dc_model.specs.Guests.{Guests}
 use Rattle.dc_model.specs.declared.entry.Entry.{Entry}
-use Rattle.dc_plan.specs.Plans.{Plan, Source, InFile, FromSeed, may_halt, plan_of}
-use Rattle.dc_media.specs.declared.planned.PlannedStop.{PlannedStop}
+use Rattle.dc_plan.specs.Plans.{Plan, Source, InFile, FromSeed, plan_of}
+use Rattle.dc_plan.specs.declared.command.Command.{Command}
+use Rattle.dc_plan.specs.declared.command.Command.TheVariants as command
 use Rattle.dc_plan.specs.declared.fault.PlanFault.{PlanFault}
-use Rattle.dc_plan.specs.declared.fault.PlanFault.TheVariants.{Range}
-use Rattle.dc_plan.specs.declared.keys.Key.TheVariants as key
 use Rattle.dc_plan.specs.declared.plan.Medium.{Medium}
 use Rattle.dc_plan.specs.declared.plan.Medium.TheVariants as medium
 use Rattle.dc_schedule.specs.Generated.{generated}
@@ -71,51 +70,37 @@ abbrev pub plan_or_fault : Result Plan PlanFault → Result Plan Refusal
 plan_or_fault (Ok plan) = Ok plan
 plan_or_fault (Err fault) = Err (refusal.Plan fault)
 
--- the plan of this name
-abbrev pub plan_in : Files → List ℕ → Result Plan Refusal
-plan_in files name = file_in files which.Plan name >>= (λ text. plan_or_fault (plan_of text))
+-- the command that reads a plan, by what its run writes at its end
+abbrev pub command_of : Ledger → Command
+command_of ledger.Report = command.Run
+command_of ledger.Journal = command.Journal
+command_of ledger.Total = command.Resume
 
--- a seed in place of a schedule's file
-abbrev pub is_seed : Source → Bool
-is_seed (InFile name) = false
-is_seed (FromSeed start turns) = true
-
--- some stop is planned
-abbrev pub has_stops : List PlannedStop → Bool
-has_stops [] = false
-has_stops (stop ∷ stops) = true
-
--- a plan that leaves what is to be written: of a journal a seed would stop processes, and so would planned stops; and a run goes on from stores that are there
-abbrev pub allowed_by : Ledger → Plan → Result Plan Refusal
-allowed_by ledger.Report plan = Ok plan
-allowed_by ledger.Total plan = if may_halt plan.medium then Ok plan else Err (refusal.Plan (Range key.Medium))
-allowed_by ledger.Journal plan = if is_seed plan.schedule then Err (refusal.Plan (Range key.Seed)) else (if has_stops plan.stops then Err (refusal.Plan (Range key.Stop)) else Ok plan)
-
--- the plan of an order
+-- the plan of an order: what its text says to the command
 abbrev pub plan_for : Files → Order → Result Plan Refusal
-plan_for files order = plan_in files order.plan >>= allowed_by order.ledger
+plan_for files order = file_in files which.Plan order.plan >>= (λ text. plan_or_fault (plan_of (command_of order.ledger) text))
 
 -- the medium of a plan that is read; of one that is refused nothing runs, and any would do
 abbrev pub medium_in : Result Plan Refusal → Medium
 medium_in (Ok plan) = plan.medium
 medium_in (Err refusal) = medium.Rio
 
--- by the plan's name
-abbrev pub medium_at : Files → List ℕ → Medium
-medium_at files name = medium_in (plan_in files name)
+-- by the order
+abbrev pub medium_at : Files → Order → Medium
+medium_at files order = medium_in (plan_for files order)
 
 -- the halt of a plan that is read
 abbrev pub halt_in : Result Plan Refusal → Option ℕ
 halt_in (Ok plan) = plan.halt
 halt_in (Err refusal) = None
 
--- by the plan's name
-abbrev pub halt_at : Files → List ℕ → Option ℕ
-halt_at files name = halt_in (plan_in files name)
+-- by the order
+abbrev pub halt_at : Files → Order → Option ℕ
+halt_at files order = halt_in (plan_for files order)
 
 -- the run of an order, by what it is opened with
 abbrev pub task_in : Files → Order → Setting → Task
-task_in files order setting = record { ledger = order.ledger; setting = setting; halt = halt_at files order.plan }
+task_in files order setting = record { ledger = order.ledger; setting = setting; halt = halt_at files order }
 
 -- the image, or the fault of the file of guest p
 abbrev pub image_or_fault : ℕ → Option ElfFault → Image → Result Image Refusal

@@ -59,7 +59,7 @@ going_with halt setting report = if was_halted setting.schedule report then goin
 
 -- with the setting
 abbrev pub going_at_setting : Files → Halted → Setting → Result Going Verdict
-going_at_setting files names setting = as_verdict (report_for files setting names.report) >>= going_with (halt_at files names.plan) setting
+going_at_setting files names setting = as_verdict (report_for files setting names.report) >>= going_with (halt_at files (to_go_on names.plan)) setting
 
 -- what a run is opened with, on disks, then the report: the first that is refused decides
 abbrev pub going_in : Files → Halted → Result Going Verdict

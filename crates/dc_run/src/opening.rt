@@ -2,7 +2,7 @@ ghost use Rattle.std.specs.List.{AllByRecursion};
 ghost use Rattle.std.specs.Prelude.{◌≡◌, false, [], Err, ◌≤◌, ◌<◌, ◌%◌, ◌^◌, ℕ, All, IsErrOf, IsSome, OnOk, Some, IfOk, length, map, string_bytes};
 ghost use Rattle.dc_media.specs.Causes.{Rose};
 ghost use Rattle.dc_elf.specs.Loaded.{seen_image};
-ghost use Rattle.dc_plan.specs.Allowed.{IsAllowed, IsSourceAllowed};
+ghost use Rattle.dc_plan.specs.Allowed.{IsAllowed, IsSourceAllowed, Suits, is_seed};
 ghost use Rattle.dc_plan.specs.Plans.{InFile, plan_view, source_view};
 ghost use Rattle.dc_plan.specs.declared.plan.Medium.TheVariants as Media;
 ghost use Rattle.dc_schedule.specs.Entries.{IsSchedule};
@@ -13,7 +13,7 @@ ghost use Rattle.dc_world.specs.Openable.{CanOpen};
 ghost use Rattle.dc_command.specs.Command.{order_view};
 ghost use Rattle.dc_recovery.specs.Unstopped.{AreTurns};
 ghost use Rattle.dc_schedule.specs.Schedules.{Reads};
-ghost use Rattle.dc_run.specs.Opening.{AsksAtPlan, AsksForGuest, AsksToRun, Files, IsSourceThere, allowed_by, entries_of, file_in, guest_in, halt_at, images_in, is_seed, medium_at, opening_at_plan, opening_of, plan_in, schedule_in};
+ghost use Rattle.dc_run.specs.Opening.{AsksAtPlan, AsksForGuest, AsksToRun, Files, IsSourceThere, command_of, entries_of, file_in, guest_in, halt_at, images_in, medium_at, opening_at_plan, opening_of, plan_for, schedule_in};
 ghost use Rattle.dc_run.specs.Settings.{Agrees, LibraryKept, setting_of};
 ghost use Rattle.dc_run.specs.declared.verdict.Which.{Which as Whose};
 
@@ -26,7 +26,7 @@ use dc_elf::{Image, LoadFault, load};
 use dc_limits::PROCESSES;
 use dc_media::{Fetch, Library};
 use dc_model::Entry;
-use dc_plan::{Key, Medium, Plan, PlanError, PlanFault, ScheduleSource, read_plan};
+use dc_plan::{Command, Plan, PlanError, ScheduleSource, read_plan};
 use dc_schedule::{ReadError, generate, read, read_turns};
 use dc_world::Setup;
 use std::alloc::{AllocError, Global};
@@ -53,65 +53,33 @@ pub fn fetch<L: Library>(
     }
 }
 
-/// The plan of that name.
-fn plan_at<L: Library>(alloc: Global, lib: &mut L, name: &str) -> Result<Plan, Refusal>
-    ensures told { (files : Files) → L.files lib.old ≡ Some files → Agrees plan_view result (plan_in files name.now) }
+/// The command that reads a plan, by what its run writes at its end.
+fn command_of(ledger: Ledger) -> Command
+    ensures { result ≡ command_of ledger }
+{
+    match ledger {
+        Ledger::Report => Command::Run,
+        Ledger::Journal => Command::Journal,
+        Ledger::Total => Command::Resume,
+    }
+}
+
+/// The plan of an order.
+fn plan_for<L: Library>(alloc: Global, lib: &mut L, order: &Order) -> Result<Plan, Refusal>
+    ensures told { (files : Files) → L.files lib.old ≡ Some files → Agrees plan_view result (plan_for files (order_view order.now)) }
     ensures allowed { IfOk result (λ plan. IsAllowed (plan_view plan)) }
+    ensures suits { IfOk result (λ plan. Suits (command_of order.now.ledger) (plan_view plan)) }
     ensures which { (w : Whose) → IsErrOf result (Refusal.Library w) → w ≡ Which.Plan }
-    ensures there { (files : Files) (w : Whose) → L.files lib.old ≡ Some files → IsErrOf result (Refusal.Library w) → IsSome (files name.now) }
+    ensures there { (files : Files) (w : Whose) → L.files lib.old ≡ Some files → IsErrOf result (Refusal.Library w) → IsSome (files order.now.plan.now) }
     ensures files { OnOk result (L.files lib.new ≡ L.files lib.old) }
     ensures fault { (w : Whose) → IsErrOf result (Refusal.Library w) → Rose (L.faults lib.old) (L.faults lib.new) }
     ensures library { LibraryKept (L.files lib.old) (L.files lib.new) (L.faults lib.old) (L.faults lib.new) }
 {
-    let text = fetch(alloc, lib, Which::Plan, name)?;
-    match read_plan(alloc, &text) {
+    let text = fetch(alloc, lib, Which::Plan, order.plan)?;
+    match read_plan(alloc, &text, command_of(order.ledger)) {
         Ok(plan) => Ok(plan),
         Err(PlanError::Refused(fault)) => Err(Refusal::Plan(fault)),
         Err(PlanError::Memory) => Err(Refusal::Memory),
-    }
-}
-
-/// A plan that leaves a journal, or why it does not: that is of turns alone, and a seed would stop processes too.
-fn noted_by(plan: Plan) -> Result<Plan, Refusal>
-    ensures told { Agrees plan_view result (allowed_by Ledger.Journal (plan_view plan)) }
-    ensures same { IfOk result (λ allowed. allowed ≡ plan) }
-    ensures none { IfOk result (λ allowed. allowed.stops.items ≡ []) }
-    ensures which { (w : Whose) → ¬ (result ≡ Err (Refusal.Library w)) }
-{
-    if let ScheduleSource::Seed(_) = plan.schedule {
-        return Err(Refusal::Plan(PlanFault::Range(Key::Seed)));
-    }
-    if !plan.stops.is_empty() {
-        return Err(Refusal::Plan(PlanFault::Range(Key::Stop)));
-    }
-    Ok(plan)
-}
-
-/// A plan whose stores outlive the program, so that its run can go on, or why they do not.
-fn lasting_by(plan: Plan) -> Result<Plan, Refusal>
-    ensures told { Agrees plan_view result (allowed_by Ledger.Total (plan_view plan)) }
-    ensures same { IfOk result (λ allowed. allowed ≡ plan) }
-    ensures disk { IfOk result (λ allowed. allowed.medium ≡ Media.Disk) }
-    ensures which { (w : Whose) → ¬ (result ≡ Err (Refusal.Library w)) }
-{
-    match plan.medium {
-        Medium::Disk => Ok(plan),
-        Medium::Rio => Err(Refusal::Plan(PlanFault::Range(Key::Medium))),
-    }
-}
-
-/// A plan that leaves what is to be written, or why it does not.
-fn allowed_by(ledger: Ledger, plan: Plan) -> Result<Plan, Refusal>
-    ensures told { Agrees plan_view result (allowed_by ledger (plan_view plan)) }
-    ensures same { IfOk result (λ allowed. allowed ≡ plan) }
-    ensures none { IfOk result (λ allowed. ledger ≡ Ledger.Journal → allowed.stops.items ≡ []) }
-    ensures disk { IfOk result (λ allowed. ledger ≡ Ledger.Total → allowed.medium ≡ Media.Disk) }
-    ensures which { (w : Whose) → ¬ (result ≡ Err (Refusal.Library w)) }
-{
-    match ledger {
-        Ledger::Report => Ok(plan),
-        Ledger::Journal => noted_by(plan),
-        Ledger::Total => lasting_by(plan),
     }
 }
 
@@ -298,8 +266,8 @@ fn open_plan<L: Library>(
 /// What the files open the run of an order with, or the first refusal.
 pub fn open<L: Library>(alloc: Global, order: &Order, lib: &mut L) -> Result<OpenedRun, Refusal>
     ensures told { (files : Files) → L.files lib.old ≡ Some files → Agrees setting_of result (opening_of files (order_view order.now)) }
-    ensures medium { (files : Files) → L.files lib.old ≡ Some files → IfOk result (λ s. medium_at files order.now.plan.now ≡ s.medium) }
-    ensures halt { (files : Files) → L.files lib.old ≡ Some files → IfOk result (λ s. halt_at files order.now.plan.now ≡ s.halt) }
+    ensures medium { (files : Files) → L.files lib.old ≡ Some files → IfOk result (λ s. medium_at files (order_view order.now) ≡ s.medium) }
+    ensures halt { (files : Files) → L.files lib.old ≡ Some files → IfOk result (λ s. halt_at files (order_view order.now) ≡ s.halt) }
     ensures disk { IfOk result (λ s. s.ledger ≡ Ledger.Total → s.medium ≡ Media.Disk) }
     ensures ledger { IfOk result (λ s. s.ledger ≡ order.now.ledger) }
     ensures turns { IfOk result (λ s. s.ledger ≡ Ledger.Journal → AreTurns s.setting.scheduled.schedule.items × (s.setting.stops.items ≡ [])) }
@@ -309,7 +277,6 @@ pub fn open<L: Library>(alloc: Global, order: &Order, lib: &mut L) -> Result<Ope
     ensures fault { (w : Whose) → IsErrOf result (Refusal.Library w) → Rose (L.faults lib.old) (L.faults lib.new) }
     ensures library { LibraryKept (L.files lib.old) (L.files lib.new) (L.faults lib.old) (L.faults lib.new) }
 {
-    let read = plan_at(alloc, lib, order.plan)?;
-    let plan = allowed_by(order.ledger, read)?;
+    let plan = plan_for(alloc, lib, order)?;
     open_plan(alloc, lib, order.ledger, plan)
 }

@@ -99,6 +99,7 @@ pub fn dc<L: Library, K: Keeps, D: Disks, O: Sink, R: Sink>(
     ensures stopped_alone { (p : ℕ) → result.verdict ≡ Verdict.DeviceStopped p → ((plan : List ℕ) × (asked_of words.now ≡ Some (to_run Ledger.Journal plan))) ⊎ AsksToGoOn words.now }
     ensures wanting { result.verdict ≡ Verdict.WantOfMemory → (p : ℕ) → IsCalmUnlessStopped K.stops K.faults p keeps.old keeps.new × IsCalmUnlessStopped D.stops D.faults p disks.old disks.new }
     ensures device_stop { (p : ℕ) → result.verdict ≡ Verdict.DeviceStopped p → Rose (K.stops keeps.old p) (K.stops keeps.new p) ⊎ Rose (D.stops disks.old p) (D.stops disks.new p) }
+    ensures stopped_before { (p : ℕ) → result.verdict ≡ Verdict.DeviceStopped p → AsksToGoOn words.now → result.did ≡ Did.Nothing }
     ensures medium_stop { IfSome (L.files lib.old) (λ files. (p : ℕ) → result.verdict ≡ Verdict.DeviceStopped p → HasStopped (devices_of K.Keeps D.Disks (medium_of files words.now)) (lent keeps.old disks.old) (lent keeps.new disks.new) p) }
     ensures output_fault { result.verdict ≡ Verdict.SinkFault Outlet.Out → Rose (O.faults out.old) (O.faults out.new) }
     ensures report_fault { result.verdict ≡ Verdict.SinkFault Outlet.Report → Rose (R.faults report.old) (R.faults report.new) }
@@ -123,9 +124,10 @@ pub fn dc<L: Library, K: Keeps, D: Disks, O: Sink, R: Sink>(
         task.ledger ≡ Ledger.Journal → (devices_of K.Keeps D.Disks (medium_of files words.now)).tell (length task.setting.images) (lent keeps.old disks.old) (lent keeps.new disks.new) → is_used_up result.verdict ≡ true →
         WritesSaved task.setting (course (R.held report.old) (R.held report.new) (R.faults report.old) (R.faults report.new))))) }
 
-    // The same where the files are not told: there is a medium and a setting of which it holds. Words that ask to run a plan do a run or nothing: a
+    // The same where the files are not told: there is a medium and a setting of which it holds, and what is lent of the other medium is untouched. Words that ask to run a plan do a run or nothing: a
     // run wherever the verdict is one of a run and no fault of a device. No other words come to a run, or to a verdict that only runs have.
     ensures ran { result.did ≡ Did.Run → (order : Orders) × (asked_of words.now ≡ Some (ToRun order)) × (medium : Media) × (task : Task) × (task.ledger ≡ order.ledger) ×
+        IsOtherSame medium (lent keeps.old disks.old) (lent keeps.new disks.new) ×
         IsReported task (devices_of K.Keeps D.Disks medium) result (loan (lent keeps.old disks.old) (lent keeps.new disks.new)) (course (O.held out.old) (O.held out.new) (O.faults out.old) (O.faults out.new))
         (course (R.held report.old) (R.held report.new) (R.faults report.old) (R.faults report.new)) }
     ensures did { AsksToRunPlan words.now → has_run result.verdict ≡ true → result.did ≡ Did.Run }
@@ -339,24 +341,25 @@ fn run_plan<L: Library, K: Keeps, D: Disks, O: Sink, R: Sink>(
     ensures library_fault { (which : Whose) → result.verdict ≡ Verdict.LibraryFault which → Rose (L.faults lib.old) (L.faults lib.new) }
     ensures library_asked { (which : Whose) → IfSome (L.files lib.old) (λ files. result.verdict ≡ Verdict.LibraryFault which → AsksToRun files (order_view order.now) which) }
     ensures device_fault { (p : ℕ) → result.verdict ≡ Verdict.DeviceFault p → Rose (K.faults keeps.old p) (K.faults keeps.new p) ⊎ Rose (D.faults disks.old p) (D.faults disks.new p) }
-    ensures medium_fault { IfSome (L.files lib.old) (λ files. (p : ℕ) → result.verdict ≡ Verdict.DeviceFault p → HasFailed (devices_of K.Keeps D.Disks (medium_at files order.now.plan.now)) (lent keeps.old disks.old) (lent keeps.new disks.new) p) }
+    ensures medium_fault { IfSome (L.files lib.old) (λ files. (p : ℕ) → result.verdict ≡ Verdict.DeviceFault p → HasFailed (devices_of K.Keeps D.Disks (medium_at files (order_view order.now))) (lent keeps.old disks.old) (lent keeps.new disks.new) p) }
     ensures wanting { result.verdict ≡ Verdict.WantOfMemory → (p : ℕ) → IsCalmUnlessStopped K.stops K.faults p keeps.old keeps.new × IsCalmUnlessStopped D.stops D.faults p disks.old disks.new }
     ensures device_stop { (p : ℕ) → result.verdict ≡ Verdict.DeviceStopped p → Rose (K.stops keeps.old p) (K.stops keeps.new p) ⊎ Rose (D.stops disks.old p) (D.stops disks.new p) }
-    ensures medium_stop { IfSome (L.files lib.old) (λ files. (p : ℕ) → result.verdict ≡ Verdict.DeviceStopped p → HasStopped (devices_of K.Keeps D.Disks (medium_at files order.now.plan.now)) (lent keeps.old disks.old) (lent keeps.new disks.new) p) }
+    ensures medium_stop { IfSome (L.files lib.old) (λ files. (p : ℕ) → result.verdict ≡ Verdict.DeviceStopped p → HasStopped (devices_of K.Keeps D.Disks (medium_at files (order_view order.now))) (lent keeps.old disks.old) (lent keeps.new disks.new) p) }
     ensures output_fault { result.verdict ≡ Verdict.SinkFault Outlet.Out → Rose (O.faults out.old) (O.faults out.new) }
     ensures report_fault { result.verdict ≡ Verdict.SinkFault Outlet.Report → Rose (R.faults report.old) (R.faults report.new) }
     ensures headline { result.did ≡ Did.Run → IfSome (L.files lib.old) (λ files. IsOkAnd (as_verdict (opening_of files (order_view order.now))) (λ setting.
-        IsReported (task_in files (order_view order.now) setting) (devices_of K.Keeps D.Disks (medium_at files order.now.plan.now)) result (loan (lent keeps.old disks.old) (lent keeps.new disks.new)) (course (O.held out.old) (O.held out.new) (O.faults out.old) (O.faults out.new))
+        IsReported (task_in files (order_view order.now) setting) (devices_of K.Keeps D.Disks (medium_at files (order_view order.now))) result (loan (lent keeps.old disks.old) (lent keeps.new disks.new)) (course (O.held out.old) (O.held out.new) (O.faults out.old) (O.faults out.new))
         (course (R.held report.old) (R.held report.new) (R.faults report.old) (R.faults report.new)))) }
     ensures saves { result.did ≡ Did.Run → IfSome (L.files lib.old) (λ files. IsOkAnd (as_verdict (opening_of files (order_view order.now))) (λ setting.
-        order.now.ledger ≡ Ledger.Journal → (devices_of K.Keeps D.Disks (medium_at files order.now.plan.now)).tell (length setting.images) (lent keeps.old disks.old) (lent keeps.new disks.new) → is_used_up result.verdict ≡ true →
+        order.now.ledger ≡ Ledger.Journal → (devices_of K.Keeps D.Disks (medium_at files (order_view order.now))).tell (length setting.images) (lent keeps.old disks.old) (lent keeps.new disks.new) → is_used_up result.verdict ≡ true →
         WritesSaved setting (course (R.held report.old) (R.held report.new) (R.faults report.old) (R.faults report.new)))) }
     ensures stopped_alone { (p : ℕ) → result.verdict ≡ Verdict.DeviceStopped p → order.now.ledger ≡ Ledger.Journal }
     ensures begun { is_of_going_on result.verdict ≡ false }
     ensures passes { result.did ≡ Did.Run → IfSome (L.files lib.old) (λ files. IsOkAnd (as_verdict (opening_of files (order_view order.now))) (λ setting.
-        order.now.ledger ≡ Ledger.Report → (devices_of K.Keeps D.Disks (medium_at files order.now.plan.now)).tell (length setting.images) (lent keeps.old disks.old) (lent keeps.new disks.new) → WritesPassing setting 0 [] (course (O.held out.old) (O.held out.new) (O.faults out.old) (O.faults out.new))
+        order.now.ledger ≡ Ledger.Report → (devices_of K.Keeps D.Disks (medium_at files (order_view order.now))).tell (length setting.images) (lent keeps.old disks.old) (lent keeps.new disks.new) → WritesPassing setting 0 [] (course (O.held out.old) (O.held out.new) (O.faults out.old) (O.faults out.new))
         (course (R.held report.old) (R.held report.new) (R.faults report.old) (R.faults report.new)) result)) }
     ensures ran { result.did ≡ Did.Run → (medium : Media) × (task : Task) × (task.ledger ≡ order.now.ledger) ×
+        IsOtherSame medium (lent keeps.old disks.old) (lent keeps.new disks.new) ×
         IsReported task (devices_of K.Keeps D.Disks medium) result (loan (lent keeps.old disks.old) (lent keeps.new disks.new)) (course (O.held out.old) (O.held out.new) (O.faults out.old) (O.faults out.new))
         (course (R.held report.old) (R.held report.new) (R.faults report.old) (R.faults report.new)) }
     ensures did { has_run result.verdict ≡ true → result.did ≡ Did.Run }
@@ -369,7 +372,7 @@ fn run_plan<L: Library, K: Keeps, D: Disks, O: Sink, R: Sink>(
     ensures report_tells { TellsOn 0 (R.faults report.new) (R.held report.old) (R.held report.new) }
     ensures output_later { O.faults out.old ≤ O.faults out.new }
     ensures report_later { R.faults report.old ≤ R.faults report.new }
-    ensures other { IfSome (L.files lib.old) (λ files. IsOtherSame (medium_at files order.now.plan.now) (lent keeps.old disks.old) (lent keeps.new disks.new)) }
+    ensures other { IfSome (L.files lib.old) (λ files. IsOtherSame (medium_at files (order_view order.now)) (lent keeps.old disks.old) (lent keeps.new disks.new)) }
     ensures either { (keeps.new ≡ keeps.old) ⊎ (disks.new ≡ disks.old) }
     ensures keeps_refused { may_have_run result.verdict ≡ false → (result.verdict ≡ Verdict.WantOfMemory → ⊥) → keeps.new ≡ keeps.old }
     ensures keeps_later { (p : ℕ) → (K.stops keeps.old p ≤ K.stops keeps.new p) × (K.faults keeps.old p ≤ K.faults keeps.new p) }

@@ -279,6 +279,7 @@ pub fn resume_run<L: Library, D: Disks, O: Sink, R: Sink>(
     ensures library_asked { (which : Whose) → IfSome (L.files lib.old) (λ files. result.verdict ≡ Verdict.LibraryFault which → AsksToResume files (halted_view names.now) which) }
     ensures device_fault { (p : ℕ) → result.verdict ≡ Verdict.DeviceFault p → Rose (D.faults disks.old p) (D.faults disks.new p) }
     ensures device_stop { (p : ℕ) → result.verdict ≡ Verdict.DeviceStopped p → Rose (D.stops disks.old p) (D.stops disks.new p) }
+    ensures stopped_before { (p : ℕ) → result.verdict ≡ Verdict.DeviceStopped p → result.did ≡ Did.Nothing }
     ensures wanting { result.verdict ≡ Verdict.WantOfMemory → (p : ℕ) → IsCalmUnlessStopped D.stops D.faults p disks.old disks.new }
     ensures output_fault { result.verdict ≡ Verdict.SinkFault Outlets.Out → Rose (O.faults out.old) (O.faults out.new) }
     ensures report_fault { result.verdict ≡ Verdict.SinkFault Outlets.Report → Rose (R.faults report.old) (R.faults report.new) }

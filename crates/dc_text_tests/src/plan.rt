@@ -4,7 +4,7 @@
 use crate::holding::holds;
 use dc_links::Message;
 use dc_media::PlannedStop;
-use dc_plan::{Key, Medium, Plan, PlanError, PlanFault, ScheduleSource, read_plan};
+use dc_plan::{Command, Key, Medium, Plan, PlanError, PlanFault, ScheduleSource, read_plan};
 use dc_protocols::Protocol;
 use std::alloc::{AllocError, Global};
 use std::test::Fail;
@@ -46,9 +46,9 @@ fn repeated(
     Ok(whole)
 }
 
-/// The text of what is wrong with a plan, empty where nothing is.
-fn said(alloc: Global, bytes: &[u8]) -> Result<String, Fail> {
-    match read_plan(alloc, bytes) {
+/// The text of what is wrong with a plan for a command, empty where nothing is.
+fn said(alloc: Global, bytes: &[u8], command: Command) -> Result<String, Fail> {
+    match read_plan(alloc, bytes, command) {
         Ok(_) => Ok(String::new(alloc)),
         Err(PlanError::Refused(fault)) => Ok(format!(in alloc; "{fault}")?),
         Err(PlanError::Memory) => Err(Fail::new("out of memory")),
@@ -57,11 +57,22 @@ fn said(alloc: Global, bytes: &[u8]) -> Result<String, Fail> {
 
 /// Fails where another fault is told than this one, or none.
 fn is_told(alloc: Global, bytes: &[u8], fault: &str, what: &str) -> Result<(), Fail> {
-    let told = said(alloc, bytes)?;
+    is_told_by(alloc, bytes, Command::Run, fault, what)
+}
+
+/// The same of a plan that a command reads.
+fn is_told_by(
+    alloc: Global,
+    bytes: &[u8],
+    command: Command,
+    fault: &str,
+    what: &str,
+) -> Result<(), Fail> {
+    let told = said(alloc, bytes, command)?;
     holds(told.as_str() == fault, what)
 }
 
-fn row_holds(alloc: Global, row: &str) -> Result<(), Fail> {
+fn row_holds(alloc: Global, command: Command, row: &str) -> Result<(), Fail> {
     let Some((removed, rest)) = row.split_once('|') else {
         return Err(Fail::new("a row without a text"));
     };
@@ -70,12 +81,16 @@ fn row_holds(alloc: Global, row: &str) -> Result<(), Fail> {
     };
     let added = added.replace(alloc, "~", "\n")?;
     let text = changed(alloc, removed, added.as_str())?;
-    is_told(alloc, text.as_bytes(), fault, row)
+    is_told_by(alloc, text.as_bytes(), command, fault, row)
 }
 
 fn each_row(alloc: Global, rows: &str) -> Result<(), Fail> {
+    each_row_for(alloc, Command::Run, rows)
+}
+
+fn each_row_for(alloc: Global, command: Command, rows: &str) -> Result<(), Fail> {
     for row in rows.lines() {
-        row_holds(alloc, row)?;
+        row_holds(alloc, command, row)?;
     }
     Ok(())
 }
@@ -116,6 +131,50 @@ medium|halt = 1~medium = 'disk'~stop = []|
 #[test]
 fn plans_are_read(rt: HostRuntime) -> Result<(), Fail> {
     each_row(rt.alloc(), READ)
+}
+
+/// What a plan may not say where its run leaves a journal, each at its key and behind the other faults there.
+const JOURNALS: &str = "\
+||
+|stop = []|
+medium|medium = 'disk'|
+schedule|seed = 1|range seed
+schedule|seed = 1~turns = 3|range seed
+schedule|seed = 'one'|kind seed
+schedule||missing schedule
+|seed = 1|range seed
+|stop = [{turn = 1, process = 0, call = 1, keep = 0}]|range stop
+|stop = [{turn = 1, process = 0, call = 1}]|missing stop
+|stop = [{turn = 1, process = 0, call = 1, keep = 'all'}]|kind stop
+medium|medium = 'disk'~halt = 5~stop = [{turn = 1, process = 0, call = 1, keep = 0}]|range stop
+medium|medium = 'disk'~halt = 0|range halt
+medium|medium = 'disk'~halt = 5|range halt
+medium|medium = 'disk'~halt = 1000001|range halt
+medium|medium = 'disk'~halt = 'five'|kind halt
+|halt = 5|range halt
+memory|seed = 1|missing memory
+";
+
+#[test]
+fn a_journal_forbids_at_its_key(rt: HostRuntime) -> Result<(), Fail> {
+    each_row_for(rt.alloc(), Command::Journal, JOURNALS)
+}
+
+/// What a plan may not say where its run goes on.
+const RESUMES: &str = "\
+||range medium
+memory||range medium
+protocol||missing protocol
+medium|medium = 1|kind medium
+medium|medium = 'tape'|range medium
+medium|medium = 'disk'|
+medium|medium = 'disk'~halt = 5|
+medium memory|medium = 'disk'|missing memory
+";
+
+#[test]
+fn a_run_goes_on_from_a_disk_alone(rt: HostRuntime) -> Result<(), Fail> {
+    each_row_for(rt.alloc(), Command::Resume, RESUMES)
 }
 
 /// No plans, for a text that is none or a key that none has.
@@ -342,7 +401,7 @@ fn are_records(records: &[Message], want: &[&[u8]]) -> Result<(), Fail> {
 fn a_plan_says_its_values(rt: HostRuntime) -> Result<(), Fail> {
     let text =
         "protocol = \"cbndvs\"\nmedium = \"rio\"\nmemory = 1048576\nguests = [\"ping\"]\ninputs = [[\"6f6b\", \"\"]]\nschedule = \"turns\"\n";
-    let plan = read_plan(rt.alloc(), text.as_bytes())?;
+    let plan = read_plan(rt.alloc(), text.as_bytes(), Command::Run)?;
     has_values(&plan)?;
     is_source(rt.alloc(), &plan.schedule, "file=turns")?;
     has_guest(&plan.guests)?;
@@ -352,7 +411,7 @@ fn a_plan_says_its_values(rt: HostRuntime) -> Result<(), Fail> {
 #[test]
 fn a_guest_without_inputs_has_no_records(rt: HostRuntime) -> Result<(), Fail> {
     let text = changed(rt.alloc(), "", "")?;
-    let plan = read_plan(rt.alloc(), text.as_bytes())?;
+    let plan = read_plan(rt.alloc(), text.as_bytes(), Command::Run)?;
     is_input(&plan.inputs, &[])
 }
 
@@ -463,7 +522,7 @@ fn plan_says(alloc: Global, row: &str) -> Result<(), Fail> {
     };
     let added = added.replace(alloc, "~", "\n")?;
     let text = changed(alloc, removed, added.as_str())?;
-    let plan = read_plan(alloc, text.as_bytes())?;
+    let plan = read_plan(alloc, text.as_bytes(), Command::Run)?;
     let told = plan_text(alloc, &plan)?;
     holds(told.as_str() == want, row)
 }

@@ -41,7 +41,7 @@ returns-clause-headline g c =
       told = λ p less. subst (λ x. IsSome (g.K.Keeps.told x p)) (sym lent) (tells.told p less);
       stops = λ p less. let all = c.run-course.ensures.planned p in let none = c.new-armed.ensures.came p in let few = tells.stops p less in let long = c.args.setting.scheduled.entries in omega (arith, all, none, few, long);
       faults = tells.faults;
-    })) c.new-armed.ensures.stops lent (λ s. shape_of s.store.frame) (λ s. refl) (λ d s is. is) (λ x s d r l. l) (λ x s d l. l)) c.run-course.ensures.headline)
+    })) c.new-armed.ensures.stops lent (λ s. shape_of s.store.frame) (λ s. refl) (λ s. refl) (λ s. refl) (λ d s is. is) (λ x s d r l. l) (λ x s d l. l)) c.run-course.ensures.headline)
 
 pub returns-clause-tells : goal.returns-clause-tells
 returns-clause-tells g c p =

@@ -244,7 +244,7 @@ returns-in-Err-clause-complete g c = unasked_work _ c.args.words.now c.in-Err.fa
 
 pub returns-in-Ok-Run-clause-ran : goal.returns-in-Ok-Run-clause-ran
 returns-in-Ok-Run-clause-ran g c ran = let asked : asked_of c.args.words.now ≡ Some (ToRun (order_view c.in-Ok-Run.order)) = search rules in
-    let is = c.run_plan.ensures.ran ran in (order_view c.in-Ok-Run.order, asked, is.0, is.1, is.2, is.3)
+    let is = c.run_plan.ensures.ran ran in (order_view c.in-Ok-Run.order, asked, is.0, is.1, is.2, is.3, is.4)
 
 pub returns-in-Ok-Run-clause-medium_stop : goal.returns-in-Ok-Run-clause-medium_stop
 returns-in-Ok-Run-clause-medium_stop g c = let asked : asked_of c.args.words.now ≡ Some (ToRun (order_view c.in-Ok-Run.order)) = search rules in

@@ -111,6 +111,7 @@ returns-in-Ok-run_on-clause-ran g c ran = (
   c.in-Ok.opened.medium,
   task_for c.args.order.now.ledger c.in-Ok.opened,
   refl,
+  c.in-Ok-run_on.ensures.other,
   written g c,
 )
 
@@ -173,7 +174,7 @@ returns-in-Ok-run_on-clause-disks_refused g c closed no_memory = absurd (true≢
 
 pub returns-in-Ok-run_on-clause-other : goal.returns-in-Ok-run_on-clause-other
 returns-in-Ok-run_on-clause-other g c =
-    said_so (g.L.Library.files c.args.lib.now) c.args.order.now.plan.now c.in-Ok.opened.medium (λ m. IsOtherSame m (lent c.args.keeps.now c.args.disks.now) (lent c.run_on.new.keeps c.run_on.new.disks)) c.in-Ok.ensures.medium c.in-Ok-run_on.ensures.other
+    said_so (g.L.Library.files c.args.lib.now) (order_view c.args.order.now) c.in-Ok.opened.medium (λ m. IsOtherSame m (lent c.args.keeps.now c.args.disks.now) (lent c.run_on.new.keeps c.run_on.new.disks)) c.in-Ok.ensures.medium c.in-Ok-run_on.ensures.other
 
 pub returns-in-Ok-run_on-clause-either : goal.returns-in-Ok-run_on-clause-either
 returns-in-Ok-run_on-clause-either g c = either_same c.in-Ok.opened.medium (lent c.args.keeps.now c.args.disks.now) (lent c.run_on.new.keeps c.run_on.new.disks) c.in-Ok-run_on.ensures.other
@@ -194,7 +195,7 @@ returns-in-Ok-run_on-clause-device_fault g c p e =
 
 pub returns-in-Ok-run_on-clause-medium_fault : goal.returns-in-Ok-run_on-clause-medium_fault
 returns-in-Ok-run_on-clause-medium_fault g c =
-    said_so (g.L.Library.files c.args.lib.now) c.args.order.now.plan.now c.in-Ok.opened.medium
+    said_so (g.L.Library.files c.args.lib.now) (order_view c.args.order.now) c.in-Ok.opened.medium
     (λ m. (p : ℕ) → c.reported.result.verdict ≡ DeviceFault p → HasFailed (devices_of g.K.Keeps g.D.Disks m) (lent c.args.keeps.now c.args.disks.now) (lent c.run_on.new.keeps c.run_on.new.disks) p) c.in-Ok.ensures.medium
     (λ p e. c.in-Ok-run_on.ensures.device p (device_ending (is_halted (task_of c.in-Ok.opened)) c.in-Ok-run_on.course.ending c.reported.result.verdict _ _ p (reports_so g c) e))
 
@@ -229,7 +230,7 @@ returns-in-Ok-run_on-clause-stopped_alone g c p e =
 
 pub returns-in-Ok-run_on-clause-medium_stop : goal.returns-in-Ok-run_on-clause-medium_stop
 returns-in-Ok-run_on-clause-medium_stop g c =
-    said_so (g.L.Library.files c.args.lib.now) c.args.order.now.plan.now c.in-Ok.opened.medium
+    said_so (g.L.Library.files c.args.lib.now) (order_view c.args.order.now) c.in-Ok.opened.medium
     (λ m. (p : ℕ) → c.reported.result.verdict ≡ DeviceStopped p → HasStopped (devices_of g.K.Keeps g.D.Disks m) (lent c.args.keeps.now c.args.disks.now) (lent c.run_on.new.keeps c.run_on.new.disks) p) c.in-Ok.ensures.medium
     (λ p e. let stopped = stop_ending (is_halted (task_of c.in-Ok.opened)) c.in-Ok-run_on.course.ending c.reported.result.verdict _ _ p (reports_so g c) e in
     stopped_so g c p stopped)

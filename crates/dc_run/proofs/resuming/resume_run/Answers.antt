@@ -106,6 +106,12 @@ returns-in-Ok-go_on_with-clause-passes g c on =
     (λ e. c.in-Ok-go_on_with.ensures.sink (sink_ending c.leaves_over-halted.result c.in-Ok-go_on_with.course.ending c.reported.result.verdict _ report reports e))
     (λ p e. c.in-Ok-go_on_with.ensures.unstopped p (stop_ending c.leaves_over-halted.result c.in-Ok-go_on_with.course.ending c.reported.result.verdict _ report p reports e)) empty empty' lines were shown listed at at')
 
+pub returns-in-Ok-go_on_with-clause-stopped_before : goal.returns-in-Ok-go_on_with-clause-stopped_before
+returns-in-Ok-go_on_with-clause-stopped_before g c p e =
+    let report = course (g.R.Sink.held c.args.report.now) (g.R.Sink.held c.reported.new.report) (g.R.Sink.faults c.args.report.now) (g.R.Sink.faults c.reported.new.report) in
+    let reports = resumed_report c.leaves_over-halted.result c.in-Ok-go_on_with.course c.outcome_of.result c.reported.result.verdict c.in-Ok.going.report.entries report c.outcome_of.ensures c.reported.ensures.reports in
+    absurd (c.in-Ok-go_on_with.ensures.unstopped p (stop_ending c.leaves_over-halted.result c.in-Ok-go_on_with.course.ending c.reported.result.verdict _ report p reports e))
+
 pub returns-in-Err-go_on_with-clause-refused : goal.returns-in-Err-go_on_with-clause-refused
 returns-in-Err-go_on_with-clause-refused g c refusal is = for_known _ (λ files here. exact_work c.idle-in-Err-go_on_with.result.verdict refusal (going_in files (halted_view c.args.names.now)) (going_of c.in-Ok.going) is (c.in-Ok.ensures.told files here)
     (inr (subst (λ v. is_free v ≡ true) (sym (c.idle-in-Err-go_on_with.ensures.verdict ∙ c.unresumed.ensures)) (free_unresumed c.in-Err-go_on_with.fault (λ e. c.in-Err-go_on_with.ensures.legal (ap Err e))))))

@@ -150,6 +150,18 @@ old=schedule = \"schedule\"
 new=seed = 1~turns = 5
 status=3
 said=dc: plan refused: range seed~
+* a seed without turns is a seed
+words=dc journal plan
+old=schedule = \"schedule\"
+new=seed = 1
+status=3
+said=dc: plan refused: range seed~
+* a halt would leave a journal without its end
+words=dc journal plan
+old=medium = \"rio\"
+new=medium = \"disk\"~halt = 1000000
+status=3
+said=dc: plan refused: range halt~
 * a stop that is planned
 words=dc journal plan
 stops=0 0 1 0
